@@ -1,0 +1,126 @@
+-- What soundness says of a store's cells, apart from words; and back to words.
+-- Assumes nothing.
+use mathlib.Core.Path.{_≡_, refl, sym, ap, _∙_, subst}
+use mathlib.Core.Logic.{_⊎_, inl, inr}
+use mathlib.Core.Bool.{Bool, true, false}
+use mathlib.Core.List.{List, [], _∷_, _++_}
+use Prim.Native.Nat.{ℕ, zero, suc, _+_, _-_, _*_, _/_, _%_, _≤_, _<_}
+use native.Mathlib.Nat.{le-refl, le-trans, not-suc-le-zero, le-of-suc-le-suc, add-zero, add-suc, add-sub-cancel-left}
+use native.Mathlib.Omega.{arith}
+use lib.Dec.{ltb}
+use lib.ListN.{length, getD}
+use borrow.Author.Tests.{leb-true, ltb-true, ltb-false, lt-ltb, le-ltb}
+use Rattle.meaning.specs.Limits.{codeTest, limit}
+use Rattle.meaning.specs.Sound.{IsCode, Cell, code, hollow, ends, fst, snd, bracketOf, cellOf, at, IsBracket, isEmpty, isFull, IsTerm, isSymbol, isBracket, Sound}
+
+-- all that the code needs to know of the limit: an address fits the 28 bits of a right end
+pub limit-fits : limit ≤ 268435456
+unfolding limit
+limit-fits = omega arith
+
+-- a code fits the 28 bits in which it sits for a while
+pub code-fits : (a : ℕ) → IsCode a → a < 268435456
+unfolding codeTest
+code-fits a h = omega (arith, leb-true a 268435455 h)
+
+abbrev pub BracketIn : ℕ → ℕ → Cell → Type 0
+BracketIn F lim (code a) = ⊥
+BracketIn F lim hollow = Unit {0}
+BracketIn F lim (ends l r) = (F ≤ l) × (l ≤ r) × (r < lim)
+
+abbrev pub TermIn : ℕ → ℕ → Cell → Type 0
+TermIn F lim (code a) = IsCode a
+TermIn F lim hollow = Unit {0}
+TermIn F lim (ends l r) = (F ≤ l) × (l ≤ r) × (r < lim)
+
+pub record Good (F : ℕ) (k : ℕ → Cell) (top : ℕ) : Type 0 where
+  pub regs : (i : ℕ) → i < F → BracketIn F top (k i)
+  pub heap : (c : ℕ) → F ≤ c → c < top → TermIn F c (k c)
+
+pub term-of-bracket : (F lim : ℕ) (k : Cell) → BracketIn F lim k → TermIn F lim k
+term-of-bracket F lim (code a) h = absurd h
+term-of-bracket F lim hollow h = h
+term-of-bracket F lim (ends l r) h = h
+
+-- two words as a cell
+
+unfoldable pub read : ℕ → ℕ → Cell
+read a b = cellOf (ltb b 2147483648) a b
+
+bracketOf-pos : (l r : ℕ) → 0 < r → bracketOf l r ≡ ends l r
+bracketOf-pos l zero h = absurd (not-suc-le-zero h)
+bracketOf-pos l (suc r) h = refl
+
+pub read-ends : (l r : ℕ) → 0 < r → read l (2147483648 + r) ≡ ends l r
+unfolding read
+read-ends l r h =
+    rw (le-ltb (2147483648 + r) 2147483648 (omega arith), add-sub-cancel-left 2147483648 r) (bracketOf-pos l r h)
+
+-- a cell's words are read as that cell
+pub read-words : (F lim : ℕ) (k : Cell) → 0 < F → TermIn F lim k → read (fst k) (snd k) ≡ k
+unfolding read
+read-words F lim (code a) p h = refl
+read-words F lim hollow p h = refl
+read-words F lim (ends l r) p h = read-ends l r (omega (arith, h .0, h .1))
+
+pub is-bracket : (F lim : ℕ) (k : Cell) → BracketIn F lim k → IsBracket F lim (fst k) (snd k)
+is-bracket F lim (code a) h = absurd h
+is-bracket F lim hollow h = isEmpty
+is-bracket F lim (ends l r) h = isFull (h .0) (h .1) (h .2)
+
+pub is-term : (F lim : ℕ) (k : Cell) → TermIn F lim k → IsTerm F lim (fst k) (snd k)
+is-term F lim (code a) h = isSymbol h
+is-term F lim hollow h = isBracket isEmpty
+is-term F lim (ends l r) h = isBracket (isFull (h .0) (h .1) (h .2))
+
+-- a cell with its two words
+pub record Words (P : Cell → Type 0) (a b : ℕ) : Type 0 where
+  pub good : P (read a b)
+  pub one : fst (read a b) ≡ a
+  pub two : snd (read a b) ≡ b
+
+words-of : (P : Cell → Type 0) (a b : ℕ) (k : Cell) → read a b ≡ k → P k → fst k ≡ a → snd k ≡ b → Words P a b
+words-of P a b k e h p q = record { good = rw e h; one = rw e p; two = rw e q }
+
+pub bracket-words : (F lim a b : ℕ) → 0 < F → IsBracket F lim a b → Words (BracketIn F lim) a b
+unfolding read
+bracket-words F lim a b p isEmpty = words-of (BracketIn F lim) 0 2147483648 hollow refl tt refl refl
+bracket-words F lim a b p (isFull {l} {r} x y z) =
+    words-of (BracketIn F lim) l (2147483648 + r) (ends l r) (read-ends l r (omega arith)) (x, y, z) refl refl
+
+pub term-words : (F lim a b : ℕ) → 0 < F → IsTerm F lim a b → Words (TermIn F lim) a b
+unfolding read
+term-words F lim a b p (isSymbol {a = s} h) = words-of (TermIn F lim) s 0 (code s) refl h refl refl
+term-words F lim a b p (isBracket {a = a′} {b = b′} h) =
+    let w = bracket-words F lim a′ b′ p h in
+    record { good = term-of-bracket F lim (read a′ b′) (w .good); one = w .one; two = w .two }
+
+-- ---- cells and words from `top` on
+
+even-or-odd : (i : ℕ) → (i ≡ 2 * (i / 2)) ⊎ (i ≡ 2 * (i / 2) + 1)
+even-or-odd i = go (ltb (2 * (i / 2)) i) refl
+  where
+    go : (t : Bool) → ltb (2 * (i / 2)) i ≡ t → (i ≡ 2 * (i / 2)) ⊎ (i ≡ 2 * (i / 2) + 1)
+    go true e = inr (omega (arith, ltb-true (2 * (i / 2)) i e))
+    go false e = inl (omega (arith, ltb-false (2 * (i / 2)) i e))
+
+-- what holds of both words of each cell from m on up to n holds of each word
+pub words-of-cells : (P : ℕ → Type 0) (m n : ℕ) → ((c : ℕ) → m ≤ c → c < n → P (2 * c) × P (2 * c + 1)) → (i : ℕ) → 2 * m ≤ i → i < 2 * n → P i
+words-of-cells P m n h i l u = go (even-or-odd i)
+  where
+    go : (i ≡ 2 * (i / 2)) ⊎ (i ≡ 2 * (i / 2) + 1) → P i
+    go (inl q) = subst P (sym q) (h (i / 2) (omega arith) (omega arith) .0)
+    go (inr q) = subst P (sym q) (h (i / 2) (omega arith) (omega arith) .1)
+
+-- each word from `top` on is zero
+pub free-words : (F : ℕ) (ws : List ℕ) (top : ℕ) → Sound F ws top → (i : ℕ) → 2 * top ≤ i → i < length ws → getD ws i 0 ≡ 0
+free-words F ws top s i l h =
+    words-of-cells (λ j. getD ws j 0 ≡ 0) top (length ws / 2) (λ c f g. s .free c f g) i l (omega (arith, s .even))
+
+module _ (F : ℕ) (ws : List ℕ) (top : ℕ) (p : 0 < F) (s : Sound F ws top) where
+  pub good : Good F (at ws) top
+  unfolding at read
+  good = record {
+    regs = λ i h. bracket-words F top (getD ws (2 * i) 0) (getD ws (2 * i + 1) 0) p (s .registers i h) .good;
+    heap = λ c l h. term-words F c (getD ws (2 * c) 0) (getD ws (2 * c + 1) 0) p (s .heap c l h) .good;
+  }

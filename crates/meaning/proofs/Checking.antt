@@ -1,0 +1,197 @@
+-- The check answers 0 exactly for a sound store, and 3 with the first damaged cell.
+-- Assumes nothing.
+use mathlib.Core.Path.{_≡_, refl, sym, ap, ap₂, _∙_, subst}
+use mathlib.Core.Logic.{_⊎_, inl, inr, _≢_}
+use mathlib.Core.Bool.{Bool, true, false, cond, _&&_, _||_, true≢false, false≢true}
+use mathlib.Core.List.{List, [], _∷_, _++_}
+use Prim.Native.Nat.{ℕ, zero, suc, _+_, _-_, _*_, _/_, _%_, _≤_, _<_}
+use native.Mathlib.Nat.{le-refl, le-trans, not-suc-le-zero, eq-or-lt-of-le}
+use native.Mathlib.Omega.{arith}
+use lib.Dec.{ltb, leb, eqb}
+use lib.ListN.{length, getD}
+use borrow.Author.Tests.{leb-true, leb-false, le-leb, lt-leb, ltb-true, ltb-false, lt-ltb, le-ltb, eqb-true, eqb-false, eq-eqb, ne-eqb}
+use Rattle.meaning.specs.Limits.{codeTest, limit}
+use Rattle.meaning.specs.Sound.{at, Sound, IsBracket, isEmpty, isFull, IsTerm, isSymbol, isBracket, capacity}
+use Rattle.words.specs.Second.{bracketTo}
+use Rattle.meaning.specs.Check.{topTest, Verdict, only, bracketTest, termTest, cellTest, damaged, lengthTest, verdictAt, check}
+use Rattle.meaning.proofs.Lists.{lt-or-ge}
+
+-- ---- one cell
+
+pub bracket-yes : (F lim a b : ℕ) → bracketTest F lim a b ≡ true → IsBracket F lim a b
+unfolding bracketTest
+bracket-yes F lim a b q =
+    go (eqb b (bracketTo 0)) (ltb b (bracketTo 0)) (ltb a F) (ltb (b - bracketTo 0) a) refl refl refl refl q
+  where
+    go : (t u v w : Bool) → eqb b (bracketTo 0) ≡ t → ltb b (bracketTo 0) ≡ u → ltb a F ≡ v → ltb (b - bracketTo 0) a ≡ w
+        → cond t (eqb a 0) (cond u false (cond v false (cond w false (ltb (b - bracketTo 0) lim)))) ≡ true → IsBracket F lim a b
+    go true u v w e f g h r = rw (eqb-true a 0 r, eqb-true b (bracketTo 0) e) isEmpty
+    go false true v w e f g h r = absurd (false≢true r)
+    go false false true w e f g h r = absurd (false≢true r)
+    go false false false true e f g h r = absurd (false≢true r)
+    go false false false false e f g h r =
+        let z : bracketTo (b - bracketTo 0) ≡ b = omega (arith, ltb-false b (bracketTo 0) f) in
+        subst (λ (c : ℕ). IsBracket F lim a c) z
+        (isFull (ltb-false a F g) (ltb-false (b - bracketTo 0) a h) (ltb-true (b - bracketTo 0) lim r))
+
+pub yes-bracket : (F lim : ℕ) {a b : ℕ} → IsBracket F lim a b → bracketTest F lim a b ≡ true
+unfolding bracketTest
+yes-bracket F lim isEmpty = refl
+yes-bracket F lim (isFull {l} {r} x y z) = go (eqb (bracketTo r) (bracketTo 0)) refl
+  where
+    less : bracketTo r - bracketTo 0 ≡ r
+    less = omega arith
+
+    go : (t : Bool) → eqb (bracketTo r) (bracketTo 0) ≡ t
+        → cond t (eqb l 0) (cond (ltb (bracketTo r) (bracketTo 0)) false (cond (ltb l F) false (cond (ltb (bracketTo r - bracketTo 0) l) false (ltb (bracketTo r - bracketTo 0) lim)))) ≡ true
+    go true e = eq-eqb l 0 (omega (arith, eqb-true (bracketTo r) (bracketTo 0) e))
+    go false e = rw (less, le-ltb (bracketTo r) (bracketTo 0) (omega arith), le-ltb l F x, le-ltb r l y, lt-ltb r lim z) refl
+
+pub term-yes : (F c a b : ℕ) → termTest F c a b ≡ true → IsTerm F c a b
+unfolding termTest
+term-yes F c a b q = go (eqb b 0) refl q
+  where
+    go : (t : Bool) → eqb b 0 ≡ t → cond t (codeTest a) (bracketTest F c a b) ≡ true → IsTerm F c a b
+    go true e r = rw (eqb-true b 0 e) (isSymbol r)
+    go false e r = isBracket (bracket-yes F c a b r)
+
+bracket-bit : (F lim : ℕ) {a b : ℕ} → IsBracket F lim a b → bracketTo 0 ≤ b
+bracket-bit F lim isEmpty = omega arith
+bracket-bit F lim (isFull x y z) = omega arith
+
+pub yes-term : (F c : ℕ) {a b : ℕ} → IsTerm F c a b → termTest F c a b ≡ true
+unfolding termTest
+yes-term F c (isSymbol h) = h
+yes-term F c (isBracket {a} {b} h) = rw (ne-eqb b 0 (λ e. omega (arith, bracket-bit F c h))) (yes-bracket F c h)
+
+-- ---- all cells
+
+two-zeros : (a b : ℕ) → cond (eqb a 0) (eqb b 0) false ≡ true → (a ≡ 0) × (b ≡ 0)
+two-zeros a b q = go (eqb a 0) refl q
+  where
+    go : (t : Bool) → eqb a 0 ≡ t → cond t (eqb b 0) false ≡ true → (a ≡ 0) × (b ≡ 0)
+    go true e r = (eqb-true a 0 e, eqb-true b 0 r)
+    go false e r = absurd (false≢true r)
+
+module _ (F : ℕ) (ws : List ℕ) (top : ℕ) where
+  abbrev test : ℕ → Bool
+  test c = cellTest F top c (getD ws (2 * c) 0) (getD ws (2 * c + 1) 0)
+
+  pub damaged-low : (c n : ℕ) → c ≤ damaged F ws top c n
+  damaged-low c zero = le-refl c
+  damaged-low c (suc n) = go (test c) (damaged-low (suc c) n)
+    where
+      go : (t : Bool) → suc c ≤ damaged F ws top (suc c) n → c ≤ elim t [ true ↦ damaged F ws top (suc c) n | false ↦ c ]
+      go true h = omega arith
+      go false h = le-refl c
+
+  -- every cell before the damaged one is in order
+  pub damaged-before : (c n x : ℕ) → c ≤ x → x < damaged F ws top c n → test x ≡ true
+  damaged-before c zero x h l = absurd (omega arith)
+  damaged-before c (suc n) x h l = go (test c) refl (damaged-before (suc c) n x) l
+    where
+      go : (t : Bool) → test c ≡ t → (suc c ≤ x → x < damaged F ws top (suc c) n → test x ≡ true) → x < elim t [ true ↦ damaged F ws top (suc c) n | false ↦ c ] → test x ≡ true
+      go true q r m = pick (eq-or-lt-of-le h)
+        where
+          pick : (c ≡ x) ⊎ (c < x) → test x ≡ true
+          pick (inl e) = rw e at q
+          pick (inr g) = r g m
+      go false q r m = absurd (omega arith)
+
+  -- the damaged one, if there is one, is not
+  pub damaged-at : (c n : ℕ) → damaged F ws top c n < c + n → test (damaged F ws top c n) ≡ false
+  damaged-at c zero l = absurd (omega arith)
+  damaged-at c (suc n) l = go (test c) refl (damaged-at (suc c) n) l
+    where
+      go : (t : Bool) → test c ≡ t → (damaged F ws top (suc c) n < suc c + n → test (damaged F ws top (suc c) n) ≡ false)
+          → (elim t [ true ↦ damaged F ws top (suc c) n | false ↦ c ]) < c + suc n → test (elim t [ true ↦ damaged F ws top (suc c) n | false ↦ c ]) ≡ false
+      go true q r m = r (omega arith)
+      go false q r m = q
+
+  -- where all are in order, none is damaged
+  pub damaged-none : (c n : ℕ) → ((x : ℕ) → c ≤ x → x < c + n → test x ≡ true) → damaged F ws top c n ≡ c + n
+  damaged-none c zero h = omega arith
+  damaged-none c (suc n) h =
+      let r = damaged-none (suc c) n (λ x l m. h x (omega arith) (omega arith)) in
+      rw (h c (le-refl c) (omega arith), damaged) (omega (arith, r))
+
+  -- the tests, all passed, are soundness
+  pub tests-sound : lengthTest F (length ws) ≡ true → topTest F (capacity ws) top ≡ true → ((c : ℕ) → c < capacity ws → test c ≡ true) → Sound F ws top
+  unfolding lengthTest topTest cellTest
+  tests-sound q r h =
+      go (eqb (length ws % 2) 0) (ltb (length ws) (2 * F)) (ltb top F) refl refl refl q r
+    where
+      go : (t u v : Bool) → eqb (length ws % 2) 0 ≡ t → ltb (length ws) (2 * F) ≡ u → ltb top F ≡ v
+          → cond t (cond u false (leb (length ws) (2 * limit))) false ≡ true → cond v false (leb top (capacity ws)) ≡ true → Sound F ws top
+      go false u v a b c x y = absurd (false≢true x)
+      go true true v a b c x y = absurd (false≢true x)
+      go true false true a b c x y = absurd (false≢true y)
+      go true false false a b c x y =
+          let f = ltb-false top F c in
+          record {
+            even = eqb-true (length ws % 2) 0 a;
+            large = ltb-false (length ws) (2 * F) b;
+            small = leb-true (length ws) (2 * limit) x;
+            low = f;
+            high = leb-true top (capacity ws) y;
+            registers = λ i l. bracket-yes F top (getD ws (2 * i) 0) (getD ws (2 * i + 1) 0) (rw (lt-ltb i F l) at (h i (omega (arith, ltb-false (length ws) (2 * F) b))));
+            heap = λ i k l. term-yes F i (getD ws (2 * i) 0) (getD ws (2 * i + 1) 0) (rw (le-ltb i F k, lt-ltb i top l) at (h i (omega (arith, leb-true top (capacity ws) y))));
+            free = λ i l k. two-zeros (getD ws (2 * i) 0) (getD ws (2 * i + 1) 0) (rw (le-ltb i F (omega arith), le-ltb i top l) at (h i k));
+          }
+
+  -- and back
+  pub sound-test : Sound F ws top → (c : ℕ) → c < capacity ws → test c ≡ true
+  unfolding cellTest
+  sound-test s c h = go (lt-or-ge c F) (lt-or-ge c top)
+    where
+      go : (c < F) ⊎ (F ≤ c) → (c < top) ⊎ (top ≤ c) → cellTest F top c (getD ws (2 * c) 0) (getD ws (2 * c + 1) 0) ≡ true
+      go (inl l) m = rw (lt-ltb c F l) (yes-bracket F top (s .registers c l))
+      go (inr l) (inl m) = rw (le-ltb c F l, lt-ltb c top m) (yes-term F c (s .heap c l m))
+      go (inr l) (inr m) = rw (le-ltb c F l, le-ltb c top m, s .free c m h .0, s .free c m h .1) refl
+
+  pub sound-length : Sound F ws top → lengthTest F (length ws) ≡ true
+  unfolding lengthTest
+  sound-length s = rw (s .even, le-ltb (length ws) (2 * F) (s .large), le-leb (length ws) (2 * limit) (s .small)) refl
+
+  pub sound-top : Sound F ws top → topTest F (capacity ws) top ≡ true
+  unfolding topTest
+  sound-top s = rw (le-ltb top F (s .low), le-leb top (capacity ws) (s .high)) refl
+
+  -- a sound store passes
+  pub sound-check : Sound F ws top → check F ws top ≡ only 0
+  unfolding check verdictAt
+  sound-check s =
+      let d = damaged-none 0 (capacity ws) (λ x l m. sound-test s x (omega arith)) in
+      rw (sound-length s, sound-top s, d, le-ltb (0 + capacity ws) (capacity ws) (omega arith)) refl
+
+  -- the three answers of a store that is not sound, and the one of a sound store
+  pub data Checks : Verdict → Type 0 where
+    length-bad : lengthTest F (length ws) ≡ false → Checks (only 1)
+    top-bad : lengthTest F (length ws) ≡ true → topTest F (capacity ws) top ≡ false → Checks (only 2)
+    cell-bad : (c : ℕ) → lengthTest F (length ws) ≡ true → topTest F (capacity ws) top ≡ true → c < capacity ws → test c ≡ false
+        → ((x : ℕ) → x < c → test x ≡ true) → Checks (record { status = 3; value = c })
+    sound : Sound F ws top → Checks (only 0)
+
+  pub checks : Checks (check F ws top)
+  unfolding check verdictAt
+  checks = go (lengthTest F (length ws)) (topTest F (capacity ws) top) (ltb (damaged F ws top 0 (capacity ws)) (capacity ws)) refl refl refl
+    where
+      go : (t u v : Bool) → lengthTest F (length ws) ≡ t → topTest F (capacity ws) top ≡ u → ltb (damaged F ws top 0 (capacity ws)) (capacity ws) ≡ v
+          → Checks (cond t (cond u (cond {A = Verdict} v (record { status = 3; value = damaged F ws top 0 (capacity ws) }) (only 0)) (only 2)) (only 1))
+      go false u v a b c = length-bad a
+      go true false v a b c = top-bad a b
+      go true true true a b c =
+          let l = ltb-true (damaged F ws top 0 (capacity ws)) (capacity ws) c in
+          cell-bad (damaged F ws top 0 (capacity ws)) a b l (damaged-at 0 (capacity ws) (omega arith)) (λ x h. damaged-before 0 (capacity ws) x (omega arith) h)
+      go true true false a b c =
+          sound (tests-sound a b (λ x l. damaged-before 0 (capacity ws) x (omega arith) (omega (arith, ltb-false (damaged F ws top 0 (capacity ws)) (capacity ws) c))))
+
+  -- 0 is the answer for a sound store only
+  pub check-sound : check F ws top .status ≡ 0 → Sound F ws top
+  check-sound q = go (check F ws top) refl checks q
+    where
+      go : (v : Verdict) → check F ws top ≡ v → Checks v → v .status ≡ 0 → Sound F ws top
+      go v e (length-bad a) r = absurd (unfold only in omega arith)
+      go v e (top-bad a b) r = absurd (unfold only in omega arith)
+      go v e (cell-bad c a b l x y) r = absurd (omega arith)
+      go v e (sound s) r = s

@@ -1,0 +1,138 @@
+-- How a call uses its words, by operation; a call whose own words are right.
+-- Assumes nothing.
+use mathlib.Core.Path.{_≡_, refl, sym, ap, _∙_}
+use mathlib.Core.Bool.{Bool, true, false, cond, _&&_, _||_, true≢false}
+use mathlib.Core.List.{List, [], _∷_}
+use Prim.Native.Nat.{ℕ, zero, suc, _+_, _*_, _≤_, _<_}
+use native.Mathlib.Omega.{arith}
+use lib.Dec.{ltb, leb, eqb}
+use lib.ListN.{length, getD}
+use borrow.Author.Tests.{leb-false, ltb-false}
+use Rattle.meaning.specs.Limits.{codeTest}
+use Rattle.meaning.specs.Sound.{IsCode}
+use Rattle.meaning.specs.Call.{Op, CLEAR, COPY, SYMBOL, WRAP, JOIN, HEAD, REST, OPEN, LENGTH, FIRST, LIVE, COLLECT, ops, uses, wrong11, wrong12, wrong13, fault, opAt}
+
+-- ---- the table of uses, by operation
+
+abbrev pub useD : Op → ℕ
+useD CLEAR = 1
+useD COPY = 1
+useD SYMBOL = 1
+useD WRAP = 1
+useD JOIN = 1
+useD HEAD = 1
+useD REST = 1
+useD OPEN = 1
+useD LENGTH = 0
+useD FIRST = 0
+useD LIVE = 0
+useD COLLECT = 0
+
+abbrev pub useA : Op → ℕ
+useA CLEAR = 0
+useA COPY = 1
+useA SYMBOL = 2
+useA WRAP = 1
+useA JOIN = 1
+useA HEAD = 1
+useA REST = 1
+useA OPEN = 1
+useA LENGTH = 1
+useA FIRST = 1
+useA LIVE = 0
+useA COLLECT = 0
+
+abbrev pub useB : Op → ℕ
+useB CLEAR = 0
+useB COPY = 0
+useB SYMBOL = 0
+useB WRAP = 0
+useB JOIN = 1
+useB HEAD = 0
+useB REST = 0
+useB OPEN = 0
+useB LENGTH = 0
+useB FIRST = 0
+useB LIVE = 0
+useB COLLECT = 0
+
+pub uses-at : (o : ℕ) → o < 12 → (getD uses (3 * o) 0 ≡ useD (opAt o)) × (getD uses (3 * o + 1) 0 ≡ useA (opAt o)) × (getD uses (3 * o + 2) 0 ≡ useB (opAt o))
+unfolding uses opAt ops
+uses-at zero h = (refl, refl, refl)
+uses-at (suc zero) h = (refl, refl, refl)
+uses-at (suc (suc zero)) h = (refl, refl, refl)
+uses-at (suc (suc (suc zero))) h = (refl, refl, refl)
+uses-at (suc (suc (suc (suc zero)))) h = (refl, refl, refl)
+uses-at (suc (suc (suc (suc (suc zero))))) h = (refl, refl, refl)
+uses-at (suc (suc (suc (suc (suc (suc zero)))))) h = (refl, refl, refl)
+uses-at (suc (suc (suc (suc (suc (suc (suc zero))))))) h = (refl, refl, refl)
+uses-at (suc (suc (suc (suc (suc (suc (suc (suc zero)))))))) h = (refl, refl, refl)
+uses-at (suc (suc (suc (suc (suc (suc (suc (suc (suc zero))))))))) h = (refl, refl, refl)
+uses-at (suc (suc (suc (suc (suc (suc (suc (suc (suc (suc zero)))))))))) h = (refl, refl, refl)
+uses-at (suc (suc (suc (suc (suc (suc (suc (suc (suc (suc (suc zero))))))))))) h = (refl, refl, refl)
+uses-at (suc (suc (suc (suc (suc (suc (suc (suc (suc (suc (suc (suc n)))))))))))) h = absurd (omega arith)
+
+-- ---- a call whose own words are right
+
+or-false : (a b : Bool) → (a || b) ≡ false → (a ≡ false) × (b ≡ false)
+or-false true b q = absurd (true≢false q)
+or-false false b q = (refl, q)
+
+cond-zero : (t : Bool) (n x : ℕ) → cond t (suc n) x ≡ 0 → (t ≡ false) × (x ≡ 0)
+cond-zero true n x q = absurd (omega arith)
+cond-zero false n x q = (refl, q)
+
+pub record Right (F : ℕ) (o : Op) (d a b : ℕ) : Type 0 where
+  pub d11 : wrong11 F (useD o) d ≡ false
+  pub a11 : wrong11 F (useA o) a ≡ false
+  pub b11 : wrong11 F (useB o) b ≡ false
+  pub a13 : wrong13 (useA o) a ≡ false
+
+pub right : (F o d a b : ℕ) → fault F o d a b ≡ 0 → Right F (opAt o) d a b
+unfolding fault
+right F o d a b q =
+    let u = getD uses (3 * o) 0 in
+    let v = getD uses (3 * o + 1) 0 in
+    let w = getD uses (3 * o + 2) 0 in
+    let x₁₀ = cond-zero (ltb 11 o) 9 (cond (wrong11 F u d || wrong11 F v a || wrong11 F w b) 11 (cond (wrong12 u d || wrong12 v a || wrong12 w b) 12 (cond (wrong13 u d || wrong13 v a || wrong13 w b) 13 0))) q in
+    let x₁₁ = cond-zero (wrong11 F u d || wrong11 F v a || wrong11 F w b) 10 (cond (wrong12 u d || wrong12 v a || wrong12 w b) 12 (cond (wrong13 u d || wrong13 v a || wrong13 w b) 13 0)) (x₁₀ .1) in
+    let x₁₂ = cond-zero (wrong12 u d || wrong12 v a || wrong12 w b) 11 (cond (wrong13 u d || wrong13 v a || wrong13 w b) 13 0) (x₁₁ .1) in
+    let x₁₃ = cond-zero (wrong13 u d || wrong13 v a || wrong13 w b) 12 0 (x₁₂ .1) in
+    let y = or-false (wrong11 F u d || wrong11 F v a) (wrong11 F w b) (x₁₁ .0) in
+    let z = or-false (wrong11 F u d) (wrong11 F v a) (y .0) in
+    let y₁₃ = or-false (wrong13 u d || wrong13 v a) (wrong13 w b) (x₁₃ .0) in
+    let z₁₃ = or-false (wrong13 u d) (wrong13 v a) (y₁₃ .0) in
+    let t = uses-at o (omega (arith, ltb-false 11 o (x₁₀ .0))) in
+    record {
+      d11 = rw (t .0) at (z .0);
+      a11 = rw (t .1) at (z .1);
+      b11 = rw (t .2) at (y .1);
+      a13 = rw (t .1) at (z₁₃ .1);
+    }
+
+pub is-register : (F w : ℕ) → wrong11 F 1 w ≡ false → w < F
+unfolding wrong11
+is-register F w q = leb-false F w q
+
+pub is-code : (w : ℕ) → wrong13 2 w ≡ false → IsCode w
+unfolding wrong13
+is-code w q = go (codeTest w) q
+  where
+    go : (t : Bool) → cond t false true ≡ false → t ≡ true
+    go true q = refl
+    go false q = sym q
+
+cond-small : (t : Bool) (n x m : ℕ) → n ≤ m → x ≤ m → cond t n x ≤ m
+cond-small true n x m h g = h
+cond-small false n x m h g = g
+
+pub fault-small : (F o d a b : ℕ) → fault F o d a b ≤ 13
+unfolding fault
+fault-small F o d a b =
+    let u = getD uses (3 * o) 0 in
+    let v = getD uses (3 * o + 1) 0 in
+    let w = getD uses (3 * o + 2) 0 in
+    cond-small (ltb 11 o) 10 _ 13 (omega arith)
+    (cond-small (wrong11 F u d || wrong11 F v a || wrong11 F w b) 11 _ 13 (omega arith)
+    (cond-small (wrong12 u d || wrong12 v a || wrong12 w b) 12 _ 13 (omega arith)
+    (cond-small (wrong13 u d || wrong13 v a || wrong13 w b) 13 0 13 (omega arith) (omega arith))))

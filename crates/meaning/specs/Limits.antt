@@ -1,0 +1,28 @@
+-- The numbers of the store. Each stands here once, and those that the code shares once more in src/lib.rt.
+-- Assumes nothing.
+use mathlib.Core.Bool.{Bool}
+use Prim.Native.Nat.{ℕ}
+use lib.Dec.{leb}
+
+-- the first heap cell: cells 0 to 15 are the registers
+abbrev pub firstCell : ℕ
+firstCell = 16
+
+-- The greatest capacity of a store, in cells. No law unfolds it but the one that bounds it.
+unfoldable pub limit : ℕ
+limit = 4096
+
+-- what a symbol's code may be
+unfoldable pub codeTest : ℕ → Bool
+codeTest a = leb a 268435455
+
+-- the longest call list, in words
+unfoldable pub callsLimit : ℕ
+callsLimit = 4096
+
+-- the program's own greatest capacity, in cells, and its longest input, in bytes
+unfoldable pub programCells : ℕ
+programCells = 4096
+
+unfoldable pub programBytes : ℕ
+programBytes = 16388

@@ -1,0 +1,103 @@
+-- Stores to try, P1 to P8, as one table with one test of a row. The rows are for a heap that begins at cell F.
+-- Assumes nothing.
+use mathlib.Core.Bool.{Bool, true, false, _&&_}
+use mathlib.Core.List.{List, [], _∷_, _++_}
+use Prim.Native.Nat.{ℕ, _+_, _-_}
+use lib.Dec.{eqb, T}
+use Rattle.words.specs.Second.{bracketTo}
+use Rattle.meaning.specs.Check.{Verdict, check, Done, fresh, hollows, collectIn}
+use Rattle.meaning.specs.Batch.{Ran, runs}
+use Rattle.meaning.specs.Program.{program, decimal, bytesOf}
+
+-- a store and `top`, then: the calls, the answers, the store and `top` after them; or the store and `top` once collected, with
+-- live; or the check's status and value. Or what the program reads, and what it writes.
+pub data Row : Type 0 where
+  runsTo : List ℕ → ℕ → List ℕ → List ℕ → List ℕ → ℕ → Row
+  collectsTo : List ℕ → ℕ → ℕ → List ℕ → ℕ → Row
+  checksTo : List ℕ → ℕ → ℕ → ℕ → Row
+  writes : List ℕ → List ℕ → Row
+
+abbrev pub same : List ℕ → List ℕ → Bool
+same [] [] = true
+same [] (y ∷ ys) = false
+same (x ∷ xs) [] = false
+same (x ∷ xs) (y ∷ ys) = eqb x y && same xs ys
+
+unfoldable pub verdictTest : Verdict → ℕ → ℕ → Bool
+verdictTest v s n = eqb (v .status) s && eqb (v .value) n
+
+unfoldable pub doneTest : Done → ℕ → List ℕ → ℕ → Bool
+doneTest r n ws top = verdictTest (r .verdict) 0 n && same (r .words) ws && eqb (r .top) top
+
+unfoldable pub ranTest : Ran → List ℕ → List ℕ → ℕ → Bool
+ranTest r ans ws top = same (r .answers) ans && same (r .words) ws && eqb (r .top) top
+
+unfoldable pub rowTest : ℕ → Row → Bool
+rowTest F (runsTo ws top calls ans ws′ top′) = ranTest (runs F ws top calls) ans ws′ top′
+rowTest F (collectsTo ws top n ws′ top′) = doneTest (collectIn F ws top) n ws′ top′
+rowTest F (checksTo ws top s n) = verdictTest (check F ws top) s n
+rowTest F (writes input output) = same (program F input) output
+
+abbrev pub every : (Row → Bool) → List Row → Bool
+every f [] = true
+every f (r ∷ rs) = f r && every f rs
+
+-- SYMBOL 0 65, SYMBOL 1 66, JOIN 2 0 1, JOIN 3 2 0, CLEAR 0, CLEAR 1, JOIN 3 2 2, WRAP 3 2, LIVE
+unfoldable pub p1 : List ℕ
+p1 =
+    2 ∷ 0 ∷ 65 ∷ 0 ∷ 2 ∷ 1 ∷ 66 ∷ 0 ∷ 4 ∷ 2 ∷ 0 ∷ 1 ∷ 4 ∷ 3 ∷ 2 ∷ 0 ∷ 0 ∷ 0 ∷ 0 ∷ 0 ∷ 0 ∷ 1 ∷ 0 ∷ 0 ∷
+    4 ∷ 3 ∷ 2 ∷ 2 ∷ 3 ∷ 3 ∷ 2 ∷ 0 ∷ 10 ∷ 0 ∷ 0 ∷ 0 ∷ []
+
+-- the lines `0 0`, `0 0`, `0 0`, `16 0`, `0 0`, `0 0`, `16 0`, `0 0`, `0 3`, and `top ` before its number
+unfoldable pub p1Lines : List ℕ
+p1Lines =
+    48 ∷ 32 ∷ 48 ∷ 10 ∷ 48 ∷ 32 ∷ 48 ∷ 10 ∷ 48 ∷ 32 ∷ 48 ∷ 10 ∷ 49 ∷ 54 ∷ 32 ∷ 48 ∷ 10 ∷ 48 ∷ 32 ∷ 48 ∷ 10 ∷ 48 ∷ 32 ∷ 48 ∷
+    10 ∷ 49 ∷ 54 ∷ 32 ∷ 48 ∷ 10 ∷ 48 ∷ 32 ∷ 48 ∷ 10 ∷ 48 ∷ 32 ∷ 51 ∷ 10 ∷ 116 ∷ 111 ∷ 112 ∷ 32 ∷ []
+
+-- (B C D)(A B C) of 001, section 2, before and after it is collected
+unfoldable pub p2 : ℕ → List ℕ
+p2 F =
+    (5 + F) ∷ bracketTo (6 + F) ∷ hollows (F - 1) ++
+    (70 ∷ 0 ∷ 65 ∷ 0 ∷ 66 ∷ 0 ∷ 67 ∷ 0 ∷ 68 ∷ 0 ∷ (2 + F) ∷ bracketTo (4 + F) ∷ (1 + F) ∷ bracketTo (3 + F) ∷ 0 ∷ 0 ∷ [])
+
+unfoldable pub p3 : ℕ → List ℕ
+p3 F =
+    (4 + F) ∷ bracketTo (5 + F) ∷ hollows (F - 1) ++
+    (65 ∷ 0 ∷ 66 ∷ 0 ∷ 67 ∷ 0 ∷ 68 ∷ 0 ∷ (1 + F) ∷ bracketTo (3 + F) ∷ F ∷ bracketTo (2 + F) ∷ 0 ∷ 0 ∷ 0 ∷ 0 ∷ [])
+
+-- two symbols and a bracket with ends l and r
+unfoldable pub p6 : ℕ → ℕ → ℕ → List ℕ
+p6 F l r = hollows F ++ (65 ∷ 0 ∷ 66 ∷ 0 ∷ l ∷ bracketTo r ∷ 0 ∷ 0 ∷ [])
+
+-- one symbol in register 0
+unfoldable pub lone : ℕ → ℕ → List ℕ
+lone F a = F ∷ bracketTo F ∷ hollows (F - 1) ++ (a ∷ 0 ∷ [])
+
+unfoldable pub rows : ℕ → List Row
+rows F =
+    -- P1
+    runsTo (fresh F (4 + F)) F p1
+    (0 ∷ 0 ∷ 0 ∷ 0 ∷ 0 ∷ 0 ∷ 16 ∷ 0 ∷ 0 ∷ 0 ∷ 0 ∷ 0 ∷ 16 ∷ 0 ∷ 0 ∷ 0 ∷ 0 ∷ 3 ∷ [])
+    (hollows 2 ++ (F ∷ bracketTo (1 + F) ∷ (2 + F) ∷ bracketTo (2 + F) ∷ hollows (F - 4)) ++
+    (65 ∷ 0 ∷ 66 ∷ 0 ∷ F ∷ bracketTo (1 + F) ∷ 0 ∷ 0 ∷ [])) (3 + F) ∷
+    writes (bytesOf ((4 + F) ∷ p1)) (p1Lines ++ decimal (3 + F) ++ (10 ∷ [])) ∷
+    -- P2, P3
+    collectsTo (p2 F) (7 + F) 6 (p3 F) (6 + F) ∷
+    collectsTo (p3 F) (6 + F) 6 (p3 F) (6 + F) ∷
+    -- P4: SYMBOL 0 1, WRAP 0 0, JOIN 0 0 0
+    runsTo (fresh F F) F (2 ∷ 0 ∷ 1 ∷ 0 ∷ 3 ∷ 0 ∷ 0 ∷ 0 ∷ 4 ∷ 0 ∷ 0 ∷ 0 ∷ []) (16 ∷ 0 ∷ 16 ∷ 0 ∷ 0 ∷ 0 ∷ []) (fresh F F) F ∷
+    -- P5
+    runsTo (fresh F (1 + F)) F (2 ∷ 0 ∷ 268435455 ∷ 0 ∷ 2 ∷ 0 ∷ 268435456 ∷ 0 ∷ []) (0 ∷ 0 ∷ 13 ∷ 0 ∷ []) (lone F 268435455) (1 + F) ∷
+    -- P6
+    checksTo (p6 F F (1 + F)) (3 + F) 0 0 ∷
+    checksTo (p6 F F (2 + F)) (3 + F) 3 (2 + F) ∷
+    checksTo (p6 F (1 + F) F) (3 + F) 3 (2 + F) ∷
+    -- P7: HEAD 0 0
+    runsTo (fresh F (1 + F)) F (5 ∷ 0 ∷ 0 ∷ 0 ∷ []) (14 ∷ 0 ∷ []) (fresh F (1 + F)) F ∷
+    runsTo (lone F 7) (1 + F) (5 ∷ 0 ∷ 0 ∷ 0 ∷ []) (0 ∷ 0 ∷ []) (lone F 7) (1 + F) ∷
+    -- P8
+    runsTo (fresh F F) F (12 ∷ 99 ∷ 0 ∷ 0 ∷ []) (10 ∷ 0 ∷ []) (fresh F F) F ∷ []
+
+-- every row holds
+abbrev pub RowsRight : ℕ → Type 0
+RowsRight F = T (every (rowTest F) (rows F))

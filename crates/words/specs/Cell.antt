@@ -1,0 +1,23 @@
+-- The two words of a cell of a store, read and replaced. Cell c is words 2c and 2c + 1 ("The store, word by word").
+-- Assumes nothing.
+use mathlib.Core.List.{List}
+use Prim.Native.Nat.{ℕ, _+_, _*_}
+use lib.ListN.{getD, set}
+
+-- its first word, li of 000
+abbrev pub firstWord : List ℕ → ℕ → ℕ
+firstWord ws c = getD ws (2 * c) 0
+
+-- its second word, with the fields br, used, lc, rc and ri of 000
+abbrev pub secondWord : List ℕ → ℕ → ℕ
+secondWord ws c = getD ws (2 * c + 1) 0
+
+-- the store with the words of cell c replaced by a and b, and with one of the two replaced
+abbrev pub putCell : List ℕ → ℕ → ℕ → ℕ → List ℕ
+putCell ws c a b = set (set ws (2 * c) a) (2 * c + 1) b
+
+abbrev pub putFirst : List ℕ → ℕ → ℕ → List ℕ
+putFirst ws c a = set ws (2 * c) a
+
+abbrev pub putSecond : List ℕ → ℕ → ℕ → List ℕ
+putSecond ws c b = set ws (2 * c + 1) b
