@@ -17,3 +17,4 @@ pub mod Building
 pub mod Plans
 pub mod Steps
 pub mod Batches
+pub mod Looking

@@ -16,7 +16,7 @@ use Rattle.meaning.specs.Meaning.{meaning}
 use Rattle.meaning.specs.Reach.{live}
 use Rattle.meaning.specs.Collected.{collected, collectedTop}
 use Rattle.meaning.specs.Check.{Done, only, refused, size}
-use Rattle.meaning.specs.Call.{Op, CLEAR, COPY, SYMBOL, WRAP, JOIN, HEAD, REST, OPEN, LENGTH, FIRST, LIVE, COLLECT, ops, fault, joinNeed, joinPlan, sought, lacks, planOf, perform, stepAfter, step, opAt}
+use Rattle.meaning.specs.Call.{uses, Op, CLEAR, COPY, SYMBOL, WRAP, JOIN, HEAD, REST, OPEN, LENGTH, FIRST, LIVE, COLLECT, ops, fault, joinNeed, joinPlan, sought, lacks, planOf, perform, stepAfter, step, opAt}
 use Rattle.meaning.specs.Effect.{Effect, does, orElse, after, answer, callStatus}
 use Rattle.meaning.specs.Batch.{Ran, then, runs}
 use Rattle.meaning.proofs.Cells.{good}
@@ -68,7 +68,7 @@ module _ (F : ℕ) (ws : List ℕ) (top : ℕ) (p : 0 < F) (s : Sound F ws top) 
       )
 
   plan-does : (o : Op) (d a b : ℕ) → Right F o d a b → Does F ws top p s o d a b (planOf o F ws top d a b)
-  unfolding planOf
+  unfolding planOf uses
   plan-does CLEAR d a b q = clear-acts F p e lv ws top s d still a b (is-register F d (q .d11))
   plan-does COPY d a b q = copy-acts F p e lv ws top s d still a b (is-register F d (q .d11)) (is-register F a (q .a11))
   plan-does SYMBOL d a b q = (
@@ -117,7 +117,7 @@ module _ (F : ℕ) (ws : List ℕ) (top : ℕ) (p : 0 < F) (s : Sound F ws top) 
 
   pub lacks-need : (o : Op) (d a b : ℕ) → Right F o d a b
       → planLacks F (planOf o F ws top d a b) ws top ≡ ltb (capacity ws) (F + live F ws top + does o (meaning ws) (live F ws top) d a b .need)
-  unfolding planLacks planOf
+  unfolding planLacks planOf uses
   lacks-need CLEAR d a b q = no-need
   lacks-need COPY d a b q = no-need
   lacks-need SYMBOL d a b q = some-need 1 d []

@@ -16,7 +16,7 @@ use Rattle.meaning.specs.Sound.{Cell, fst, snd, at, Sound, code, hollow,
 use Rattle.meaning.specs.Meaning.{termOf, term, run}
 use Rattle.meaning.specs.Reach.{Reached, reached, live}
 use Rattle.meaning.specs.Collected.{below, countIf, mapEnds, newAddress, collected, collectedTop}
-use Rattle.meaning.proofs.Lists.{lt-or-ge, In, Asc, asc-in, in-getD, below-getD, below-low, below-suc}
+use Rattle.meaning.proofs.Lists.{lt-or-ge, In, Asc, asc-in, in-getD, below-getD, below-low, below-suc, below-mono, below-le}
 use Rattle.meaning.proofs.Cells.{good, TermIn}
 use Rattle.meaning.proofs.Terms.{run-ext}
 use Rattle.meaning.proofs.Reaching.{listed-iff, reached-asc, reached-below, live-le}
@@ -65,6 +65,26 @@ module _ (F : ℕ) (ws : List ℕ) (top : ℕ) (p : 0 < F) (s : Sound F ws top) 
   pub new-last : newAddress F (reached F ws top) top ≡ collectedTop F ws top
   unfolding newAddress collectedTop live
   new-last = omega (arith, below-all F top (reached F ws top) (reached-asc F ws top p s) (reached-below F ws top p s))
+
+  -- no cell moves up
+  pub new-le : (c : ℕ) → F ≤ c → newAddress F (reached F ws top) c ≤ c
+  unfolding newAddress
+  new-le c f = below-le F c (reached F ws top) (reached-asc F ws top p s) f
+
+  -- reached cells keep their order, so that no two of them meet
+  pub new-order : (c d : ℕ) → Reached F (at ws) c → c < d → newAddress F (reached F ws top) c < newAddress F (reached F ws top) d
+  unfolding newAddress
+  new-order c d r h =
+      omega (arith, below-suc F c (reached F ws top) (reached-asc F ws top p s) (listed-iff F ws top p s c .1 r), below-mono (reached F ws top) (suc c) d h)
+
+  -- Sharing is kept: two references meet in one cell after collecting exactly where they met before.
+  pub new-meet : (c d : ℕ) → Reached F (at ws) c → Reached F (at ws) d → newAddress F (reached F ws top) c ≡ newAddress F (reached F ws top) d → c ≡ d
+  new-meet c d r q e = go (lt-or-ge c d) (lt-or-ge d c)
+    where
+      go : (c < d) ⊎ (d ≤ c) → (d < c) ⊎ (c ≤ d) → c ≡ d
+      go (inl h) x = absurd (omega (arith, new-order c d r h))
+      go (inr h) (inl x) = absurd (omega (arith, new-order d c q x))
+      go (inr h) (inr x) = omega arith
 
   -- ---- the words, cell by cell
 

@@ -1,76 +1,62 @@
 -- How a call uses its words, by operation; a call whose own words are right.
 -- Assumes nothing.
 use mathlib.Core.Path.{_≡_, refl, sym, ap, _∙_}
-use mathlib.Core.Bool.{Bool, true, false, cond, _&&_, _||_, true≢false}
+use mathlib.Core.Logic.{_⊎_, inl, inr}
+use mathlib.Core.Bool.{Bool, true, false, cond, _&&_, _||_, true≢false, false≢true}
 use mathlib.Core.List.{List, [], _∷_}
 use Prim.Native.Nat.{ℕ, zero, suc, _+_, _*_, _≤_, _<_}
 use native.Mathlib.Omega.{arith}
 use lib.Dec.{ltb, leb, eqb}
 use lib.ListN.{length, getD}
-use borrow.Author.Tests.{leb-false, ltb-false}
+use native.Mathlib.Nat.{eq-or-lt-of-le, le-of-suc-le-suc}
+use borrow.Author.Tests.{leb-false, ltb-false, eqb-true}
 use Rattle.meaning.specs.Limits.{codeTest}
 use Rattle.meaning.specs.Sound.{IsCode}
 use Rattle.meaning.specs.Call.{Op, CLEAR, COPY, SYMBOL, WRAP, JOIN, HEAD, REST, OPEN, LENGTH, FIRST, LIVE, COLLECT, ops, uses, wrong11, wrong12, wrong13, fault, opAt}
 
--- ---- the table of uses, by operation
+-- ---- the table's row of an operation
 
+abbrev pub index : Op → ℕ
+index CLEAR = 0
+index COPY = 1
+index SYMBOL = 2
+index WRAP = 3
+index JOIN = 4
+index HEAD = 5
+index REST = 6
+index OPEN = 7
+index LENGTH = 8
+index FIRST = 9
+index LIVE = 10
+index COLLECT = 11
+
+-- how the operation uses d, a and b
 abbrev pub useD : Op → ℕ
-useD CLEAR = 1
-useD COPY = 1
-useD SYMBOL = 1
-useD WRAP = 1
-useD JOIN = 1
-useD HEAD = 1
-useD REST = 1
-useD OPEN = 1
-useD LENGTH = 0
-useD FIRST = 0
-useD LIVE = 0
-useD COLLECT = 0
+useD o = getD uses (3 * index o) 0
 
 abbrev pub useA : Op → ℕ
-useA CLEAR = 0
-useA COPY = 1
-useA SYMBOL = 2
-useA WRAP = 1
-useA JOIN = 1
-useA HEAD = 1
-useA REST = 1
-useA OPEN = 1
-useA LENGTH = 1
-useA FIRST = 1
-useA LIVE = 0
-useA COLLECT = 0
+useA o = getD uses (3 * index o + 1) 0
 
 abbrev pub useB : Op → ℕ
-useB CLEAR = 0
-useB COPY = 0
-useB SYMBOL = 0
-useB WRAP = 0
-useB JOIN = 1
-useB HEAD = 0
-useB REST = 0
-useB OPEN = 0
-useB LENGTH = 0
-useB FIRST = 0
-useB LIVE = 0
-useB COLLECT = 0
+useB o = getD uses (3 * index o + 2) 0
 
-pub uses-at : (o : ℕ) → o < 12 → (getD uses (3 * o) 0 ≡ useD (opAt o)) × (getD uses (3 * o + 1) 0 ≡ useA (opAt o)) × (getD uses (3 * o + 2) 0 ≡ useB (opAt o))
-unfolding uses opAt ops
-uses-at zero h = (refl, refl, refl)
-uses-at (suc zero) h = (refl, refl, refl)
-uses-at (suc (suc zero)) h = (refl, refl, refl)
-uses-at (suc (suc (suc zero))) h = (refl, refl, refl)
-uses-at (suc (suc (suc (suc zero)))) h = (refl, refl, refl)
-uses-at (suc (suc (suc (suc (suc zero))))) h = (refl, refl, refl)
-uses-at (suc (suc (suc (suc (suc (suc zero)))))) h = (refl, refl, refl)
-uses-at (suc (suc (suc (suc (suc (suc (suc zero))))))) h = (refl, refl, refl)
-uses-at (suc (suc (suc (suc (suc (suc (suc (suc zero)))))))) h = (refl, refl, refl)
-uses-at (suc (suc (suc (suc (suc (suc (suc (suc (suc zero))))))))) h = (refl, refl, refl)
-uses-at (suc (suc (suc (suc (suc (suc (suc (suc (suc (suc zero)))))))))) h = (refl, refl, refl)
-uses-at (suc (suc (suc (suc (suc (suc (suc (suc (suc (suc (suc zero))))))))))) h = (refl, refl, refl)
-uses-at (suc (suc (suc (suc (suc (suc (suc (suc (suc (suc (suc (suc n)))))))))))) h = absurd (omega arith)
+-- a test that holds of all numbers below n, by computation
+abbrev pub allBelow : (ℕ → Bool) → ℕ → Bool
+allBelow f zero = true
+allBelow f (suc n) = f n && allBelow f n
+
+pub all-at : (f : ℕ → Bool) (n o : ℕ) → allBelow f n ≡ true → o < n → f o ≡ true
+all-at f zero o e h = absurd (omega arith)
+all-at f (suc n) o e h = go (f n) refl e (eq-or-lt-of-le (le-of-suc-le-suc h)) (all-at f n o)
+  where
+    go : (t : Bool) → f n ≡ t → (t && allBelow f n) ≡ true → (o ≡ n) ⊎ (o < n) → (allBelow f n ≡ true → o < n → f o ≡ true) → f o ≡ true
+    go true q r (inl x) k = rw x q
+    go true q r (inr x) k = k r x
+    go false q r x k = absurd (false≢true r)
+
+pub index-opAt : (o : ℕ) → o < 12 → index (opAt o) ≡ o
+unfolding opAt ops
+index-opAt o h = eqb-true (index (opAt o)) o (all-at (λ x. eqb (index (opAt x)) x) 12 o refl h)
 
 -- ---- a call whose own words are right
 
@@ -102,12 +88,12 @@ right F o d a b q =
     let z = or-false (wrong11 F u d) (wrong11 F v a) (y .0) in
     let y₁₃ = or-false (wrong13 u d || wrong13 v a) (wrong13 w b) (x₁₃ .0) in
     let z₁₃ = or-false (wrong13 u d) (wrong13 v a) (y₁₃ .0) in
-    let t = uses-at o (omega (arith, ltb-false 11 o (x₁₀ .0))) in
+    let t = index-opAt o (omega (arith, ltb-false 11 o (x₁₀ .0))) in
     record {
-      d11 = rw (t .0) at (z .0);
-      a11 = rw (t .1) at (z .1);
-      b11 = rw (t .2) at (y .1);
-      a13 = rw (t .1) at (z₁₃ .1);
+      d11 = rw t (z .0);
+      a11 = rw t (z .1);
+      b11 = rw t (y .1);
+      a13 = rw t (z₁₃ .1);
     }
 
 pub is-register : (F w : ℕ) → wrong11 F 1 w ≡ false → w < F

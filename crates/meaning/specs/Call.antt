@@ -80,16 +80,17 @@ copies ws c x (suc n) = copies (copy ws c x) (suc c) (suc x) n
 unfoldable pub share : ℕ → ℕ → List ℕ → ℕ → Done
 share d a ws top = done (copy ws d a) top 0
 
--- HEAD, REST, OPEN and FIRST go by the register's cell, the last two by its first term's cell too
+-- HEAD, REST, OPEN and FIRST: 14 on an empty register, else by its ends; the last two by its first term's cell too
+abbrev pub onEnds : List ℕ → ℕ → (ℕ → ℕ → Done) → Cell → Done
+onEnds ws top f (code a) = refused ws top (only 14)
+onEnds ws top f hollow = refused ws top (only 14)
+onEnds ws top f (ends l r) = f l r
+
 unfoldable pub head : List ℕ → ℕ → ℕ → Cell → Done
-head ws top d (code a) = refused ws top (only 14)
-head ws top d hollow = refused ws top (only 14)
-head ws top d (ends l r) = done (put ws d (ends l l)) top 0
+head ws top d p = onEnds ws top (λ l r. done (put ws d (ends l l)) top 0) p
 
 unfoldable pub rest : List ℕ → ℕ → ℕ → Cell → Done
-rest ws top d (code a) = refused ws top (only 14)
-rest ws top d hollow = refused ws top (only 14)
-rest ws top d (ends l r) = done (put ws d (cond (ltb l r) (ends (suc l) r) hollow)) top 0
+rest ws top d p = onEnds ws top (λ l r. done (put ws d (cond (ltb l r) (ends (suc l) r) hollow)) top 0) p
 
 unfoldable pub openTerm : List ℕ → ℕ → ℕ → ℕ → Cell → Done
 openTerm ws top d x (code a) = refused ws top (only 15)
@@ -97,9 +98,7 @@ openTerm ws top d x hollow = done (copy ws d x) top 0
 openTerm ws top d x (ends l r) = done (copy ws d x) top 0
 
 unfoldable pub openFirst : List ℕ → ℕ → ℕ → Cell → Done
-openFirst ws top d (code a) = refused ws top (only 14)
-openFirst ws top d hollow = refused ws top (only 14)
-openFirst ws top d (ends l r) = openTerm ws top d l (at ws l)
+openFirst ws top d p = onEnds ws top (λ l r. openTerm ws top d l (at ws l)) p
 
 unfoldable pub codeTerm : List ℕ → ℕ → Cell → Done
 codeTerm ws top (code a) = done ws top a
@@ -107,9 +106,7 @@ codeTerm ws top hollow = refused ws top (only 15)
 codeTerm ws top (ends l r) = refused ws top (only 15)
 
 unfoldable pub codeFirst : List ℕ → ℕ → Cell → Done
-codeFirst ws top (code a) = refused ws top (only 14)
-codeFirst ws top hollow = refused ws top (only 14)
-codeFirst ws top (ends l r) = codeTerm ws top (at ws l)
+codeFirst ws top p = onEnds ws top (λ l r. codeTerm ws top (at ws l)) p
 
 -- New cells are laid from `top` upward: a symbol; a cell equal to register a's; the top-level cells of p, then of q.
 unfoldable pub newSymbol : ℕ → ℕ → List ℕ → ℕ → Done

@@ -96,7 +96,9 @@ rows F =
     runsTo (fresh F (1 + F)) F (5 ∷ 0 ∷ 0 ∷ 0 ∷ []) (14 ∷ 0 ∷ []) (fresh F (1 + F)) F ∷
     runsTo (lone F 7) (1 + F) (5 ∷ 0 ∷ 0 ∷ 0 ∷ []) (0 ∷ 0 ∷ []) (lone F 7) (1 + F) ∷
     -- P8
-    runsTo (fresh F F) F (12 ∷ 99 ∷ 0 ∷ 0 ∷ []) (10 ∷ 0 ∷ []) (fresh F F) F ∷ []
+    runsTo (fresh F F) F (12 ∷ 99 ∷ 0 ∷ 0 ∷ []) (10 ∷ 0 ∷ []) (fresh F F) F ∷
+    -- of the rows marked "run only": CLEAR of the last register, of one more, and with a third word of 1
+    runsTo (fresh F F) F (0 ∷ (F - 1) ∷ 0 ∷ 0 ∷ 0 ∷ F ∷ 0 ∷ 0 ∷ 0 ∷ 0 ∷ 1 ∷ 0 ∷ []) (0 ∷ 0 ∷ 11 ∷ 0 ∷ 12 ∷ 0 ∷ []) (fresh F F) F ∷ []
 
 -- every row holds
 abbrev pub RowsRight : ℕ → Type 0
