@@ -11,7 +11,7 @@ pub mod Fresh
 pub mod Writing
 pub mod Laying
 pub mod Uses
-pub mod Unique
+pub mod Determined
 pub mod Stepping
 pub mod Building
 pub mod Plans
