@@ -3,18 +3,18 @@
 use mathlib.Core.Path.{_≡_, refl, sym, ap, ap₂, _∙_, subst}
 use mathlib.Core.Logic.{_⊎_, inl, inr}
 use mathlib.Core.List.{List, [], _∷_, _++_}
-use Prim.Native.Nat.{ℕ, zero, suc, _+_, _-_, _*_, _/_, _≤_, _<_}
-use native.Mathlib.Nat.{le-refl, le-trans, not-suc-le-zero, le-of-suc-le-suc, sub-self, add-sub-of-le}
+use Prim.Native.Nat.{ℕ, zero, suc, _+_, _-_, _*_, _≤_, _<_}
+use native.Mathlib.Nat.{le-refl}
 use native.Mathlib.Omega.{arith}
 use lib.Dec.{ltb}
-use lib.ListN.{length, getD, length-append, replicate, length-replicate}
+use lib.ListN.{length, getD, replicate}
 use borrow.Author.Tests.{lt-ltb, le-ltb}
 use Rattle.meaning.specs.Sound.{Cell, code, hollow, ends, fst, snd, at, Sound}
 use Rattle.meaning.specs.Reach.{Between, Reached, byRegister, byBracket, reached, live}
 use Rattle.meaning.specs.Collected.{below, countIf, mapEnds, lay, upFrom, newAddress, collectedOf, collected, collectedTop}
-use Rattle.meaning.proofs.Lists.{lt-or-ge, In, Asc, asc-in, in-getD, place, below-getD, below-mono, below-low}
-use Rattle.meaning.proofs.Cells.{Good, TermIn, BracketIn, term-of-bracket, good}
-use Rattle.meaning.proofs.Reaching.{listed-iff, reached-asc, reached-below, live-le, reached-heap}
+use Rattle.meaning.proofs.Lists.{lt-or-ge, In, Asc, asc-in, in-getD, below-getD, below-mono, below-low}
+use Rattle.meaning.proofs.Cells.{TermIn, term-of-bracket, good}
+use Rattle.meaning.proofs.Reaching.{listed-iff, reached-asc, reached-below}
 use Rattle.meaning.proofs.Laid.{upFrom-length, upFrom-getD, kept-low, kept-high, kept-length}
 use Rattle.meaning.proofs.Collecting.{at-register, at-new, at-kth, collected-sound, length-collected}
 

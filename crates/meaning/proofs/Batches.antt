@@ -1,21 +1,19 @@
 -- A batch that is not refused runs in a sound store, call by call as it has to, and leaves a sound store. A list may be cut anywhere.
 -- Assumes nothing.
-use mathlib.Core.Path.{_≡_, refl, sym, ap, ap₂, _∙_, subst}
-use mathlib.Core.Logic.{_⊎_, inl, inr, _≢_}
-use mathlib.Core.Bool.{Bool, true, false, cond, _&&_, _||_, true≢false, false≢true}
+use mathlib.Core.Path.{_≡_, refl, ap}
+use mathlib.Core.Bool.{Bool, true, false, cond}
 use mathlib.Core.List.{List, [], _∷_, _++_}
-use Prim.Native.Nat.{ℕ, zero, suc, _+_, _-_, _*_, _/_, _%_, _≤_, _<_}
-use native.Mathlib.Nat.{le-refl, le-trans, not-suc-le-zero}
+use Prim.Native.Nat.{ℕ, zero, suc, _+_, _-_, _*_, _/_, _%_, _<_}
 use native.Mathlib.Omega.{arith}
-use lib.Dec.{ltb, leb, eqb}
-use lib.ListN.{length, getD, replicate}
-use borrow.Author.Tests.{leb-true, eqb-true}
+use lib.Dec.{leb, eqb}
+use lib.ListN.{length}
+use borrow.Author.Tests.{eqb-true}
 use Rattle.meaning.specs.Limits.{callsLimit}
 use Rattle.meaning.specs.Sound.{Sound}
-use Rattle.meaning.specs.Check.{Verdict, only, check, Done, onZero}
+use Rattle.meaning.specs.Check.{only, check, onZero}
 use Rattle.meaning.specs.Call.{step}
-use Rattle.meaning.specs.Batch.{Ran, then, runs, Outcome, asLent, ended, callsTest, batchOf, batch}
-use Rattle.meaning.proofs.Steps.{Steps, step-meets, Batch, called, Fours, none, four, runs-batch}
+use Rattle.meaning.specs.Batch.{Ran, then, runs, asLent, ended, callsTest, batchOf, batch}
+use Rattle.meaning.proofs.Steps.{Batch, called, Fours, none, four}
 use Rattle.meaning.proofs.Checking.{check-sound}
 
 -- a length that is a multiple of four

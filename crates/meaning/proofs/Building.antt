@@ -1,25 +1,20 @@
 -- The calls that need new cells, where there is room: SYMBOL, WRAP and JOIN.
 -- Assumes nothing.
-use mathlib.Core.Path.{_≡_, refl, sym, ap, ap₂, _∙_, subst}
-use mathlib.Core.Logic.{_⊎_, inl, inr, _≢_}
-use mathlib.Core.Bool.{Bool, true, false, cond}
-use mathlib.Core.List.{List, [], _∷_, _++_}
-use Prim.Native.Nat.{ℕ, zero, suc, _+_, _-_, _*_, _/_, _≤_, _<_}
-use native.Mathlib.Nat.{le-refl, le-trans, not-suc-le-zero, add-zero, add-assoc}
+use mathlib.Core.Path.{_≡_, refl, sym, ap, ap₂, _∙_}
+use mathlib.Core.List.{List}
+use Prim.Native.Nat.{ℕ, suc, _+_, _-_, _*_, _≤_, _<_}
+use native.Mathlib.Nat.{le-refl, le-trans, not-suc-le-zero, add-assoc}
 use native.Mathlib.Omega.{arith}
-use lib.Dec.{ltb, leb, eqb}
-use lib.ListN.{length, getD}
-use borrow.Author.Tests.{leb-true, leb-false, le-leb, lt-leb, ltb-true, ltb-false, lt-ltb, le-ltb, eqb-true, eqb-false}
+use lib.ListN.{length}
 use Rattle.meaning.specs.Expr.{Expr, nothing, symbol, parens, append, terms}
-use Rattle.meaning.specs.Sound.{IsCode, Cell, code, hollow, ends, fst, snd, at, Sound}
+use Rattle.meaning.specs.Sound.{IsCode, Cell, code, hollow, ends, at, Sound}
 use Rattle.meaning.specs.Meaning.{run, inside, termOf, term, meaning}
-use Rattle.meaning.specs.Reach.{live}
-use Rattle.meaning.specs.Check.{Done, done, refused, size, start}
-use Rattle.meaning.specs.Call.{Op, SYMBOL, WRAP, JOIN, put, copy, copies, joinNeed, newSymbol, newBracket, newRunOf, newRun, share}
-use Rattle.meaning.specs.Effect.{Effect, becomes, does}
-use Rattle.meaning.proofs.Cells.{Good, TermIn, BracketIn, term-of-bracket, good}
+use Rattle.meaning.specs.Check.{done, size}
+use Rattle.meaning.specs.Call.{Op, SYMBOL, WRAP, JOIN, put, copies, newSymbol, newBracket, newRunOf, newRun, share}
+use Rattle.meaning.specs.Effect.{becomes, does}
+use Rattle.meaning.proofs.Cells.{TermIn, BracketIn, term-of-bracket, good}
 use Rattle.meaning.proofs.Terms.{append-nothing, run-ext, run-split}
-use Rattle.meaning.proofs.Writing.{length-put, at-put, at-put-other, copy-put, sound-register, term-law}
+use Rattle.meaning.proofs.Writing.{length-put, at-put, copy-put, sound-register, term-law}
 use Rattle.meaning.proofs.Laying.{Extends, extends-put, extends-trans, extends-meaning, extends-term, extends-inside, twin, Copied, copied}
 use Rattle.meaning.proofs.Stepping.{Others, Acts, becomes-same, wrapped, become, set-to, size-terms, meaning-at}
 

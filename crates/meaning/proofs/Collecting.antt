@@ -1,21 +1,19 @@
 -- Collecting a sound store: the result is sound, each register keeps its meaning, every occupied cell is reached.
 -- Assumes nothing.
-use mathlib.Core.Path.{_≡_, refl, sym, ap, ap₂, _∙_, subst}
-use mathlib.Core.Logic.{_⊎_, inl, inr}
-use mathlib.Core.List.{List, [], _∷_, _++_}
-use Prim.Native.Nat.{ℕ, zero, suc, _+_, _-_, _*_, _/_, _≤_, _<_}
-use native.Mathlib.Nat.{le-refl, le-trans, not-suc-le-zero, le-of-suc-le-suc, add-assoc}
+use mathlib.Core.Path.{_≡_, sym, ap, _∙_, subst}
+use mathlib.Core.List.{List, _++_}
+use Prim.Native.Nat.{ℕ, suc, _+_, _-_, _*_, _≤_, _<_}
+use native.Mathlib.Nat.{le-refl, add-assoc}
 use native.Mathlib.Omega.{arith}
 use lib.ListN.{length, getD, length-append, replicate, length-replicate}
-use Rattle.meaning.specs.Expr.{Expr}
-use Rattle.meaning.specs.Sound.{Cell, code, hollow, ends, fst, snd, cellOf, at, Sound, IsBracket, IsTerm}
-use Rattle.meaning.specs.Meaning.{run, inside, term, meaning}
-use Rattle.meaning.specs.Reach.{Between, Reached, byRegister, byBracket, reached, live}
+use Rattle.meaning.specs.Sound.{Cell, code, hollow, ends, fst, snd, at, Sound, IsBracket, IsTerm}
+use Rattle.meaning.specs.Meaning.{term, meaning}
+use Rattle.meaning.specs.Reach.{Between, byRegister, byBracket, reached, live}
 use Rattle.meaning.specs.Collected.{below, mapEnds, lay, upFrom, newAddress, collectedOf, collected, collectedTop}
-use Rattle.meaning.proofs.Lists.{In, Asc, asc-in, in-getD, place, below-getD, below-mono, below-suc, below-run, below-le}
-use Rattle.meaning.proofs.Cells.{Good, TermIn, BracketIn, term-of-bracket, good, read, read-words, is-bracket, is-term}
+use Rattle.meaning.proofs.Lists.{In, Asc, asc-in, in-getD, place, below-getD, below-mono, below-suc, below-run}
+use Rattle.meaning.proofs.Cells.{TermIn, BracketIn, term-of-bracket, good, read, read-words, is-bracket, is-term}
 use Rattle.meaning.proofs.Terms.{Along, inside-along, term-along}
-use Rattle.meaning.proofs.Reaching.{listed-iff, reached-asc, reached-below, live-le, reached-heap}
+use Rattle.meaning.proofs.Reaching.{listed-iff, reached-asc, reached-below, live-le}
 use Rattle.meaning.proofs.Laid.{lay-length, lay-fst, lay-snd, kept-low, kept-high, kept-length, zeros-after}
 
 module _ (F : ℕ) (ws : List ℕ) (top : ℕ) (p : 0 < F) (s : Sound F ws top) where

@@ -1,11 +1,11 @@
 -- What an algorithm has to show to have collected: its words, cell by cell. And the new address by counting upward.
 -- Assumes nothing.
-use mathlib.Core.Path.{_≡_, refl, sym, ap, ap₂, _∙_, subst}
+use mathlib.Core.Path.{_≡_, refl, sym, ap, _∙_, subst}
 use mathlib.Core.Logic.{_⊎_, inl, inr, _≢_}
 use mathlib.Core.Bool.{Bool, true, false}
-use mathlib.Core.List.{List, [], _∷_, _++_}
+use mathlib.Core.List.{List, [], _∷_}
 use Prim.Native.Nat.{ℕ, zero, suc, _+_, _-_, _*_, _/_, _≤_, _<_}
-use native.Mathlib.Nat.{le-refl, le-trans, not-suc-le-zero}
+use native.Mathlib.Nat.{le-refl, not-suc-le-zero}
 use native.Mathlib.Omega.{arith}
 use lib.Dec.{ltb}
 use lib.ListN.{length, getD}
@@ -13,13 +13,13 @@ use lib.Seq.{ext-getD}
 use borrow.Author.Tests.{ltb-true, ltb-false, lt-ltb, le-ltb}
 use Rattle.meaning.specs.Expr.{Expr}
 use Rattle.meaning.specs.Sound.{Cell, fst, snd, at, Sound, code, hollow, ends}
-use Rattle.meaning.specs.Meaning.{termOf, term, run}
+use Rattle.meaning.specs.Meaning.{termOf, term}
 use Rattle.meaning.specs.Reach.{Reached, reached, live}
 use Rattle.meaning.specs.Collected.{below, countIf, mapEnds, newAddress, collected, collectedTop}
-use Rattle.meaning.proofs.Lists.{lt-or-ge, In, Asc, asc-in, in-getD, below-getD, below-low, below-suc, below-mono, below-le}
+use Rattle.meaning.proofs.Lists.{lt-or-ge, In, Asc, in-getD, below-getD, below-low, below-suc, below-mono, below-le}
 use Rattle.meaning.proofs.Cells.{good, TermIn}
 use Rattle.meaning.proofs.Terms.{run-ext}
-use Rattle.meaning.proofs.Reaching.{listed-iff, reached-asc, reached-below, live-le}
+use Rattle.meaning.proofs.Reaching.{listed-iff, reached-asc, reached-below}
 use Rattle.meaning.proofs.Collecting.{reg-one, reg-two, heap-one, heap-two, length-collected, free-after}
 use Rattle.meaning.proofs.Writing.{term-law}
 

@@ -1,14 +1,14 @@
 -- A fresh store is sound, and each of its registers is empty.
 -- Assumes nothing.
-use mathlib.Core.Path.{_≡_, refl, sym, ap, ap₂, _∙_, subst}
-use mathlib.Core.List.{List, [], _∷_, _++_}
-use Prim.Native.Nat.{ℕ, zero, suc, _+_, _-_, _*_, _/_, _≤_, _<_}
+use mathlib.Core.Path.{_≡_, refl}
+use mathlib.Core.List.{List, _++_}
+use Prim.Native.Nat.{ℕ, zero, suc, _+_, _-_, _*_, _≤_, _<_}
 use native.Mathlib.Nat.{le-refl, not-suc-le-zero, le-of-suc-le-suc}
 use native.Mathlib.Omega.{arith}
-use lib.ListN.{length, getD, length-append, replicate, length-replicate, List·getD-append}
+use lib.ListN.{length, getD, length-append, replicate, length-replicate}
 use Rattle.meaning.specs.Limits.{limit}
-use Rattle.meaning.specs.Expr.{Expr, nothing}
-use Rattle.meaning.specs.Sound.{Cell, hollow, at, Sound, IsBracket, isEmpty, IsTerm}
+use Rattle.meaning.specs.Expr.{nothing}
+use Rattle.meaning.specs.Sound.{at, Sound, isEmpty}
 use Rattle.meaning.specs.Meaning.{meaning}
 use Rattle.meaning.specs.Check.{hollows, fresh}
 use Rattle.meaning.proofs.Laid.{zeros-after}

@@ -1,11 +1,11 @@
 -- The words of cells laid out one after the other.
 -- Assumes nothing.
-use mathlib.Core.Path.{_≡_, refl, sym, ap, _∙_, subst}
+use mathlib.Core.Path.{_≡_, refl, sym, ap, _∙_}
 use mathlib.Core.List.{List, [], _∷_, _++_}
 use Prim.Native.Nat.{ℕ, zero, suc, _+_, _-_, _*_, _≤_, _<_}
 use native.Mathlib.Nat.{not-suc-le-zero, le-of-suc-le-suc, add-zero, zero-add, suc-add, add-suc}
 use native.Mathlib.Omega.{arith}
-use lib.ListN.{length, getD, length-append, List·getD-append, replicate, length-replicate, getD-replicate}
+use lib.ListN.{length, getD, length-append, List·getD-append, replicate, getD-replicate}
 use lib.Seq.{getD-append-add}
 use Rattle.meaning.specs.Sound.{Cell, fst, snd}
 use Rattle.meaning.specs.Collected.{lay, upFrom}

@@ -1,19 +1,16 @@
 -- New cells laid from `top` upward: what was there keeps its meaning, and a copy of a cell means what the cell means.
 -- Assumes nothing.
-use mathlib.Core.Path.{_≡_, refl, sym, ap, ap₂, _∙_, subst}
-use mathlib.Core.Logic.{_⊎_, inl, inr, _≢_}
-use mathlib.Core.List.{List, [], _∷_, _++_}
-use Prim.Native.Nat.{ℕ, zero, suc, _+_, _-_, _*_, _/_, _≤_, _<_}
-use native.Mathlib.Nat.{le-refl, le-trans, eq-or-lt-of-le, le-of-suc-le-suc, not-suc-le-zero, add-zero, add-suc, suc-add}
+use mathlib.Core.Path.{_≡_, refl, sym, ap, _∙_}
+use mathlib.Core.List.{List}
+use Prim.Native.Nat.{ℕ, zero, suc, _+_, _-_, _*_, _≤_, _<_}
+use native.Mathlib.Nat.{le-refl, le-trans, le-of-suc-le-suc, not-suc-le-zero, add-zero, add-suc, suc-add}
 use native.Mathlib.Omega.{arith}
-use lib.ListN.{length, getD}
-use Rattle.meaning.specs.Expr.{Expr, nothing, parens, append}
-use Rattle.meaning.specs.Sound.{Cell, code, hollow, ends, fst, snd, at, Sound}
-use Rattle.meaning.specs.Meaning.{run, inside, termOf, term, meaning}
-use Rattle.meaning.specs.Call.{put, copy, copies}
-use Rattle.meaning.proofs.Cells.{Good, TermIn, BracketIn, term-of-bracket, good}
-use Rattle.meaning.proofs.Terms.{run-ext, run-split}
-use Rattle.meaning.proofs.Writing.{length-put, at-put, at-put-other, copy-put, sound-top, termIn-wider, bracketIn-wider, term-same, inside-same, term-law}
+use lib.ListN.{length}
+use Rattle.meaning.specs.Sound.{Cell, at, Sound}
+use Rattle.meaning.specs.Meaning.{inside, termOf, term, meaning}
+use Rattle.meaning.specs.Call.{put, copies}
+use Rattle.meaning.proofs.Cells.{TermIn, BracketIn, good}
+use Rattle.meaning.proofs.Writing.{length-put, at-put, at-put-other, copy-put, sound-top, termIn-wider, term-same, inside-same, term-law}
 
 pub record Extends (F : ℕ) (ws : List ℕ) (top : ℕ) (ws′ : List ℕ) (top′ : ℕ) : Type 0 where
   pub len : length ws′ ≡ length ws

@@ -1,16 +1,16 @@
 -- The look: the words from a register's left end to its right end, and no word where there is nothing to look at.
 -- Assumes nothing.
-use mathlib.Core.Path.{_≡_, refl, sym, ap, _∙_}
+use mathlib.Core.Path.{_≡_, refl}
 use mathlib.Core.List.{List, []}
-use Prim.Native.Nat.{ℕ, zero, suc, _+_, _-_, _*_, _/_, _%_, _≤_, _<_}
+use Prim.Native.Nat.{ℕ, suc, _+_, _-_, _*_, _≤_, _<_}
 use native.Mathlib.Omega.{arith}
-use lib.ListN.{length, getD, take, drop, length-take, length-drop}
+use lib.ListN.{length, getD, length-take, length-drop}
 use lib.Seq.{getD-take, getD-drop}
 use borrow.Author.Tests.{lt-ltb, le-ltb}
 use Rattle.meaning.specs.Expr.{terms}
 use Rattle.meaning.specs.Sound.{Cell, code, hollow, ends, at, Sound}
 use Rattle.meaning.specs.Meaning.{meaning}
-use Rattle.meaning.specs.Check.{Verdict, only, check, onZero, size, start, Span, spanOf, lookSpan, look}
+use Rattle.meaning.specs.Check.{only, check, size, start, spanOf, lookSpan, look}
 use Rattle.meaning.proofs.Cells.{BracketIn, good}
 use Rattle.meaning.proofs.Checking.{sound-check}
 use Rattle.meaning.proofs.Stepping.{size-terms}

@@ -1,23 +1,21 @@
 -- A plan carried out: what a call does where it acts, it does to the store; and the rule for room.
 -- Assumes nothing.
-use mathlib.Core.Path.{_≡_, refl, sym, ap, ap₂, _∙_, subst}
-use mathlib.Core.Logic.{_⊎_, inl, inr, _≢_}
-use mathlib.Core.Bool.{Bool, true, false, cond, true≢false, false≢true}
-use mathlib.Core.List.{List, [], _∷_}
+use mathlib.Core.Path.{_≡_, refl, sym, _∙_}
+use mathlib.Core.Bool.{Bool, true, false, cond}
+use mathlib.Core.List.{List}
 use Prim.Native.Nat.{ℕ, zero, suc, _+_, _-_, _*_, _/_, _≤_, _<_}
 use native.Mathlib.Nat.{add-zero}
 use native.Mathlib.Omega.{arith}
-use lib.Dec.{ltb, leb, eqb}
-use lib.ListN.{length, getD}
-use borrow.Author.Tests.{ltb-true, ltb-false, lt-ltb, le-ltb, ne-eqb}
-use Rattle.meaning.specs.Expr.{Expr}
+use lib.Dec.{ltb, eqb}
+use lib.ListN.{length}
+use borrow.Author.Tests.{ltb-false, le-ltb, ne-eqb}
 use Rattle.meaning.specs.Sound.{at, Sound, capacity}
 use Rattle.meaning.specs.Meaning.{meaning}
 use Rattle.meaning.specs.Reach.{live}
 use Rattle.meaning.specs.Collected.{collected, collectedTop}
 use Rattle.meaning.specs.Check.{Done, only, refused}
 use Rattle.meaning.specs.Call.{Op, Plan, plain, gathered, making, sought, lacks, roomWords, roomTop, withRoom, carry}
-use Rattle.meaning.specs.Effect.{Effect, does, orElse, after, answer}
+use Rattle.meaning.specs.Effect.{does, orElse, after, answer}
 use Rattle.meaning.proofs.Lists.{In}
 use Rattle.meaning.proofs.Reaching.{live-le}
 use Rattle.meaning.proofs.Collecting.{collected-sound, length-collected, meaning-kept}

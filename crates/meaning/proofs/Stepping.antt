@@ -1,29 +1,24 @@
 -- Each call does to the expressions what the table says, with the status and the value that it says.
 -- Assumes nothing.
-use mathlib.Core.Path.{_≡_, refl, sym, ap, ap₂, _∙_, subst}
-use mathlib.Core.Logic.{_⊎_, inl, inr, _≢_}
+use mathlib.Core.Path.{_≡_, refl, sym, ap, _∙_}
+use mathlib.Core.Logic.{_≢_}
 use mathlib.Core.Bool.{Bool, true, false, cond}
-use mathlib.Core.List.{List, [], _∷_, _++_}
-use Prim.Native.Nat.{ℕ, zero, suc, _+_, _-_, _*_, _/_, _≤_, _<_}
-use native.Mathlib.Nat.{le-refl, le-trans, eq-or-lt-of-le, le-of-suc-le-suc, not-suc-le-zero, add-zero, add-suc, suc-add, suc-sub-suc}
+use mathlib.Core.List.{List}
+use Prim.Native.Nat.{ℕ, zero, suc, _+_, _-_, _≤_, _<_}
+use native.Mathlib.Nat.{le-refl, le-trans, add-zero, suc-sub-suc}
 use native.Mathlib.Omega.{arith}
-use lib.Dec.{ltb, leb, eqb}
-use lib.ListN.{length, getD}
-use borrow.Author.Tests.{leb-true, leb-false, le-leb, lt-leb, ltb-true, ltb-false, lt-ltb, le-ltb, eq-eqb, ne-eqb, eqb-true, eqb-false}
-use Rattle.meaning.specs.Expr.{Expr, nothing, symbol, parens, append, terms, firstTerm, lessFirst, opened, firstCode}
-use Rattle.meaning.specs.Sound.{Cell, code, hollow, ends, fst, snd, at, Sound, capacity}
+use lib.Dec.{ltb, eqb}
+use lib.ListN.{length}
+use borrow.Author.Tests.{ltb-true, ltb-false, eqb-true, eqb-false}
+use Rattle.meaning.specs.Expr.{Expr, nothing, symbol, parens, append, terms, firstTerm, lessFirst, opened}
+use Rattle.meaning.specs.Sound.{Cell, code, hollow, ends, at, Sound}
 use Rattle.meaning.specs.Meaning.{run, inside, termOf, term, meaning}
-use Rattle.meaning.specs.Reach.{live}
-use Rattle.meaning.specs.Collected.{collected, collectedTop}
-use Rattle.meaning.specs.Check.{Done, done, refused, size, start, only}
-use Rattle.meaning.specs.Call.{Op, CLEAR, COPY, SYMBOL, WRAP, JOIN, HEAD, REST, OPEN, LENGTH, FIRST, LIVE, COLLECT, put, copy, copies, joinNeed, head, rest, openTerm, openFirst, codeTerm, codeFirst, share}
-use Rattle.meaning.specs.Effect.{Effect, becomes, does, onEmpty, onOpen, onFirst, after, answer}
-use Rattle.meaning.proofs.Cells.{Good, TermIn, BracketIn, term-of-bracket, good}
-use Rattle.meaning.proofs.Terms.{append-nothing, append-append, terms-append, run-ext, run-split}
-use Rattle.meaning.proofs.Reaching.{live-le}
-use Rattle.meaning.proofs.Collecting.{collected-sound, length-collected, meaning-kept}
-use Rattle.meaning.proofs.Writing.{length-put, at-put, at-put-other, copy-put, sound-register, meaning-set, meaning-other, termIn-wider, bracketIn-wider, term-law}
-use Rattle.meaning.proofs.Laying.{Extends, extends-put, extends-trans, extends-meaning, extends-term, extends-inside, twin, Copied, copied}
+use Rattle.meaning.specs.Check.{Done, done, refused, size, only}
+use Rattle.meaning.specs.Call.{Op, CLEAR, COPY, SYMBOL, WRAP, JOIN, HEAD, REST, OPEN, LENGTH, FIRST, LIVE, COLLECT, put, head, rest, openTerm, openFirst, codeTerm, codeFirst, share}
+use Rattle.meaning.specs.Effect.{becomes, does, onEmpty, onOpen, onFirst, after, answer}
+use Rattle.meaning.proofs.Cells.{TermIn, BracketIn, good}
+use Rattle.meaning.proofs.Terms.{append-nothing, terms-append}
+use Rattle.meaning.proofs.Writing.{length-put, copy-put, sound-register, meaning-set, meaning-other, term-law}
 
 -- ---- one term in front
 

@@ -1,14 +1,13 @@
 -- One call, whatever its words are; and a batch of calls.
 -- Assumes nothing.
-use mathlib.Core.Path.{_≡_, refl, sym, ap, ap₂, _∙_, subst}
-use mathlib.Core.Logic.{_⊎_, inl, inr, _≢_}
-use mathlib.Core.Bool.{Bool, true, false, cond, _&&_, _||_, true≢false}
-use mathlib.Core.List.{List, [], _∷_, _++_}
-use Prim.Native.Nat.{ℕ, zero, suc, _+_, _-_, _*_, _/_, _≤_, _<_}
-use native.Mathlib.Nat.{add-zero}
+use mathlib.Core.Path.{_≡_, refl, sym, ap, _∙_}
+use mathlib.Core.Logic.{inl, inr}
+use mathlib.Core.Bool.{false}
+use mathlib.Core.List.{List, [], _∷_}
+use Prim.Native.Nat.{ℕ, zero, suc, _+_, _-_, _/_, _<_}
 use native.Mathlib.Omega.{arith}
-use lib.Dec.{ltb, leb, eqb}
-use lib.ListN.{length, getD}
+use lib.Dec.{ltb, eqb}
+use lib.ListN.{length}
 use borrow.Author.Tests.{ne-eqb, le-ltb}
 use Rattle.meaning.specs.Expr.{Expr, terms}
 use Rattle.meaning.specs.Sound.{at, Sound, capacity}
@@ -16,14 +15,14 @@ use Rattle.meaning.specs.Meaning.{meaning}
 use Rattle.meaning.specs.Reach.{live}
 use Rattle.meaning.specs.Collected.{collected, collectedTop}
 use Rattle.meaning.specs.Check.{Done, only, refused, size}
-use Rattle.meaning.specs.Call.{uses, Op, CLEAR, COPY, SYMBOL, WRAP, JOIN, HEAD, REST, OPEN, LENGTH, FIRST, LIVE, COLLECT, ops, fault, joinNeed, joinPlan, sought, lacks, planOf, perform, stepAfter, step, opAt}
-use Rattle.meaning.specs.Effect.{Effect, does, orElse, after, answer, callStatus}
-use Rattle.meaning.specs.Batch.{Ran, then, runs}
+use Rattle.meaning.specs.Call.{uses, Op, CLEAR, COPY, SYMBOL, WRAP, JOIN, HEAD, REST, OPEN, LENGTH, FIRST, LIVE, COLLECT, fault, joinNeed, joinPlan, sought, lacks, planOf, perform, stepAfter, step, opAt}
+use Rattle.meaning.specs.Effect.{does, after, answer, callStatus}
+use Rattle.meaning.specs.Batch.{then, runs}
 use Rattle.meaning.proofs.Cells.{good}
-use Rattle.meaning.proofs.Collecting.{collected-sound, length-collected, meaning-kept}
+use Rattle.meaning.proofs.Collecting.{collected-sound, meaning-kept}
 use Rattle.meaning.proofs.Reaching.{live-le}
 use Rattle.meaning.proofs.Again.{live-kept}
-use Rattle.meaning.proofs.Stepping.{Denote, Others, Acts, clear-acts, copy-acts, held, head-at, rest-at, open-at, code-at, length-acts, live-acts, collect-acts, size-terms, meaning-at}
+use Rattle.meaning.proofs.Stepping.{Denote, Others, clear-acts, copy-acts, head-at, rest-at, open-at, code-at, length-acts, live-acts, collect-acts, size-terms, meaning-at}
 use Rattle.meaning.proofs.Building.{symbol-acts, wrap-acts, join-left-acts, join-right-acts, join-both-acts}
 use Rattle.meaning.proofs.Uses.{Right, right, is-register, is-code, fault-small}
 use Rattle.meaning.proofs.Plans.{sought-sound, sought-length, sought-live, sought-meaning, planLacks, planTop, topAfter, WordsAfter, Meets, Does, carry-meets}

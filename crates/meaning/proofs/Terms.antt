@@ -1,18 +1,14 @@
 -- The meaning of cells: what it depends on, and how it goes along with a map of addresses.
 -- Assumes nothing.
-use mathlib.Core.Path.{_≡_, refl, sym, ap, ap₂, _∙_, subst}
-use mathlib.Core.Bool.{Bool, true, false}
-use mathlib.Core.List.{List, [], _∷_, _++_}
-use Prim.Native.Nat.{ℕ, zero, suc, _+_, _-_, _*_, _≤_, _<_}
-use native.Mathlib.Nat.{le-refl, le-trans, not-suc-le-zero, le-of-suc-le-suc, zero-add, suc-add, add-zero, add-suc}
+use mathlib.Core.Path.{_≡_, refl, sym, ap, ap₂, _∙_}
+use Prim.Native.Nat.{ℕ, zero, suc, _+_, _-_, _≤_, _<_}
+use native.Mathlib.Nat.{not-suc-le-zero, zero-add, suc-add, add-zero, add-suc}
 use native.Mathlib.Omega.{arith}
-use lib.ListN.{length, getD}
 use Rattle.meaning.specs.Expr.{Expr, nothing, symbol, parens, append, terms}
 use Rattle.meaning.specs.Sound.{Cell, code, hollow, ends}
 use Rattle.meaning.specs.Meaning.{run, inside, termOf, term}
-use Rattle.meaning.specs.Reach.{Between}
 use Rattle.meaning.specs.Collected.{mapEnds}
-use Rattle.meaning.proofs.Cells.{Good, TermIn, BracketIn}
+use Rattle.meaning.proofs.Cells.{Good, TermIn}
 
 pub append-nothing : (e : Expr) → append e nothing ≡ e
 append-nothing nothing = refl

@@ -1,6 +1,6 @@
 -- The table of stores to try is right: one computation.
 -- Assumes nothing.
-use Rattle.meaning.specs.Limits.{firstCell, limit, codeTest, callsLimit, programCells, programBytes}
+use Rattle.meaning.specs.Limits.{firstCell, limit, codeTest, programCells, programBytes}
 use Rattle.meaning.specs.Sound.{at}
 use Rattle.meaning.specs.Reach.{reached, live}
 use Rattle.meaning.specs.Collected.{newAddress, collectedOf, collected, collectedTop}

@@ -1,20 +1,19 @@
 -- Writing a cell: a register, or the first free cell. What stays sound, and what keeps its meaning.
 -- Assumes nothing.
-use mathlib.Core.Path.{_≡_, refl, sym, ap, ap₂, _∙_, subst}
+use mathlib.Core.Path.{_≡_, refl, sym, ap, _∙_}
 use mathlib.Core.Logic.{_⊎_, inl, inr, _≢_}
-use mathlib.Core.List.{List, [], _∷_, _++_}
-use Prim.Native.Nat.{ℕ, zero, suc, _+_, _-_, _*_, _/_, _≤_, _<_}
-use native.Mathlib.Nat.{le-refl, le-trans, eq-or-lt-of-le, le-of-suc-le-suc}
+use mathlib.Core.List.{List}
+use Prim.Native.Nat.{ℕ, zero, suc, _+_, _-_, _*_, _≤_, _<_}
+use native.Mathlib.Nat.{le-trans, eq-or-lt-of-le, le-of-suc-le-suc}
 use native.Mathlib.Omega.{arith}
 use lib.ListN.{length, getD, set, length-set}
 use lib.Seq.{getD-set-same, getD-set-other}
 use Rattle.meaning.specs.Expr.{Expr}
-use Rattle.meaning.specs.Sound.{Cell, code, hollow, ends, fst, snd, at, Sound, IsBracket, isEmpty, isFull, IsTerm, isSymbol, isBracket}
-use Rattle.meaning.specs.Meaning.{run, inside, termOf, term, meaning}
-use Rattle.meaning.specs.Collected.{mapEnds}
+use Rattle.meaning.specs.Sound.{Cell, code, hollow, ends, fst, snd, at, Sound, IsBracket, isEmpty, isFull, IsTerm}
+use Rattle.meaning.specs.Meaning.{inside, termOf, term, meaning}
 use Rattle.meaning.specs.Call.{put, copy}
 use Rattle.meaning.proofs.Lists.{lt-or-ge}
-use Rattle.meaning.proofs.Cells.{Good, TermIn, BracketIn, term-of-bracket, good, read, read-words, is-bracket, is-term, bracket-words, term-words, Words}
+use Rattle.meaning.proofs.Cells.{Good, TermIn, BracketIn, term-of-bracket, good, read, read-words, is-bracket, is-term, bracket-words, term-words}
 use Rattle.meaning.proofs.Terms.{run-ext, term-depth}
 
 -- ---- words

@@ -1,6 +1,6 @@
 -- A batch of calls as it is lent: the store, `top`, the call list and the answer space ("Numbers that come back").
 -- Assumes nothing.
-use mathlib.Core.Bool.{Bool, true, false, cond}
+use mathlib.Core.Bool.{Bool, false, cond}
 use mathlib.Core.List.{List, [], _∷_, _++_}
 use Prim.Native.Nat.{ℕ, _-_, _*_, _/_, _%_}
 use lib.Dec.{leb, eqb}

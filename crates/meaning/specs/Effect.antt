@@ -1,7 +1,7 @@
 -- What a call does, in expressions: the table of "Calls", and the order of its statuses. `e` has the expression that each
 -- register denotes before the call, `lv` is live.
 -- Assumes nothing.
-use mathlib.Core.Bool.{Bool, true, false, cond}
+use mathlib.Core.Bool.{Bool, cond}
 use Prim.Native.Nat.{ℕ, zero, suc}
 use lib.Dec.{eqb}
 use Rattle.meaning.specs.Expr.{Expr, nothing, symbol, parens, append, terms, firstTerm, lessFirst, opened, firstCode}
