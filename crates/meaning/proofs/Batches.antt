@@ -1,4 +1,5 @@
--- A batch that is not refused runs in a sound store, call by call as it has to, and leaves a sound store. A list may be cut anywhere.
+-- A batch that is not refused runs in a sound store, call by call as it has to, and leaves a sound store. A list may
+-- be cut anywhere.
 -- Assumes nothing.
 use mathlib.Core.Path.{_≡_, refl, ap}
 use mathlib.Core.Bool.{Bool, true, false, cond}
@@ -30,7 +31,8 @@ pub fours-of : (cs : List ℕ) → length cs % 4 ≡ 0 → Fours cs
 fours-of cs h = fours (length cs / 4) cs (omega arith)
 
 -- a sound store stays sound
-pub batch-sound : {F : ℕ} {ws : List ℕ} {top : ℕ} {cs ans ws′ : List ℕ} {top′ : ℕ} → Sound F ws top → Batch F ws top cs ans ws′ top′ → Sound F ws′ top′
+pub batch-sound : {F : ℕ} {ws : List ℕ} {top : ℕ} {cs ans ws′ : List ℕ} {top′ : ℕ} → Sound F ws top
+    → Batch F ws top cs ans ws′ top′ → Sound F ws′ top′
 batch-sound s Batch.ended = s
 batch-sound s (called r m q) = batch-sound (m .sound) q
 
@@ -44,7 +46,8 @@ pub runs-cut : (F : ℕ) (ws : List ℕ) (top : ℕ) {cs : List ℕ} (ds : List 
 unfolding then
 runs-cut F ws top ds none = refl
 runs-cut F ws top ds (four {o} {d} {a} {b} {cs} c) =
-    ap (λ (q : Ran). then (step F ws top o d a b) q) (runs-cut F (step F ws top o d a b .words) (step F ws top o d a b .top) ds c)
+    ap (λ (q : Ran). then (step F ws top o d a b) q) (runs-cut F (step F ws top o d a b .words)
+    (step F ws top o d a b .top) ds c)
 
 -- the whole batch
 module _ (F : ℕ) (p : 0 < F) (ws : List ℕ) (top : ℕ) (calls out : List ℕ) where
@@ -53,16 +56,22 @@ module _ (F : ℕ) (p : 0 < F) (ws : List ℕ) (top : ℕ) (calls out : List ℕ
   unfolding batch batchOf asLent callsTest only
   batch-runs q = one (check F ws top .status) refl q
     where
-      two : Sound F ws top → (t u v : Bool) → leb (length calls) callsLimit ≡ t → eqb (length calls % 4) 0 ≡ u → leb (2 * (length calls / 4)) (length out) ≡ v
-          → cond (cond t u false) (cond v (ended (runs F ws top calls) out) (asLent (only 5) ws top out)) (asLent (only 4) ws top out) .verdict .status ≡ 0
+      two : Sound F ws top → (t u v : Bool) → leb (length calls) callsLimit ≡ t → eqb (length calls % 4) 0 ≡ u
+          → leb (2 * (length calls / 4)) (length out) ≡ v
+          → cond (cond t u false) (cond v (ended (runs F ws top calls) out) (asLent (only 5) ws top out))
+          (asLent (only 4) ws top out) .verdict .status ≡ 0
           → Sound F ws top × Fours calls
-          × (cond (cond t u false) (cond v (ended (runs F ws top calls) out) (asLent (only 5) ws top out)) (asLent (only 4) ws top out) ≡ ended (runs F ws top calls) out)
+          × (cond (cond t u false) (cond v (ended (runs F ws top calls) out) (asLent (only 5) ws top out))
+          (asLent (only 4) ws top out) ≡ ended (runs F ws top calls) out)
       two s true true true a b c d = (s, fours-of calls (eqb-true (length calls % 4) 0 b), refl)
       two s true true false a b c d = absurd (omega arith)
       two s true false v a b c d = absurd (omega arith)
       two s false u v a b c d = absurd (omega arith)
 
-      one : (n : ℕ) → check F ws top .status ≡ n → onZero n (batchOf F ws top calls out) (asLent (check F ws top) ws top out) .verdict .status ≡ 0
-          → Sound F ws top × Fours calls × (onZero n (batchOf F ws top calls out) (asLent (check F ws top) ws top out) ≡ ended (runs F ws top calls) out)
-      one zero e r = two (check-sound F ws top e) (leb (length calls) callsLimit) (eqb (length calls % 4) 0) (leb (2 * (length calls / 4)) (length out)) refl refl refl r
+      one : (n : ℕ) → check F ws top .status ≡ n
+          → onZero n (batchOf F ws top calls out) (asLent (check F ws top) ws top out) .verdict .status ≡ 0
+          → Sound F ws top × Fours calls × (onZero n (batchOf F ws top calls out) (asLent (check F ws top) ws top out)
+          ≡ ended (runs F ws top calls) out)
+      one zero e r = two (check-sound F ws top e) (leb (length calls) callsLimit) (eqb (length calls % 4) 0)
+          (leb (2 * (length calls / 4)) (length out)) refl refl refl r
       one (suc n) e r = absurd (omega arith)

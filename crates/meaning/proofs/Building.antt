@@ -10,18 +10,22 @@ use Rattle.meaning.specs.Expr.{Expr, nothing, symbol, parens, append, te
 use Rattle.meaning.specs.Sound.{IsCode, Cell, code, hollow, ends, at, Sound}
 use Rattle.meaning.specs.Meaning.{run, inside, termOf, term, meaning}
 use Rattle.meaning.specs.Check.{done, size}
-use Rattle.meaning.specs.Call.{Op, SYMBOL, WRAP, JOIN, put, copies, newSymbol, newBracket, newRunOf, newRun, share}
+use Rattle.meaning.specs.Call.{Op, SYMBOL, WRAP, JOIN, put, copies, newSymbol, newBracket, newRunOf, newRun}
+use Rattle.meaning.specs.Call.{share}
 use Rattle.meaning.specs.Effect.{becomes, does}
 use Rattle.meaning.proofs.Cells.{TermIn, BracketIn, term-of-bracket, good}
 use Rattle.meaning.proofs.Terms.{append-nothing, run-ext, run-split}
 use Rattle.meaning.proofs.Writing.{length-put, at-put, copy-put, sound-register, term-law}
-use Rattle.meaning.proofs.Laying.{Extends, extends-put, extends-trans, extends-meaning, extends-term, extends-inside, twin, Copied, copied}
+use Rattle.meaning.proofs.Laying.{Extends, extends-put, extends-trans, extends-meaning, extends-term}
+use Rattle.meaning.proofs.Laying.{extends-inside, twin, Copied, copied}
 use Rattle.meaning.proofs.Stepping.{Others, Acts, becomes-same, wrapped, become, set-to, size-terms, meaning-at}
 
 module _ (F : ℕ) (p : 0 < F) (e : ℕ → Expr) (lv : ℕ) (ws : List ℕ) (top : ℕ) (s : Sound F ws top) where
   -- a register is set to a bracket over new cells
-  new-acts : (o : Op) (d a b : ℕ) → Others F ws e d → d < F → (ws′ : List ℕ) (top′ : ℕ) → Extends F ws top ws′ top′ → (k : Cell) → BracketIn F top′ k → (x : Expr)
-      → inside (term (at ws′) (length ws′)) k ≡ x → does o e lv d a b .unfit ≡ 0 → does o e lv d a b .value ≡ 0 → does o e lv d a b .registers ≡ becomes e d x
+  new-acts : (o : Op) (d a b : ℕ) → Others F ws e d → d < F → (ws′ : List ℕ) (top′ : ℕ) → Extends F ws top ws′ top′
+      → (k : Cell) → BracketIn F top′ k → (x : Expr)
+      → inside (term (at ws′) (length ws′)) k ≡ x → does o e lv d a b .unfit ≡ 0 → does o e lv d a b .value ≡ 0
+      → does o e lv d a b .registers ≡ becomes e d x
       → (n : ℕ) → top′ ≡ top + n → Acts F e lv o d a b n ws top (done (put ws′ d k) top′ 0)
   unfolding done
   new-acts o d a b m l ws′ top′ x k t y q u v f n z = record {
@@ -31,29 +35,36 @@ module _ (F : ℕ) (p : 0 < F) (e : ℕ → Expr) (lv : ℕ) (ws : List ℕ) (to
     value = sym v;
     registers = λ i h.
         become F ws′ top′ p (x .sound) d l k t y q i h
-        ∙ (becomes-same (meaning ws′) e d y i (λ g. extends-meaning F ws top p s ws′ top′ x i h ∙ m i h g) ∙ sym (ap (λ (g : ℕ → Expr). g i) f));
+        ∙ (becomes-same (meaning ws′) e d y i (λ g. extends-meaning F ws top p s ws′ top′ x i h ∙ m i h g) ∙ sym
+        (ap (λ (g : ℕ → Expr). g i) f));
     tops = z;
     left = tt;
   }
 
   -- one new cell
-  one-cell : (c : Cell) → 2 * suc top ≤ length ws → TermIn F top c → inside (term (at (put ws top c)) (length (put ws top c))) (ends top top) ≡ termOf (term (at (put ws top c)) (length (put ws top c))) c
+  one-cell : (c : Cell) → 2 * suc top ≤ length ws → TermIn F top c
+      → inside (term (at (put ws top c)) (length (put ws top c))) (ends top top) ≡ termOf
+      (term (at (put ws top c)) (length (put ws top c))) c
   one-cell c r t =
       let x = extends-put F ws top p s r c t in
       let one : suc top - top ≡ 1 = omega arith in
       rw one
       (append-nothing (term (at (put ws top c)) (length (put ws top c)) top)
       ∙ (term-law F (put ws top c) (suc top) p (x .sound) top (s .low) (omega arith)
-      ∙ ap (λ (y : Cell). termOf (term (at (put ws top c)) (length (put ws top c))) y) (at-put ws top c F top p (omega arith) t)))
+      ∙ ap (λ (y : Cell). termOf (term (at (put ws top c)) (length (put ws top c))) y)
+      (at-put ws top c F top p (omega arith) t)))
 
-  pub symbol-acts : (d a b : ℕ) → Others F ws e d → d < F → IsCode a → 2 * (top + 1) ≤ length ws → Acts F e lv SYMBOL d a b 1 ws top (newSymbol d a ws top)
+  pub symbol-acts : (d a b : ℕ) → Others F ws e d → d < F → IsCode a → 2 * (top + 1) ≤ length ws
+      → Acts F e lv SYMBOL d a b 1 ws top (newSymbol d a ws top)
   unfolding newSymbol
   symbol-acts d a b m l h r =
       let r′ : 2 * suc top ≤ length ws = omega arith in
-      new-acts SYMBOL d a b m l (put ws top (code a)) (suc top) (extends-put F ws top p s r′ (code a) h) (ends top top) (s .low, le-refl top, le-refl (suc top))
+      new-acts SYMBOL d a b m l (put ws top (code a)) (suc top) (extends-put F ws top p s r′ (code a) h)
+      (ends top top) (s .low, le-refl top, le-refl (suc top))
       (symbol a nothing) (one-cell (code a) r′ h) refl refl refl 1 (omega arith)
 
-  pub wrap-acts : (d a b : ℕ) → Others F ws e d → meaning ws a ≡ e a → d < F → a < F → 2 * (top + 1) ≤ length ws → Acts F e lv WRAP d a b 1 ws top (newBracket d a ws top)
+  pub wrap-acts : (d a b : ℕ) → Others F ws e d → meaning ws a ≡ e a → d < F → a < F → 2 * (top + 1) ≤ length ws
+      → Acts F e lv WRAP d a b 1 ws top (newBracket d a ws top)
   unfolding newBracket
   wrap-acts d a b m ma l h r =
       let r′ : 2 * suc top ≤ length ws = omega arith in
@@ -61,14 +72,17 @@ module _ (F : ℕ) (p : 0 < F) (e : ℕ → Expr) (lv : ℕ) (ws : List ℕ) (to
       let t = term-of-bracket F top (at ws a) g in
       let x = extends-put F ws top p s r′ (at ws a) t in
       rw (copy-put F ws top top a p s (le-trans h (s .low)))
-      (new-acts WRAP d a b m l (put ws top (at ws a)) (suc top) x (ends top top) (s .low, le-refl top, le-refl (suc top))
+      (new-acts WRAP d a b m l (put ws top (at ws a)) (suc top) x (ends top top)
+      (s .low, le-refl top, le-refl (suc top))
       (parens (e a) nothing)
       (one-cell (at ws a) r′ t
       ∙ (wrapped (term (at (put ws top (at ws a))) (length (put ws top (at ws a)))) F top (at ws a) g
-      ∙ ap (λ (y : Expr). parens y nothing) (sym (extends-inside F ws top p s (put ws top (at ws a)) (suc top) x (at ws a) g) ∙ (sym (meaning-at F ws top p s a) ∙ ma)))) refl refl refl 1 (omega arith))
+      ∙ ap (λ (y : Expr). parens y nothing) (sym (extends-inside F ws top p s (put ws top (at ws a)) (suc top) x
+      (at ws a) g) ∙ (sym (meaning-at F ws top p s a) ∙ ma)))) refl refl refl 1 (omega arith))
 
   -- two runs copied one after the other
-  module _ (l r l′ r′ : ℕ) (t : BracketIn F top (ends l r)) (t′ : BracketIn F top (ends l′ r′)) (q : 2 * (top + ((suc r - l) + (suc r′ - l′))) ≤ length ws) where
+  module _ (l r l′ r′ : ℕ) (t : BracketIn F top (ends l r)) (t′ : BracketIn F top (ends l′ r′))
+      (q : 2 * (top + ((suc r - l) + (suc r′ - l′))) ≤ length ws) where
     abbrev n : ℕ
     n = suc r - l
 
@@ -85,7 +99,8 @@ module _ (F : ℕ) (p : 0 < F) (e : ℕ → Expr) (lv : ℕ) (ws : List ℕ) (to
     c₁ = copied F ws top l n p s (t .0) (omega (arith, t .1, t .2)) (omega arith)
 
     c₂ : Copied F ws₁ (top + n) l′ k ws₂
-    c₂ = copied F ws₁ (top + n) l′ k p (c₁ .more .sound) (t′ .0) (omega (arith, t′ .1, t′ .2)) (omega (arith, c₁ .more .len))
+    c₂ = copied F ws₁ (top + n) l′ k p (c₁ .more .sound) (t′ .0) (omega (arith, t′ .1, t′ .2))
+        (omega (arith, c₁ .more .len))
 
     x₂ : Extends F ws top ws₂ (top + n + k)
     x₂ = extends-trans (c₁ .more) (c₂ .more)
@@ -94,7 +109,8 @@ module _ (F : ℕ) (p : 0 < F) (e : ℕ → Expr) (lv : ℕ) (ws : List ℕ) (to
     T₂ = term (at ws₂) (length ws₂)
 
     -- a copy of an old cell means what the old cell means
-    old-copy : (y c : ℕ) → F ≤ y → y < top + n + k → F ≤ c → c < top → at ws₂ y ≡ at ws c → T₂ y ≡ term (at ws) (length ws) c
+    old-copy : (y c : ℕ) → F ≤ y → y < top + n + k → F ≤ c → c < top → at ws₂ y ≡ at ws c
+        → T₂ y ≡ term (at ws) (length ws) c
     old-copy y c f h g z u =
         twin F ws₂ (top + n + k) p (x₂ .sound) y c f h g (omega arith) (u ∙ sym (x₂ .old c z))
         ∙ sym (extends-term F ws top p s ws₂ (top + n + k) x₂ c g z)
@@ -102,23 +118,28 @@ module _ (F : ℕ) (p : 0 < F) (e : ℕ → Expr) (lv : ℕ) (ws : List ℕ) (to
     left-run : run T₂ top n ≡ run (term (at ws) (length ws)) l n
     left-run =
         run-ext T₂ (term (at ws) (length ws)) top l n
-        (λ j h. old-copy (top + j) (l + j) (omega (arith, s .low)) (omega arith) (omega (arith, t .0)) (omega (arith, t .1, t .2)) (c₂ .more .old (top + j) (omega arith) ∙ c₁ .new j h))
+        (λ j h. old-copy (top + j) (l + j) (omega (arith, s .low)) (omega arith) (omega (arith, t .0))
+        (omega (arith, t .1, t .2)) (c₂ .more .old (top + j) (omega arith) ∙ c₁ .new j h))
 
     right-run : run T₂ (top + n) k ≡ run (term (at ws) (length ws)) l′ k
     right-run =
         run-ext T₂ (term (at ws) (length ws)) (top + n) l′ k
-        (λ j h. old-copy (top + n + j) (l′ + j) (omega (arith, s .low)) (omega arith) (omega (arith, t′ .0)) (omega (arith, t′ .1, t′ .2)) (c₂ .new j h ∙ c₁ .more .old (l′ + j) (omega (arith, t′ .1, t′ .2))))
+        (λ j h. old-copy (top + n + j) (l′ + j) (omega (arith, s .low)) (omega arith) (omega (arith, t′ .0))
+        (omega (arith, t′ .1, t′ .2)) (c₂ .new j h ∙ c₁ .more .old (l′ + j) (omega (arith, t′ .1, t′ .2))))
 
-    joined : inside T₂ (ends top (top + (n + k) - 1)) ≡ append (inside (term (at ws) (length ws)) (ends l r)) (inside (term (at ws) (length ws)) (ends l′ r′))
+    joined : inside T₂ (ends top (top + (n + k) - 1)) ≡ append (inside (term (at ws) (length ws)) (ends l r))
+        (inside (term (at ws) (length ws)) (ends l′ r′))
     joined =
         let c : suc (top + (n + k) - 1) - top ≡ n + k = omega (arith, t .1) in
         rw (c, run-split T₂ top n k, left-run, right-run) refl
 
-    run-acts : (d a b : ℕ) → Others F ws e d → meaning ws a ≡ e a → meaning ws b ≡ e b → d < F → a < F → b < F → at ws a ≡ ends l r → at ws b ≡ ends l′ r′
+    run-acts : (d a b : ℕ) → Others F ws e d → meaning ws a ≡ e a → meaning ws b ≡ e b → d < F → a < F → b < F
+        → at ws a ≡ ends l r → at ws b ≡ ends l′ r′
         → (j : ℕ) → n + k ≡ j → Acts F e lv JOIN d a b j ws top (newRunOf d (ends l r) (ends l′ r′) ws top)
     unfolding newRunOf meaning
     run-acts d a b g ga gb h ha hb u v j z =
-        new-acts JOIN d a b g h ws₂ (top + (n + k)) (rw (add-assoc top n k) at x₂) (ends top (top + (n + k) - 1)) (s .low, omega (arith, t .1), omega (arith, t .1)) (append (e a) (e b))
+        new-acts JOIN d a b g h ws₂ (top + (n + k)) (rw (add-assoc top n k) at x₂) (ends top (top + (n + k) - 1))
+        (s .low, omega (arith, t .1), omega (arith, t .1)) (append (e a) (e b))
         (joined ∙ ap₂ append (rw u at ga) (rw v at gb)) refl refl refl j (ap (λ (x : ℕ). top + x) z)
 
   no-terms : (x : Expr) → terms x ≡ 0 → x ≡ nothing
@@ -127,16 +148,20 @@ module _ (F : ℕ) (p : 0 < F) (e : ℕ → Expr) (lv : ℕ) (ws : List ℕ) (to
   no-terms (parens i r) q = absurd (omega arith)
 
   -- two registers that are not empty
-  cells-act : (d a b : ℕ) → Others F ws e d → meaning ws a ≡ e a → meaning ws b ≡ e b → d < F → a < F → b < F → (x y : Cell) → at ws a ≡ x → at ws b ≡ y → BracketIn F top x → BracketIn F top y
-      → 0 < size x → 0 < size y → 2 * (top + (size x + size y)) ≤ length ws → (j : ℕ) → size x + size y ≡ j → Acts F e lv JOIN d a b j ws top (newRunOf d x y ws top)
+  cells-act : (d a b : ℕ) → Others F ws e d → meaning ws a ≡ e a → meaning ws b ≡ e b → d < F → a < F → b < F
+      → (x y : Cell) → at ws a ≡ x → at ws b ≡ y → BracketIn F top x → BracketIn F top y
+      → 0 < size x → 0 < size y → 2 * (top + (size x + size y)) ≤ length ws → (j : ℕ) → size x + size y ≡ j
+      → Acts F e lv JOIN d a b j ws top (newRunOf d x y ws top)
   cells-act d a b g ga gb h ha hb (code i) y u v t t′ z z′ q j n = absurd t
   cells-act d a b g ga gb h ha hb hollow y u v t t′ z z′ q j n = absurd (not-suc-le-zero z)
   cells-act d a b g ga gb h ha hb (ends l r) (code i) u v t t′ z z′ q j n = absurd t′
   cells-act d a b g ga gb h ha hb (ends l r) hollow u v t t′ z z′ q j n = absurd (not-suc-le-zero z′)
-  cells-act d a b g ga gb h ha hb (ends l r) (ends l′ r′) u v t t′ z z′ q j n = run-acts l r l′ r′ t t′ q d a b g ga gb h ha hb u v j n
+  cells-act d a b g ga gb h ha hb (ends l r) (ends l′ r′) u v t t′ z z′ q j n =
+      run-acts l r l′ r′ t t′ q d a b g ga gb h ha hb u v j n
 
   -- JOIN, by which of a and b are empty
-  module _ (d a b : ℕ) (m : Others F ws e d) (ma : meaning ws a ≡ e a) (mb : meaning ws b ≡ e b) (l : d < F) (ha : a < F) (hb : b < F) where
+  module _ (d a b : ℕ) (m : Others F ws e d) (ma : meaning ws a ≡ e a) (mb : meaning ws b ≡ e b) (l : d < F)
+      (ha : a < F) (hb : b < F) where
     za : size (at ws a) ≡ terms (e a)
     za = size-terms F ws top p s a ha ∙ ap terms ma
 
@@ -159,8 +184,10 @@ module _ (F : ℕ) (p : 0 < F) (e : ℕ → Expr) (lv : ℕ) (ws : List ℕ) (to
         (set-to F p e lv ws top s JOIN d a b m l (at ws a) (good F ws top p s .regs a ha) (append (e a) (e b))
         (rw (no-terms (e b) z, append-nothing (e a)) (sym (meaning-at F ws top p s a) ∙ ma)) refl refl refl)
 
-    pub join-both-acts : 0 < size (at ws a) → 0 < size (at ws b) → (j : ℕ) → size (at ws a) + size (at ws b) ≡ j → 2 * (top + j) ≤ length ws
+    pub join-both-acts : 0 < size (at ws a) → 0 < size (at ws b) → (j : ℕ) → size (at ws a) + size (at ws b) ≡ j
+        → 2 * (top + j) ≤ length ws
         → Acts F e lv JOIN d a b j ws top (newRun d a b ws top)
     unfolding newRun
     join-both-acts x y j n r =
-        cells-act d a b m ma mb l ha hb (at ws a) (at ws b) refl refl (good F ws top p s .regs a ha) (good F ws top p s .regs b hb) x y (omega arith) j n
+        cells-act d a b m ma mb l ha hb (at ws a) (at ws b) refl refl (good F ws top p s .regs a ha)
+        (good F ws top p s .regs b hb) x y (omega arith) j n

@@ -11,7 +11,8 @@ use lib.Dec.{ltb}
 use lib.ListN.{length, getD}
 use borrow.Author.Tests.{leb-true, ltb-true, ltb-false, le-ltb}
 use Rattle.meaning.specs.Limits.{codeTest, limit}
-use Rattle.meaning.specs.Sound.{IsCode, Cell, code, hollow, ends, fst, snd, bracketOf, cellOf, at, IsBracket, isEmpty, isFull, IsTerm, isSymbol, isBracket, Sound}
+use Rattle.meaning.specs.Sound.{IsCode, Cell, code, hollow, ends, fst, snd, bracketOf, cellOf, at, IsBracket}
+use Rattle.meaning.specs.Sound.{isEmpty, isFull, IsTerm, isSymbol, isBracket, Sound}
 
 -- all that the code needs to know of the limit: an address fits the 28 bits of a right end
 pub limit-fits : limit ≤ 268435456
@@ -105,7 +106,8 @@ even-or-odd i = go (ltb (2 * (i / 2)) i) refl
     go false e = inl (omega (arith, ltb-false (2 * (i / 2)) i e))
 
 -- what holds of both words of each cell from m on up to n holds of each word
-pub words-of-cells : (P : ℕ → Type 0) (m n : ℕ) → ((c : ℕ) → m ≤ c → c < n → P (2 * c) × P (2 * c + 1)) → (i : ℕ) → 2 * m ≤ i → i < 2 * n → P i
+pub words-of-cells : (P : ℕ → Type 0) (m n : ℕ) → ((c : ℕ) → m ≤ c → c < n → P (2 * c) × P (2 * c + 1)) → (i : ℕ)
+    → 2 * m ≤ i → i < 2 * n → P i
 words-of-cells P m n h i l u = go (even-or-odd i)
   where
     go : (i ≡ 2 * (i / 2)) ⊎ (i ≡ 2 * (i / 2) + 1) → P i
@@ -113,7 +115,8 @@ words-of-cells P m n h i l u = go (even-or-odd i)
     go (inr q) = subst P (sym q) (h (i / 2) (omega arith) (omega arith) .1)
 
 -- each word from `top` on is zero
-pub free-words : (F : ℕ) (ws : List ℕ) (top : ℕ) → Sound F ws top → (i : ℕ) → 2 * top ≤ i → i < length ws → getD ws i 0 ≡ 0
+pub free-words : (F : ℕ) (ws : List ℕ) (top : ℕ) → Sound F ws top → (i : ℕ) → 2 * top ≤ i → i < length ws
+    → getD ws i 0 ≡ 0
 free-words F ws top s i l h =
     words-of-cells (λ j. getD ws j 0 ≡ 0) top (length ws / 2) (λ c f g. s .free c f g) i l (omega (arith, s .even))
 

@@ -13,7 +13,8 @@ use borrow.Author.Tests.{leb-true, le-leb, ltb-true, ltb-false, lt-ltb, le-ltb, 
 use Rattle.meaning.specs.Limits.{codeTest, limit}
 use Rattle.meaning.specs.Sound.{at, Sound, IsBracket, isEmpty, isFull, IsTerm, isSymbol, isBracket, capacity}
 use Rattle.words.specs.Second.{bracketTo}
-use Rattle.meaning.specs.Check.{topTest, Verdict, only, bracketTest, termTest, cellTest, damaged, lengthTest, verdictAt, check}
+use Rattle.meaning.specs.Check.{topTest, Verdict, only, bracketTest, termTest, cellTest, damaged, lengthTest}
+use Rattle.meaning.specs.Check.{verdictAt, check}
 use Rattle.meaning.proofs.Lists.{lt-or-ge}
 
 -- ---- one cell
@@ -23,8 +24,10 @@ unfolding bracketTest
 bracket-yes F lim a b q =
     go (eqb b (bracketTo 0)) (ltb b (bracketTo 0)) (ltb a F) (ltb (b - bracketTo 0) a) refl refl refl refl q
   where
-    go : (t u v w : Bool) → eqb b (bracketTo 0) ≡ t → ltb b (bracketTo 0) ≡ u → ltb a F ≡ v → ltb (b - bracketTo 0) a ≡ w
-        → cond t (eqb a 0) (cond u false (cond v false (cond w false (ltb (b - bracketTo 0) lim)))) ≡ true → IsBracket F lim a b
+    go : (t u v w : Bool) → eqb b (bracketTo 0) ≡ t → ltb b (bracketTo 0) ≡ u → ltb a F ≡ v
+        → ltb (b - bracketTo 0) a ≡ w
+        → cond t (eqb a 0) (cond u false (cond v false (cond w false (ltb (b - bracketTo 0) lim)))) ≡ true
+        → IsBracket F lim a b
     go true u v w e f g h r = rw (eqb-true a 0 r, eqb-true b (bracketTo 0) e) isEmpty
     go false true v w e f g h r = absurd (false≢true r)
     go false false true w e f g h r = absurd (false≢true r)
@@ -43,9 +46,12 @@ yes-bracket F lim (isFull {l} {r} x y z) = go (eqb (bracketTo r) (bracketTo 0)) 
     less = omega arith
 
     go : (t : Bool) → eqb (bracketTo r) (bracketTo 0) ≡ t
-        → cond t (eqb l 0) (cond (ltb (bracketTo r) (bracketTo 0)) false (cond (ltb l F) false (cond (ltb (bracketTo r - bracketTo 0) l) false (ltb (bracketTo r - bracketTo 0) lim)))) ≡ true
+        → cond t (eqb l 0) (cond (ltb (bracketTo r) (bracketTo 0)) false
+        (cond (ltb l F) false (cond (ltb (bracketTo r - bracketTo 0) l) false (ltb (bracketTo r - bracketTo 0) lim))))
+        ≡ true
     go true e = eq-eqb l 0 (omega (arith, eqb-true (bracketTo r) (bracketTo 0) e))
-    go false e = rw (less, le-ltb (bracketTo r) (bracketTo 0) (omega arith), le-ltb l F x, le-ltb r l y, lt-ltb r lim z) refl
+    go false e =
+        rw (less, le-ltb (bracketTo r) (bracketTo 0) (omega arith), le-ltb l F x, le-ltb r l y, lt-ltb r lim z) refl
 
 pub term-yes : (F c a b : ℕ) → termTest F c a b ≡ true → IsTerm F c a b
 unfolding termTest
@@ -81,7 +87,8 @@ module _ (F : ℕ) (ws : List ℕ) (top : ℕ) where
   damaged-low c zero = le-refl c
   damaged-low c (suc n) = go (test c) (damaged-low (suc c) n)
     where
-      go : (t : Bool) → suc c ≤ damaged F ws top (suc c) n → c ≤ elim t [ true ↦ damaged F ws top (suc c) n | false ↦ c ]
+      go : (t : Bool) → suc c ≤ damaged F ws top (suc c) n
+          → c ≤ elim t [ true ↦ damaged F ws top (suc c) n | false ↦ c ]
       go true h = omega arith
       go false h = le-refl c
 
@@ -90,7 +97,8 @@ module _ (F : ℕ) (ws : List ℕ) (top : ℕ) where
   damaged-before c zero x h l = absurd (omega arith)
   damaged-before c (suc n) x h l = go (test c) refl (damaged-before (suc c) n x) l
     where
-      go : (t : Bool) → test c ≡ t → (suc c ≤ x → x < damaged F ws top (suc c) n → test x ≡ true) → x < elim t [ true ↦ damaged F ws top (suc c) n | false ↦ c ] → test x ≡ true
+      go : (t : Bool) → test c ≡ t → (suc c ≤ x → x < damaged F ws top (suc c) n → test x ≡ true)
+          → x < elim t [ true ↦ damaged F ws top (suc c) n | false ↦ c ] → test x ≡ true
       go true q r m = pick (eq-or-lt-of-le h)
         where
           pick : (c ≡ x) ⊎ (c < x) → test x ≡ true
@@ -103,8 +111,10 @@ module _ (F : ℕ) (ws : List ℕ) (top : ℕ) where
   damaged-at c zero l = absurd (omega arith)
   damaged-at c (suc n) l = go (test c) refl (damaged-at (suc c) n) l
     where
-      go : (t : Bool) → test c ≡ t → (damaged F ws top (suc c) n < suc c + n → test (damaged F ws top (suc c) n) ≡ false)
-          → (elim t [ true ↦ damaged F ws top (suc c) n | false ↦ c ]) < c + suc n → test (elim t [ true ↦ damaged F ws top (suc c) n | false ↦ c ]) ≡ false
+      go : (t : Bool) → test c ≡ t
+          → (damaged F ws top (suc c) n < suc c + n → test (damaged F ws top (suc c) n) ≡ false)
+          → (elim t [ true ↦ damaged F ws top (suc c) n | false ↦ c ]) < c + suc n
+          → test (elim t [ true ↦ damaged F ws top (suc c) n | false ↦ c ]) ≡ false
       go true q r m = r (omega arith)
       go false q r m = q
 
@@ -116,13 +126,15 @@ module _ (F : ℕ) (ws : List ℕ) (top : ℕ) where
       rw (h c (le-refl c) (omega arith), damaged) (omega (arith, r))
 
   -- the tests, all passed, are soundness
-  pub tests-sound : lengthTest F (length ws) ≡ true → topTest F (capacity ws) top ≡ true → ((c : ℕ) → c < capacity ws → test c ≡ true) → Sound F ws top
+  pub tests-sound : lengthTest F (length ws) ≡ true → topTest F (capacity ws) top ≡ true
+      → ((c : ℕ) → c < capacity ws → test c ≡ true) → Sound F ws top
   unfolding lengthTest topTest cellTest
   tests-sound q r h =
       go (eqb (length ws % 2) 0) (ltb (length ws) (2 * F)) (ltb top F) refl refl refl q r
     where
       go : (t u v : Bool) → eqb (length ws % 2) 0 ≡ t → ltb (length ws) (2 * F) ≡ u → ltb top F ≡ v
-          → cond t (cond u false (leb (length ws) (2 * limit))) false ≡ true → cond v false (leb top (capacity ws)) ≡ true → Sound F ws top
+          → cond t (cond u false (leb (length ws) (2 * limit))) false ≡ true
+          → cond v false (leb top (capacity ws)) ≡ true → Sound F ws top
       go false u v a b c x y = absurd (false≢true x)
       go true true v a b c x y = absurd (false≢true x)
       go true false true a b c x y = absurd (false≢true y)
@@ -134,9 +146,12 @@ module _ (F : ℕ) (ws : List ℕ) (top : ℕ) where
             small = leb-true (length ws) (2 * limit) x;
             low = f;
             high = leb-true top (capacity ws) y;
-            registers = λ i l. bracket-yes F top (getD ws (2 * i) 0) (getD ws (2 * i + 1) 0) (rw (lt-ltb i F l) at (h i (omega (arith, ltb-false (length ws) (2 * F) b))));
-            heap = λ i k l. term-yes F i (getD ws (2 * i) 0) (getD ws (2 * i + 1) 0) (rw (le-ltb i F k, lt-ltb i top l) at (h i (omega (arith, leb-true top (capacity ws) y))));
-            free = λ i l k. two-zeros (getD ws (2 * i) 0) (getD ws (2 * i + 1) 0) (rw (le-ltb i F (omega arith), le-ltb i top l) at (h i k));
+            registers = λ i l. bracket-yes F top (getD ws (2 * i) 0) (getD ws (2 * i + 1) 0)
+                (rw (lt-ltb i F l) at (h i (omega (arith, ltb-false (length ws) (2 * F) b))));
+            heap = λ i k l. term-yes F i (getD ws (2 * i) 0) (getD ws (2 * i + 1) 0)
+                (rw (le-ltb i F k, lt-ltb i top l) at (h i (omega (arith, leb-true top (capacity ws) y))));
+            free = λ i l k. two-zeros (getD ws (2 * i) 0) (getD ws (2 * i + 1) 0)
+                (rw (le-ltb i F (omega arith), le-ltb i top l) at (h i k));
           }
 
   -- and back
@@ -144,7 +159,8 @@ module _ (F : ℕ) (ws : List ℕ) (top : ℕ) where
   unfolding cellTest
   sound-test s c h = go (lt-or-ge c F) (lt-or-ge c top)
     where
-      go : (c < F) ⊎ (F ≤ c) → (c < top) ⊎ (top ≤ c) → cellTest F top c (getD ws (2 * c) 0) (getD ws (2 * c + 1) 0) ≡ true
+      go : (c < F) ⊎ (F ≤ c) → (c < top) ⊎ (top ≤ c)
+          → cellTest F top c (getD ws (2 * c) 0) (getD ws (2 * c + 1) 0) ≡ true
       go (inl l) m = rw (lt-ltb c F l) (yes-bracket F top (s .registers c l))
       go (inr l) (inl m) = rw (le-ltb c F l, lt-ltb c top m) (yes-term F c (s .heap c l m))
       go (inr l) (inr m) = rw (le-ltb c F l, le-ltb c top m, s .free c m h .0, s .free c m h .1) refl
@@ -168,23 +184,29 @@ module _ (F : ℕ) (ws : List ℕ) (top : ℕ) where
   pub data Checks : Verdict → Type 0 where
     length-bad : lengthTest F (length ws) ≡ false → Checks (only 1)
     top-bad : lengthTest F (length ws) ≡ true → topTest F (capacity ws) top ≡ false → Checks (only 2)
-    cell-bad : (c : ℕ) → lengthTest F (length ws) ≡ true → topTest F (capacity ws) top ≡ true → c < capacity ws → test c ≡ false
+    cell-bad : (c : ℕ) → lengthTest F (length ws) ≡ true → topTest F (capacity ws) top ≡ true → c < capacity ws
+        → test c ≡ false
         → ((x : ℕ) → x < c → test x ≡ true) → Checks (record { status = 3; value = c })
     sound : Sound F ws top → Checks (only 0)
 
   pub checks : Checks (check F ws top)
   unfolding check verdictAt
-  checks = go (lengthTest F (length ws)) (topTest F (capacity ws) top) (ltb (damaged F ws top 0 (capacity ws)) (capacity ws)) refl refl refl
+  checks = go (lengthTest F (length ws)) (topTest F (capacity ws) top)
+      (ltb (damaged F ws top 0 (capacity ws)) (capacity ws)) refl refl refl
     where
-      go : (t u v : Bool) → lengthTest F (length ws) ≡ t → topTest F (capacity ws) top ≡ u → ltb (damaged F ws top 0 (capacity ws)) (capacity ws) ≡ v
-          → Checks (cond t (cond u (cond {A = Verdict} v (record { status = 3; value = damaged F ws top 0 (capacity ws) }) (only 0)) (only 2)) (only 1))
+      go : (t u v : Bool) → lengthTest F (length ws) ≡ t → topTest F (capacity ws) top ≡ u
+          → ltb (damaged F ws top 0 (capacity ws)) (capacity ws) ≡ v
+          → Checks (cond t (cond u (cond {A = Verdict} v
+          (record { status = 3; value = damaged F ws top 0 (capacity ws) }) (only 0)) (only 2)) (only 1))
       go false u v a b c = length-bad a
       go true false v a b c = top-bad a b
       go true true true a b c =
           let l = ltb-true (damaged F ws top 0 (capacity ws)) (capacity ws) c in
-          cell-bad (damaged F ws top 0 (capacity ws)) a b l (damaged-at 0 (capacity ws) (omega arith)) (λ x h. damaged-before 0 (capacity ws) x (omega arith) h)
+          cell-bad (damaged F ws top 0 (capacity ws)) a b l (damaged-at 0 (capacity ws) (omega arith))
+          (λ x h. damaged-before 0 (capacity ws) x (omega arith) h)
       go true true false a b c =
-          sound (tests-sound a b (λ x l. damaged-before 0 (capacity ws) x (omega arith) (omega (arith, ltb-false (damaged F ws top 0 (capacity ws)) (capacity ws) c))))
+          sound (tests-sound a b (λ x l. damaged-before 0 (capacity ws) x (omega arith)
+          (omega (arith, ltb-false (damaged F ws top 0 (capacity ws)) (capacity ws) c))))
 
   -- 0 is the answer for a sound store only
   pub check-sound : check F ws top .status ≡ 0 → Sound F ws top

@@ -14,14 +14,16 @@ pub lay-length : (k : ℕ → Cell) (xs : List ℕ) → length (lay k xs) ≡ 2 
 lay-length k [] = refl
 lay-length k (x ∷ xs) = omega (arith, lay-length k xs)
 
-pub lay-fst : (k : ℕ → Cell) (xs zs : List ℕ) (j : ℕ) → j < length xs → getD (lay k xs ++ zs) (2 * j) 0 ≡ fst (k (getD xs j 0))
+pub lay-fst : (k : ℕ → Cell) (xs zs : List ℕ) (j : ℕ) → j < length xs
+    → getD (lay k xs ++ zs) (2 * j) 0 ≡ fst (k (getD xs j 0))
 lay-fst k [] zs j h = absurd (not-suc-le-zero h)
 lay-fst k (x ∷ xs) zs zero h = refl
 lay-fst k (x ∷ xs) zs (suc j) h =
     let e : 2 * suc j ≡ suc (suc (2 * j)) = omega arith in
     rw e (lay-fst k xs zs j (le-of-suc-le-suc h))
 
-pub lay-snd : (k : ℕ → Cell) (xs zs : List ℕ) (j : ℕ) → j < length xs → getD (lay k xs ++ zs) (2 * j + 1) 0 ≡ snd (k (getD xs j 0))
+pub lay-snd : (k : ℕ → Cell) (xs zs : List ℕ) (j : ℕ) → j < length xs
+    → getD (lay k xs ++ zs) (2 * j + 1) 0 ≡ snd (k (getD xs j 0))
 lay-snd k [] zs j h = absurd (not-suc-le-zero h)
 lay-snd k (x ∷ xs) zs zero h = refl
 lay-snd k (x ∷ xs) zs (suc j) h =

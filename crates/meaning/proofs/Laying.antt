@@ -10,7 +10,8 @@ use Rattle.meaning.specs.Sound.{Cell, at, Sound}
 use Rattle.meaning.specs.Meaning.{inside, termOf, term, meaning}
 use Rattle.meaning.specs.Call.{put, copies}
 use Rattle.meaning.proofs.Cells.{TermIn, BracketIn, good}
-use Rattle.meaning.proofs.Writing.{length-put, at-put, at-put-other, copy-put, sound-top, termIn-wider, term-same, inside-same, term-law}
+use Rattle.meaning.proofs.Writing.{length-put, at-put, at-put-other, copy-put, sound-top, termIn-wider}
+use Rattle.meaning.proofs.Writing.{term-same, inside-same, term-law}
 
 pub record Extends (F : ℕ) (ws : List ℕ) (top : ℕ) (ws′ : List ℕ) (top′ : ℕ) : Type 0 where
   pub len : length ws′ ≡ length ws
@@ -41,10 +42,13 @@ module _ (F : ℕ) (ws : List ℕ) (top : ℕ) (p : 0 < F) (s : Sound F ws top) 
 
   module _ (ws′ : List ℕ) (top′ : ℕ) (x : Extends F ws top ws′ top′) where
     pub extends-term : (c : ℕ) → F ≤ c → c < top → term (at ws) (length ws) c ≡ term (at ws′) (length ws′) c
-    extends-term c f l = rw (x .len) (term-same F (at ws) (at ws′) top (good F ws top p s) (λ y g h. x .old y h) (length ws) c f l)
+    extends-term c f l =
+        rw (x .len) (term-same F (at ws) (at ws′) top (good F ws top p s) (λ y g h. x .old y h) (length ws) c f l)
 
-    pub extends-inside : (b : Cell) → BracketIn F top b → inside (term (at ws) (length ws)) b ≡ inside (term (at ws′) (length ws′)) b
-    extends-inside b t = rw (x .len) (inside-same F (at ws) (at ws′) top (good F ws top p s) (λ y g h. x .old y h) (length ws) b t)
+    pub extends-inside : (b : Cell) → BracketIn F top b
+        → inside (term (at ws) (length ws)) b ≡ inside (term (at ws′) (length ws′)) b
+    extends-inside b t =
+        rw (x .len) (inside-same F (at ws) (at ws′) top (good F ws top p s) (λ y g h. x .old y h) (length ws) b t)
 
     pub extends-meaning : (i : ℕ) → i < F → meaning ws′ i ≡ meaning ws i
     unfolding meaning
@@ -52,15 +56,18 @@ module _ (F : ℕ) (ws : List ℕ) (top : ℕ) (p : 0 < F) (s : Sound F ws top) 
         rw (x .old i (le-trans h (s .low))) (sym (extends-inside (at ws i) (good F ws top p s .regs i h)))
 
   -- two cells that are equal have one meaning
-  pub twin : (c y : ℕ) → F ≤ c → c < top → F ≤ y → y < top → at ws c ≡ at ws y → term (at ws) (length ws) c ≡ term (at ws) (length ws) y
+  pub twin : (c y : ℕ) → F ≤ c → c < top → F ≤ y → y < top → at ws c ≡ at ws y
+      → term (at ws) (length ws) c ≡ term (at ws) (length ws) y
   twin c y f l g h e =
-      term-law F ws top p s c f l ∙ (ap (λ (b : Cell). termOf (term (at ws) (length ws)) b) e ∙ sym (term-law F ws top p s y g h))
+      term-law F ws top p s c f l ∙ (ap (λ (b : Cell). termOf (term (at ws) (length ws)) b) e ∙ sym
+      (term-law F ws top p s y g h))
 
 pub record Copied (F : ℕ) (ws : List ℕ) (top x n : ℕ) (ws′ : List ℕ) : Type 0 where
   pub more : Extends F ws top ws′ (top + n)
   pub new : (j : ℕ) → j < n → at ws′ (top + j) ≡ at ws (x + j)
 
-copied-suc : (F : ℕ) (ws : List ℕ) (top x n : ℕ) (ws′ : List ℕ) (p : 0 < F) (s : Sound F ws top) → x < top → x + suc n ≤ top → 2 * suc top ≤ length ws → (t : TermIn F top (at ws x))
+copied-suc : (F : ℕ) (ws : List ℕ) (top x n : ℕ) (ws′ : List ℕ) (p : 0 < F) (s : Sound F ws top) → x < top
+    → x + suc n ≤ top → 2 * suc top ≤ length ws → (t : TermIn F top (at ws x))
     → Copied F (put ws top (at ws x)) (suc top) (suc x) n ws′ → Copied F ws top x (suc n) ws′
 copied-suc F ws top x n ws′ p s l m r t q = record {
   more = rw (add-suc top n, ← suc-add top n) (extends-trans (extends-put F ws top p s r (at ws x) t) (q .more));
@@ -75,12 +82,15 @@ copied-suc F ws top x n ws′ p s l m r t q = record {
         rw (add-suc top j, add-suc x j, ← suc-add top j, ← suc-add x j)
         (q .new j (le-of-suc-le-suc h) ∙ at-put-other ws top (at ws x) (suc x + j) (omega arith))
 
-pub copied : (F : ℕ) (ws : List ℕ) (top x n : ℕ) → 0 < F → Sound F ws top → F ≤ x → x + n ≤ top → 2 * (top + n) ≤ length ws → Copied F ws top x n (copies ws top x n)
-copied F ws top x zero p s f l r = record { more = rw (add-zero top) (extends-self F ws top p s); new = λ j h. absurd (not-suc-le-zero h) }
+pub copied : (F : ℕ) (ws : List ℕ) (top x n : ℕ) → 0 < F → Sound F ws top → F ≤ x → x + n ≤ top
+    → 2 * (top + n) ≤ length ws → Copied F ws top x n (copies ws top x n)
+copied F ws top x zero p s f l r =
+    record { more = rw (add-zero top) (extends-self F ws top p s); new = λ j h. absurd (not-suc-le-zero h) }
 copied F ws top x (suc n) p s f l r =
     let h : x < top = omega arith in
     let t = termIn-wider F x top (at ws x) (omega arith) (good F ws top p s .heap x f h) in
     let q : 2 * suc top ≤ length ws = omega arith in
     rw (copy-put F ws top top x p s h)
     (copied-suc F ws top x n (copies (put ws top (at ws x)) (suc top) (suc x) n) p s h l q t
-    (copied F (put ws top (at ws x)) (suc top) (suc x) n p (sound-top F ws top p s q (at ws x) t) (omega arith) (omega arith) (omega (arith, length-put ws top (at ws x)))))
+    (copied F (put ws top (at ws x)) (suc top) (suc x) n p (sound-top F ws top p s q (at ws x) t) (omega arith)
+    (omega arith) (omega (arith, length-put ws top (at ws x)))))

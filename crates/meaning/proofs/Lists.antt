@@ -49,7 +49,8 @@ below-low lo c (x ∷ xs) a h = rw (le-ltb x c (le-trans h (a .0))) (below-low (
 -- the place of a member
 pub place : (lo c : ℕ) (xs : List ℕ) → Asc lo xs → In c xs → (below c xs < length xs) × (getD xs (below c xs) 0 ≡ c)
 place lo c [] a i = absurd i
-place lo c (x ∷ xs) a (inl e) = rw (le-ltb x c (omega arith), below-low (suc x) c xs (a .1) (omega arith)) (omega arith, sym e)
+place lo c (x ∷ xs) a (inl e) =
+    rw (le-ltb x c (omega arith), below-low (suc x) c xs (a .1) (omega arith)) (omega arith, sym e)
 place lo c (x ∷ xs) a (inr i) =
     let p = place (suc x) c xs (a .1) i in
     rw (lt-ltb x c (asc-in (suc x) c xs (a .1) i)) (omega arith, p .1)
@@ -59,7 +60,8 @@ pub below-getD : (lo : ℕ) (xs : List ℕ) (j : ℕ) → Asc lo xs → j < leng
 below-getD lo [] j a h = absurd (not-suc-le-zero h)
 below-getD lo (x ∷ xs) zero a h = rw (le-ltb x x (le-refl x)) (below-low (suc x) x xs (a .1) (omega arith))
 below-getD lo (x ∷ xs) (suc j) a h =
-    rw (lt-ltb x (getD xs j 0) (asc-in (suc x) (getD xs j 0) xs (a .1) (in-getD xs j (le-of-suc-le-suc h)))) (ap suc (below-getD (suc x) xs j (a .1) (le-of-suc-le-suc h)))
+    rw (lt-ltb x (getD xs j 0) (asc-in (suc x) (getD xs j 0) xs (a .1) (in-getD xs j (le-of-suc-le-suc h))))
+    (ap suc (below-getD (suc x) xs j (a .1) (le-of-suc-le-suc h)))
 
 pub countIf-mono : (x c c′ : ℕ) {m n : ℕ} → c ≤ c′ → m ≤ n → countIf (ltb x c) m ≤ countIf (ltb x c′) n
 countIf-mono x c c′ {m} {n} h l = go (ltb x c) refl
@@ -79,29 +81,38 @@ below-mono (x ∷ xs) c c′ h = countIf-mono x c c′ h (below-mono xs c c′ h
 pub below-suc : (lo c : ℕ) (xs : List ℕ) → Asc lo xs → In c xs → below (suc c) xs ≡ suc (below c xs)
 below-suc lo c [] a i = absurd i
 below-suc lo c (x ∷ xs) a (inl e) =
-    rw (lt-ltb x (suc c) (omega arith), le-ltb x c (omega arith), below-low (suc x) (suc c) xs (a .1) (omega arith), below-low (suc x) c xs (a .1) (omega arith)) refl
+    rw (
+      lt-ltb x (suc c) (omega arith),
+      le-ltb x c (omega arith),
+      below-low (suc x) (suc c) xs (a .1) (omega arith),
+      below-low (suc x) c xs (a .1) (omega arith),
+    ) refl
 below-suc lo c (x ∷ xs) a (inr i) =
     let l = asc-in (suc x) c xs (a .1) i in
     rw (lt-ltb x (suc c) (omega arith), lt-ltb x c l) (ap suc (below-suc (suc x) c xs (a .1) i))
 
 -- along a run of members the count goes up by one a step
-pub below-run : (lo : ℕ) (xs : List ℕ) → Asc lo xs → (l n : ℕ) → ((j : ℕ) → j < n → In (l + j) xs) → below (l + n) xs ≡ below l xs + n
+pub below-run : (lo : ℕ) (xs : List ℕ) → Asc lo xs → (l n : ℕ) → ((j : ℕ) → j < n → In (l + j) xs)
+    → below (l + n) xs ≡ below l xs + n
 below-run lo xs a l zero h = rw (add-zero l) (sym (add-zero (below l xs)))
 below-run lo xs a l (suc n) h =
     rw (add-suc l n, add-suc (below l xs) n)
     (below-suc lo (l + n) xs a (h n (omega arith)) ∙ ap suc (below-run lo xs a l n (λ j p. h j (omega arith))))
 
 -- no member moves up
-below-le-at : (lo x c n : ℕ) (t : Bool) → ltb x c ≡ t → lo ≤ x → lo ≤ c → (x < c → suc x + n ≤ c) → (c ≤ x → n ≡ 0) → lo + countIf t n ≤ c
+below-le-at : (lo x c n : ℕ) (t : Bool) → ltb x c ≡ t → lo ≤ x → lo ≤ c → (x < c → suc x + n ≤ c) → (c ≤ x → n ≡ 0)
+    → lo + countIf t n ≤ c
 below-le-at lo x c n true e h l p q = omega (arith, p (ltb-true x c e))
 below-le-at lo x c n false e h l p q = omega (arith, q (ltb-false x c e))
 
 pub below-le : (lo c : ℕ) (xs : List ℕ) → Asc lo xs → lo ≤ c → lo + below c xs ≤ c
 below-le lo c [] a h = omega arith
 below-le lo c (x ∷ xs) a h =
-    below-le-at lo x c (below c xs) (ltb x c) refl (a .0) h (λ l. below-le (suc x) c xs (a .1) l) (λ l. below-low (suc x) c xs (a .1) (omega arith))
+    below-le-at lo x c (below c xs) (ltb x c) refl (a .0) h (λ l. below-le (suc x) c xs (a .1) l)
+    (λ l. below-low (suc x) c xs (a .1) (omega arith))
 
 -- there are no more of them than numbers between
 pub asc-length : (lo hi : ℕ) (xs : List ℕ) → Asc lo xs → lo ≤ hi → ((c : ℕ) → In c xs → c < hi) → lo + length xs ≤ hi
 asc-length lo hi [] a h b = omega arith
-asc-length lo hi (x ∷ xs) a h b = omega (arith, a .0, asc-length (suc x) hi xs (a .1) (b x (inl refl)) (λ c i. b c (inr i)))
+asc-length lo hi (x ∷ xs) a h b =
+    omega (arith, a .0, asc-length (suc x) hi xs (a .1) (b x (inl refl)) (λ c i. b c (inr i)))

@@ -41,7 +41,8 @@ module _ (F : ℕ) (ws : List ℕ) (top : ℕ) (p : 0 < F) (s : Sound F ws top) 
       (simp (length-take, length-drop) (omega (arith, fits h)))
 
   -- the words from the left end on
-  pub look-word : i < F → (k : ℕ) → k < 2 * size (at ws i) → getD (look F ws top i) k 0 ≡ getD ws (2 * start (at ws i) + k) 0
+  pub look-word : i < F → (k : ℕ) → k < 2 * size (at ws i)
+      → getD (look F ws top i) k 0 ≡ getD ws (2 * start (at ws i) + k) 0
   unfolding look spanOf
   look-word h k l =
       let m : k < 2 * start (at ws i) + 2 * size (at ws i) - 2 * start (at ws i) = omega arith in

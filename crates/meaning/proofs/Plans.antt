@@ -14,7 +14,8 @@ use Rattle.meaning.specs.Meaning.{meaning}
 use Rattle.meaning.specs.Reach.{live}
 use Rattle.meaning.specs.Collected.{collected, collectedTop}
 use Rattle.meaning.specs.Check.{Done, only, refused}
-use Rattle.meaning.specs.Call.{Op, Plan, plain, gathered, making, sought, lacks, roomWords, roomTop, withRoom, carry}
+use Rattle.meaning.specs.Call.{Op, Plan, plain, gathered, making, sought, lacks, roomWords, roomTop, withRoom}
+use Rattle.meaning.specs.Call.{carry}
 use Rattle.meaning.specs.Effect.{does, orElse, after, answer}
 use Rattle.meaning.proofs.Lists.{In}
 use Rattle.meaning.proofs.Reaching.{live-le}
@@ -54,7 +55,8 @@ planTop F (plain act) ws top = top
 planTop F (gathered act) ws top = collectedTop F ws top
 planTop F (making n v act) ws top = roomTop F n v top + n
 
--- `top` after a call, by its status: x where it is done, y, the collected store's, where it is refused with 16, else as it was
+-- `top` after a call, by its status: x where it is done, y, the collected store's, where it is refused with 16, else
+-- as it was
 abbrev pub topAfter : ℕ → ℕ → ℕ → ℕ → ℕ
 topAfter zero x y top = x
 topAfter (suc s) x y top = cond (eqb s 15) y top
@@ -67,9 +69,11 @@ WordsAfter (suc s) ws ws₁ ws′ = ws′ ≡ cond (eqb s 15) ws₁ ws
 pub record Meets (F : ℕ) (ws : List ℕ) (top : ℕ) (o : Op) (d a b : ℕ) (plan : Plan) (r : Done) : Type 0 where
   pub sound : Sound F (r .words) (r .top)
   pub len : length (r .words) ≡ length ws
-  pub status : r .verdict .status ≡ orElse (does o (meaning ws) (live F ws top) d a b .unfit) (cond (planLacks F plan ws top) 16 0)
+  pub status : r .verdict .status ≡ orElse (does o (meaning ws) (live F ws top) d a b .unfit)
+      (cond (planLacks F plan ws top) 16 0)
   pub value : r .verdict .value ≡ answer (r .verdict .status) (does o (meaning ws) (live F ws top) d a b)
-  pub registers : (i : ℕ) → i < F → meaning (r .words) i ≡ after (r .verdict .status) (does o (meaning ws) (live F ws top) d a b) (meaning ws) i
+  pub registers : (i : ℕ) → i < F
+      → meaning (r .words) i ≡ after (r .verdict .status) (does o (meaning ws) (live F ws top) d a b) (meaning ws) i
   pub tops : r .top ≡ topAfter (r .verdict .status) (planTop F plan ws top) (collectedTop F ws top) top
   pub left : WordsAfter (r .verdict .status) ws (collected F ws top) (r .words)
 
@@ -113,13 +117,19 @@ module _ (F : ℕ) (n : ℕ) (ws : List ℕ) (top : ℕ) (p : 0 < F) (s : Sound 
 
 -- ---- as the code goes about it: a test of `top`, then one of the collected store's
 
-module _ (F : ℕ) (n : ℕ) (v : List ℕ) (top : ℕ) (p : 0 < F) (s : Sound F v top) (act : List ℕ → ℕ → Done) (ws : List ℕ) where
+module _ (F : ℕ) (n : ℕ) (v : List ℕ) (top : ℕ) (p : 0 < F) (s : Sound F v top) (act : List ℕ → ℕ → Done)
+    (ws : List ℕ) where
   pub as-it-is : ltb (capacity v) (top + n) ≡ false → withRoom F n v act ws top ≡ act v top
   unfolding withRoom lacks roomWords roomTop
-  as-it-is e = rw (e, le-ltb (capacity v) (F + live F v top + n) (omega (arith, ltb-false (capacity v) (top + n) e, live-le F v top p s))) refl
+  as-it-is e = rw (
+    e,
+    le-ltb (capacity v) (F + live F v top + n)
+        (omega (arith, ltb-false (capacity v) (top + n) e, live-le F v top p s)),
+  ) refl
 
   pub once-collected : ltb (capacity v) (top + n) ≡ true
-      → withRoom F n v act ws top ≡ cond (ltb (capacity v) (collectedTop F v top + n)) (refused (collected F ws top) (collectedTop F ws top) (only 16)) (act (collected F v top) (collectedTop F v top))
+      → withRoom F n v act ws top ≡ cond (ltb (capacity v) (collectedTop F v top + n))
+      (refused (collected F ws top) (collectedTop F ws top) (only 16)) (act (collected F v top) (collectedTop F v top))
   unfolding withRoom lacks roomWords roomTop collectedTop
   once-collected e = rw e refl
 
@@ -128,13 +138,17 @@ module _ (F : ℕ) (n : ℕ) (v : List ℕ) (top : ℕ) (p : 0 < F) (s : Sound F
 module _ (F : ℕ) (ws : List ℕ) (top : ℕ) (p : 0 < F) (s : Sound F ws top) (o : Op) (d a b : ℕ) where
   abbrev pub Does : Plan → Type 0
   Does (plain act) = Acts F (meaning ws) (live F ws top) o d a b 0 ws top (act ws top)
-  Does (gathered act) = (does o (meaning ws) (live F ws top) d a b .unfit ≡ 0) × Acts F (meaning ws) (live F ws top) o d a b 0 (collected F ws top) (collectedTop F ws top) (act (collected F ws top) (collectedTop F ws top))
+  Does (gathered act) = (does o (meaning ws) (live F ws top) d a b .unfit ≡ 0) × Acts F (meaning ws) (live F ws top) o
+      d a b 0 (collected F ws top) (collectedTop F ws top) (act (collected F ws top) (collectedTop F ws top))
   Does (making n v act) =
       (does o (meaning ws) (live F ws top) d a b .unfit ≡ 0) × Sound F v top × (length v ≡ length ws)
-      × ((u : List ℕ) (t : ℕ) → Sound F u t → Denote F u (meaning v) → 2 * (t + n) ≤ length u → Acts F (meaning ws) (live F ws top) o d a b n u t (act u t))
+      × ((u : List ℕ) (t : ℕ) → Sound F u t → Denote F u (meaning v) → 2 * (t + n) ≤ length u → Acts F (meaning ws)
+      (live F ws top) o d a b n u t (act u t))
 
   -- done without fail, in a store v with its `top` t
-  done-meets : (plan : Plan) (n : ℕ) (v : List ℕ) (t : ℕ) (r : Done) → length v ≡ length ws → planTop F plan ws top ≡ t + n → planLacks F plan ws top ≡ false → does o (meaning ws) (live F ws top) d a b .unfit ≡ 0
+  done-meets : (plan : Plan) (n : ℕ) (v : List ℕ) (t : ℕ) (r : Done) → length v ≡ length ws
+      → planTop F plan ws top ≡ t + n → planLacks F plan ws top ≡ false
+      → does o (meaning ws) (live F ws top) d a b .unfit ≡ 0
       → Acts F (meaning ws) (live F ws top) o d a b n v t r → Meets F ws top o d a b plan r
   done-meets plan n v t r l y k z m =
       let u = m .status ∙ z in
@@ -148,7 +162,8 @@ module _ (F : ℕ) (ws : List ℕ) (top : ℕ) (p : 0 < F) (s : Sound F ws top) 
         left = rw u tt;
       }
 
-  plain-meets : (act : List ℕ → ℕ → Done) (r : Done) → Acts F (meaning ws) (live F ws top) o d a b 0 ws top r → (u : ℕ) → does o (meaning ws) (live F ws top) d a b .unfit ≡ u → Meets F ws top o d a b (plain act) r
+  plain-meets : (act : List ℕ → ℕ → Done) (r : Done) → Acts F (meaning ws) (live F ws top) o d a b 0 ws top r
+      → (u : ℕ) → does o (meaning ws) (live F ws top) d a b .unfit ≡ u → Meets F ws top o d a b (plain act) r
   unfolding planTop planLacks
   plain-meets act r m zero z = done-meets (plain act) 0 ws top r refl (sym (add-zero top)) refl z m
   plain-meets act r m (suc u) z =
@@ -168,10 +183,15 @@ module _ (F : ℕ) (ws : List ℕ) (top : ℕ) (p : 0 < F) (s : Sound F ws top) 
   unfolding carry withRoom planTop planLacks refused only
   carry-meets (plain act) m = plain-meets act (act ws top) m (does o (meaning ws) (live F ws top) d a b .unfit) refl
   carry-meets (gathered act) m =
-      done-meets (gathered act) 0 (collected F ws top) (collectedTop F ws top) (act (collected F ws top) (collectedTop F ws top)) (length-collected F ws top p s) (sym (add-zero (collectedTop F ws top))) refl (m .0) (m .1)
+      done-meets (gathered act) 0 (collected F ws top) (collectedTop F ws top)
+      (act (collected F ws top) (collectedTop F ws top)) (length-collected F ws top p s)
+      (sym (add-zero (collectedTop F ws top))) refl (m .0) (m .1)
   carry-meets (making n v act) m = go (lacks F n v top) refl
     where
-      go : (t : Bool) → lacks F n v top ≡ t → Meets F ws top o d a b (making n v act) (cond t (refused (collected F ws top) (collectedTop F ws top) (only 16)) (act (roomWords F n v top) (roomTop F n v top)))
+      go : (t : Bool) → lacks F n v top ≡ t
+          → Meets F ws top o d a b (making n v act) (cond t
+          (refused (collected F ws top) (collectedTop F ws top) (only 16))
+          (act (roomWords F n v top) (roomTop F n v top)))
       go true l = record {
         sound = collected-sound F ws top p s;
         len = length-collected F ws top p s;
@@ -182,5 +202,7 @@ module _ (F : ℕ) (ws : List ℕ) (top : ℕ) (p : 0 < F) (s : Sound F ws top) 
         left = refl;
       }
       go false l =
-          done-meets (making n v act) n (roomWords F n v top) (roomTop F n v top) (act (roomWords F n v top) (roomTop F n v top)) (room-length F n v top p (m .1) ∙ m .2) refl l (m .0)
-          (m .3 (roomWords F n v top) (roomTop F n v top) (room-sound F n v top p (m .1)) (room-denote F n v top p (m .1)) (room-fits F n v top p (m .1) l))
+          done-meets (making n v act) n (roomWords F n v top) (roomTop F n v top)
+          (act (roomWords F n v top) (roomTop F n v top)) (room-length F n v top p (m .1) ∙ m .2) refl l (m .0)
+          (m .3 (roomWords F n v top) (roomTop F n v top) (room-sound F n v top p (m .1))
+          (room-denote F n v top p (m .1)) (room-fits F n v top p (m .1) l))

@@ -10,7 +10,8 @@ use native.Mathlib.Omega.{arith}
 use lib.Dec.{leb}
 use borrow.Author.Tests.{leb-true, le-leb}
 use Rattle.meaning.specs.Sound.{Cell, code, hollow, ends, at, Sound}
-use Rattle.meaning.specs.Reach.{Between, Reached, byRegister, byBracket, between, heldBelow, heldIn, consIf, reachedOf, reached, live}
+use Rattle.meaning.specs.Reach.{Between, Reached, byRegister, byBracket, between, heldBelow, heldIn, consIf}
+use Rattle.meaning.specs.Reach.{reachedOf, reached, live}
 use Rattle.meaning.proofs.Lists.{In, Asc, asc-weaken, asc-length}
 use Rattle.meaning.proofs.Cells.{Good, TermIn, BracketIn, good}
 
@@ -47,7 +48,8 @@ below-to : (k : ℕ → Cell) (n c : ℕ) → heldBelow k n c ≡ true → (i : 
 below-to k zero c e = absurd (false≢true e)
 below-to k (suc n) c e = go (or-cases (between (k n) c) (heldBelow k n c) e) (below-to k n c)
   where
-    go : (between (k n) c ≡ true) ⊎ (heldBelow k n c ≡ true) → (heldBelow k n c ≡ true → (i : ℕ) × (i < n) × Between (k i) c) → (i : ℕ) × (i < suc n) × Between (k i) c
+    go : (between (k n) c ≡ true) ⊎ (heldBelow k n c ≡ true)
+        → (heldBelow k n c ≡ true → (i : ℕ) × (i < n) × Between (k i) c) → (i : ℕ) × (i < suc n) × Between (k i) c
     go (inl p) r = (n, omega arith, between-to (k n) c p)
     go (inr p) r = let q = r p in (q .0, omega (arith, q .1), q .2)
 
@@ -55,7 +57,8 @@ below-of : (k : ℕ → Cell) (n c i : ℕ) → i < n → Between (k i) c → he
 below-of k zero c i l h = absurd (not-suc-le-zero l)
 below-of k (suc n) c i l h = go (eq-or-lt-of-le (le-of-suc-le-suc l)) (below-of k n c i)
   where
-    go : (i ≡ n) ⊎ (i < n) → (i < n → Between (k i) c → heldBelow k n c ≡ true) → (between (k n) c || heldBelow k n c) ≡ true
+    go : (i ≡ n) ⊎ (i < n) → (i < n → Between (k i) c → heldBelow k n c ≡ true)
+        → (between (k n) c || heldBelow k n c) ≡ true
     go (inl e) r = or-left (between (k n) c) (heldBelow k n c) (between-of (k n) c (rw e at h))
     go (inr q) r = or-right (between (k n) c) (heldBelow k n c) (r q h)
 
@@ -63,7 +66,8 @@ in-to : (k : ℕ → Cell) (bs : List ℕ) (c : ℕ) → heldIn k bs c ≡ true 
 in-to k [] c e = absurd (false≢true e)
 in-to k (x ∷ bs) c e = go (or-cases (between (k x) c) (heldIn k bs c) e) (in-to k bs c)
   where
-    go : (between (k x) c ≡ true) ⊎ (heldIn k bs c ≡ true) → (heldIn k bs c ≡ true → (b : ℕ) × In b bs × Between (k b) c) → (b : ℕ) × In b (x ∷ bs) × Between (k b) c
+    go : (between (k x) c ≡ true) ⊎ (heldIn k bs c ≡ true)
+        → (heldIn k bs c ≡ true → (b : ℕ) × In b bs × Between (k b) c) → (b : ℕ) × In b (x ∷ bs) × Between (k b) c
     go (inl p) r = (x, inl refl, between-to (k x) c p)
     go (inr p) r = let q = r p in (q .0, inr (q .1), q .2)
 
@@ -88,7 +92,8 @@ asc-consIf false lo x xs h a = asc-weaken (suc x) lo xs (omega arith) a
 -- ---- the list
 
 module _ (F : ℕ) (k : ℕ → Cell) (top : ℕ) where
-  step-to : (n c : ℕ) → ((b : ℕ) → In b (reachedOf F k top n) → Reached F k b) → (heldBelow k F c || heldIn k (reachedOf F k top n) c) ≡ true → Reached F k c
+  step-to : (n c : ℕ) → ((b : ℕ) → In b (reachedOf F k top n) → Reached F k b)
+      → (heldBelow k F c || heldIn k (reachedOf F k top n) c) ≡ true → Reached F k c
   step-to n c r e = go (or-cases (heldBelow k F c) (heldIn k (reachedOf F k top n) c) e)
     where
       go : (heldBelow k F c ≡ true) ⊎ (heldIn k (reachedOf F k top n) c ≡ true) → Reached F k c
@@ -99,9 +104,11 @@ module _ (F : ℕ) (k : ℕ → Cell) (top : ℕ) where
   pub listed-reached : (n c : ℕ) → In c (reachedOf F k top n) → Reached F k c
   listed-reached zero c i = absurd i
   listed-reached (suc n) c i =
-      go (consIf-in (heldBelow k F (top - suc n) || heldIn k (reachedOf F k top n) (top - suc n)) c (top - suc n) (reachedOf F k top n) i) (listed-reached n)
+      go (consIf-in (heldBelow k F (top - suc n) || heldIn k (reachedOf F k top n) (top - suc n)) c (top - suc n)
+      (reachedOf F k top n) i) (listed-reached n)
     where
-      go : (((heldBelow k F (top - suc n) || heldIn k (reachedOf F k top n) (top - suc n)) ≡ true) × (c ≡ top - suc n)) ⊎ In c (reachedOf F k top n)
+      go : (((heldBelow k F (top - suc n) || heldIn k (reachedOf F k top n) (top - suc n)) ≡ true) ×
+          (c ≡ top - suc n)) ⊎ In c (reachedOf F k top n)
           → ((b : ℕ) → In b (reachedOf F k top n) → Reached F k b) → Reached F k c
       go (inl p) r = rw (p .1) (step-to n (top - suc n) r (p .0))
       go (inr j) r = r c j
@@ -109,15 +116,18 @@ module _ (F : ℕ) (k : ℕ → Cell) (top : ℕ) where
   pub listed-asc : (n : ℕ) → n ≤ top → Asc (top - n) (reachedOf F k top n)
   listed-asc zero h = tt
   listed-asc (suc n) h =
-      asc-consIf (heldBelow k F (top - suc n) || heldIn k (reachedOf F k top n) (top - suc n)) (top - suc n) (top - suc n) (reachedOf F k top n) (le-refl (top - suc n))
+      asc-consIf (heldBelow k F (top - suc n) || heldIn k (reachedOf F k top n) (top - suc n)) (top - suc n)
+      (top - suc n) (reachedOf F k top n) (le-refl (top - suc n))
       (asc-weaken (top - n) (suc (top - suc n)) (reachedOf F k top n) (omega arith) (listed-asc n (omega arith)))
 
   pub listed-below : (n c : ℕ) → n ≤ top → In c (reachedOf F k top n) → c < top
   listed-below zero c h i = absurd i
   listed-below (suc n) c h i =
-      go (consIf-in (heldBelow k F (top - suc n) || heldIn k (reachedOf F k top n) (top - suc n)) c (top - suc n) (reachedOf F k top n) i) (listed-below n c (omega arith))
+      go (consIf-in (heldBelow k F (top - suc n) || heldIn k (reachedOf F k top n) (top - suc n)) c (top - suc n)
+      (reachedOf F k top n) i) (listed-below n c (omega arith))
     where
-      go : (((heldBelow k F (top - suc n) || heldIn k (reachedOf F k top n) (top - suc n)) ≡ true) × (c ≡ top - suc n)) ⊎ In c (reachedOf F k top n)
+      go : (((heldBelow k F (top - suc n) || heldIn k (reachedOf F k top n) (top - suc n)) ≡ true) ×
+          (c ≡ top - suc n)) ⊎ In c (reachedOf F k top n)
           → (In c (reachedOf F k top n) → c < top) → c < top
       go (inl p) r = omega (arith, p .1)
       go (inr j) r = r j
@@ -146,11 +156,14 @@ module _ (F : ℕ) (k : ℕ → Cell) (top : ℕ) where
     holder-above {b} {c} r h = let p = reached-heap r in between-term (k b) b c (g .heap b (p .0) (p .1)) h .1
 
     -- what is reached is listed
-    here : (n c : ℕ) → c ≡ top - suc n → n < top → Reached F k c → ((b : ℕ) → Reached F k b → top - n ≤ b → In b (reachedOf F k top n))
+    here : (n c : ℕ) → c ≡ top - suc n → n < top → Reached F k c
+        → ((b : ℕ) → Reached F k b → top - n ≤ b → In b (reachedOf F k top n))
         → (heldBelow k F c || heldIn k (reachedOf F k top n) c) ≡ true
-    here n c e l (byRegister i p h) r = or-left (heldBelow k F c) (heldIn k (reachedOf F k top n) c) (below-of k F c i p h)
+    here n c e l (byRegister i p h) r =
+        or-left (heldBelow k F c) (heldIn k (reachedOf F k top n) c) (below-of k F c i p h)
     here n c e l (byBracket b q h) r =
-        or-right (heldBelow k F c) (heldIn k (reachedOf F k top n) c) (in-of k (reachedOf F k top n) c b (r b q (omega (arith, holder-above q h))) h)
+        or-right (heldBelow k F c) (heldIn k (reachedOf F k top n) c)
+        (in-of k (reachedOf F k top n) c b (r b q (omega (arith, holder-above q h))) h)
 
     consIf-here : (t : Bool) (c x : ℕ) (xs : List ℕ) → t ≡ true → c ≡ x → In c (consIf t x xs)
     consIf-here true c x xs e f = inl f
@@ -160,23 +173,32 @@ module _ (F : ℕ) (k : ℕ → Cell) (top : ℕ) where
     reached-listed zero c l r h = absurd (let p = reached-heap r .1 in omega arith)
     reached-listed (suc n) c l r h = go (eq-or-lt-of-le h) (λ b q m. reached-listed n b (omega arith) q m)
       where
-        go : (top - suc n ≡ c) ⊎ (top - suc n < c) → ((b : ℕ) → Reached F k b → top - n ≤ b → In b (reachedOf F k top n)) → In c (reachedOf F k top (suc n))
+        go : (top - suc n ≡ c) ⊎ (top - suc n < c)
+            → ((b : ℕ) → Reached F k b → top - n ≤ b → In b (reachedOf F k top n)) → In c (reachedOf F k top (suc n))
         go (inl e) i =
-            consIf-here (heldBelow k F (top - suc n) || heldIn k (reachedOf F k top n) (top - suc n)) c (top - suc n) (reachedOf F k top n)
+            consIf-here (heldBelow k F (top - suc n) || heldIn k (reachedOf F k top n) (top - suc n)) c (top - suc n)
+            (reachedOf F k top n)
             (here n (top - suc n) refl l (rw e r) i) (sym e)
-        go (inr m) i = in-consIf (heldBelow k F (top - suc n) || heldIn k (reachedOf F k top n) (top - suc n)) c (top - suc n) (reachedOf F k top n) (i c r (omega arith))
+        go (inr m) i = in-consIf (heldBelow k F (top - suc n) || heldIn k (reachedOf F k top n) (top - suc n)) c
+            (top - suc n) (reachedOf F k top n) (i c r (omega arith))
 
 -- ---- of a sound store
 
 module _ (F : ℕ) (ws : List ℕ) (top : ℕ) (p : 0 < F) (s : Sound F ws top) where
   -- the computed list and the wording agree
-  pub listed-iff : (c : ℕ) → (In c (reached F ws top) → Reached F (at ws) c) × (Reached F (at ws) c → In c (reached F ws top))
+  pub listed-iff : (c : ℕ)
+      → (In c (reached F ws top) → Reached F (at ws) c) × (Reached F (at ws) c → In c (reached F ws top))
   unfolding reached
-  listed-iff c = (listed-reached F (at ws) top (top - F) c, λ r. reached-listed F (at ws) top (good F ws top p s) (top - F) c (omega arith) r (omega (arith, s .low, reached-heap F (at ws) top (good F ws top p s) r .0)))
+  listed-iff c = (
+    listed-reached F (at ws) top (top - F) c,
+    λ r. reached-listed F (at ws) top (good F ws top p s)
+        (top - F) c (omega arith) r (omega (arith, s .low, reached-heap F (at ws) top (good F ws top p s) r .0)),
+  )
 
   pub reached-asc : Asc F (reached F ws top)
   unfolding reached
-  reached-asc = asc-weaken (top - (top - F)) F (reachedOf F (at ws) top (top - F)) (omega (arith, s .low)) (listed-asc F (at ws) top (top - F) (omega arith))
+  reached-asc = asc-weaken (top - (top - F)) F (reachedOf F (at ws) top (top - F)) (omega (arith, s .low))
+      (listed-asc F (at ws) top (top - F) (omega arith))
 
   pub reached-below : (c : ℕ) → In c (reached F ws top) → c < top
   unfolding reached

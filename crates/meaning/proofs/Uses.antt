@@ -11,7 +11,8 @@ use native.Mathlib.Nat.{eq-or-lt-of-le, le-of-suc-le-suc}
 use borrow.Author.Tests.{leb-false, ltb-false, eqb-true}
 use Rattle.meaning.specs.Limits.{codeTest}
 use Rattle.meaning.specs.Sound.{IsCode}
-use Rattle.meaning.specs.Call.{Op, CLEAR, COPY, SYMBOL, WRAP, JOIN, HEAD, REST, OPEN, LENGTH, FIRST, LIVE, COLLECT, ops, uses, wrong11, wrong12, wrong13, fault, opAt}
+use Rattle.meaning.specs.Call.{Op, CLEAR, COPY, SYMBOL, WRAP, JOIN, HEAD, REST, OPEN, LENGTH, FIRST, LIVE}
+use Rattle.meaning.specs.Call.{COLLECT, ops, uses, wrong11, wrong12, wrong13, fault, opAt}
 
 -- ---- the table's row of an operation
 
@@ -48,7 +49,8 @@ pub all-at : (f : ℕ → Bool) (n o : ℕ) → allBelow f n ≡ true → o < n 
 all-at f zero o e h = absurd (omega arith)
 all-at f (suc n) o e h = go (f n) refl e (eq-or-lt-of-le (le-of-suc-le-suc h)) (all-at f n o)
   where
-    go : (t : Bool) → f n ≡ t → (t && allBelow f n) ≡ true → (o ≡ n) ⊎ (o < n) → (allBelow f n ≡ true → o < n → f o ≡ true) → f o ≡ true
+    go : (t : Bool) → f n ≡ t → (t && allBelow f n) ≡ true → (o ≡ n) ⊎ (o < n)
+        → (allBelow f n ≡ true → o < n → f o ≡ true) → f o ≡ true
     go true q r (inl x) k = rw x q
     go true q r (inr x) k = k r x
     go false q r x k = absurd (false≢true r)
@@ -79,9 +81,14 @@ right F o d a b q =
     let u = getD uses (3 * o) 0 in
     let v = getD uses (3 * o + 1) 0 in
     let w = getD uses (3 * o + 2) 0 in
-    let x₁₀ = cond-zero (ltb 11 o) 9 (cond (wrong11 F u d || wrong11 F v a || wrong11 F w b) 11 (cond (wrong12 u d || wrong12 v a || wrong12 w b) 12 (cond (wrong13 u d || wrong13 v a || wrong13 w b) 13 0))) q in
-    let x₁₁ = cond-zero (wrong11 F u d || wrong11 F v a || wrong11 F w b) 10 (cond (wrong12 u d || wrong12 v a || wrong12 w b) 12 (cond (wrong13 u d || wrong13 v a || wrong13 w b) 13 0)) (x₁₀ .1) in
-    let x₁₂ = cond-zero (wrong12 u d || wrong12 v a || wrong12 w b) 11 (cond (wrong13 u d || wrong13 v a || wrong13 w b) 13 0) (x₁₁ .1) in
+    let x₁₀ = cond-zero (ltb 11 o) 9 (cond (wrong11 F u d || wrong11 F v a || wrong11 F w b) 11
+    (cond (wrong12 u d || wrong12 v a || wrong12 w b) 12 (cond (wrong13 u d || wrong13 v a || wrong13 w b) 13 0)))
+    q in
+    let x₁₁ = cond-zero (wrong11 F u d || wrong11 F v a || wrong11 F w b) 10
+    (cond (wrong12 u d || wrong12 v a || wrong12 w b) 12 (cond (wrong13 u d || wrong13 v a || wrong13 w b) 13 0))
+    (x₁₀ .1) in
+    let x₁₂ = cond-zero (wrong12 u d || wrong12 v a || wrong12 w b) 11
+    (cond (wrong13 u d || wrong13 v a || wrong13 w b) 13 0) (x₁₁ .1) in
     let x₁₃ = cond-zero (wrong13 u d || wrong13 v a || wrong13 w b) 12 0 (x₁₂ .1) in
     let y = or-false (wrong11 F u d || wrong11 F v a) (wrong11 F w b) (x₁₁ .0) in
     let z = or-false (wrong11 F u d) (wrong11 F v a) (y .0) in

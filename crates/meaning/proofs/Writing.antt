@@ -13,7 +13,8 @@ use Rattle.meaning.specs.Sound.{Cell, code, hollow, ends, fst, snd, at, 
 use Rattle.meaning.specs.Meaning.{inside, termOf, term, meaning}
 use Rattle.meaning.specs.Call.{put, copy}
 use Rattle.meaning.proofs.Lists.{lt-or-ge}
-use Rattle.meaning.proofs.Cells.{Good, TermIn, BracketIn, term-of-bracket, good, read, read-words, is-bracket, is-term, bracket-words, term-words}
+use Rattle.meaning.proofs.Cells.{Good, TermIn, BracketIn, term-of-bracket, good, read, read-words, is-bracket}
+use Rattle.meaning.proofs.Cells.{is-term, bracket-words, term-words}
 use Rattle.meaning.proofs.Terms.{run-ext, term-depth}
 
 -- ---- words
@@ -25,19 +26,23 @@ module _ (ws : List ℕ) (c : ℕ) (b : Cell) where
 
   pub put-other : (i : ℕ) → i ≢ 2 * c → i ≢ 2 * c + 1 → getD (put ws c b) i 0 ≡ getD ws i 0
   unfolding put
-  put-other i p q = getD-set-other (set ws (2 * c) (fst b)) (2 * c + 1) i (snd b) 0 q ∙ getD-set-other ws (2 * c) i (fst b) 0 p
+  put-other i p q =
+      getD-set-other (set ws (2 * c) (fst b)) (2 * c + 1) i (snd b) 0 q ∙ getD-set-other ws (2 * c) i (fst b) 0 p
 
   pub put-one : 2 * c + 1 < length ws → getD (put ws c b) (2 * c) 0 ≡ fst b
   unfolding put
-  put-one h = getD-set-other (set ws (2 * c) (fst b)) (2 * c + 1) (2 * c) (snd b) 0 (omega arith) ∙ getD-set-same ws (2 * c) (fst b) 0 (omega arith)
+  put-one h = getD-set-other (set ws (2 * c) (fst b)) (2 * c + 1) (2 * c) (snd b) 0 (omega arith) ∙ getD-set-same ws
+      (2 * c) (fst b) 0 (omega arith)
 
   pub put-two : 2 * c + 1 < length ws → getD (put ws c b) (2 * c + 1) 0 ≡ snd b
   unfolding put
-  put-two h = getD-set-same (set ws (2 * c) (fst b)) (2 * c + 1) (snd b) 0 (omega (arith, length-set ws (2 * c) (fst b)))
+  put-two h =
+      getD-set-same (set ws (2 * c) (fst b)) (2 * c + 1) (snd b) 0 (omega (arith, length-set ws (2 * c) (fst b)))
 
   pub at-put-other : (x : ℕ) → x ≢ c → at (put ws c b) x ≡ at ws x
   unfolding at
-  at-put-other x p = rw (put-other (2 * x) (omega arith) (omega arith), put-other (2 * x + 1) (omega arith) (omega arith)) refl
+  at-put-other x p =
+      rw (put-other (2 * x) (omega arith) (omega arith), put-other (2 * x + 1) (omega arith) (omega arith)) refl
 
   pub at-put : (F lim : ℕ) → 0 < F → 2 * c + 1 < length ws → TermIn F lim b → at (put ws c b) c ≡ b
   unfolding at read
@@ -77,9 +82,14 @@ module _ (F : ℕ) (ws : List ℕ) (top : ℕ) (p : 0 < F) (s : Sound F ws top) 
     reg-registers i h = go (lt-or-ge i d) (lt-or-ge d i)
       where
         other : i ≢ d → IsBracket F top (getD (put ws d b) (2 * i) 0) (getD (put ws d b) (2 * i + 1) 0)
-        other n = rw (put-other ws d b (2 * i) (omega arith) (omega arith), put-other ws d b (2 * i + 1) (omega arith) (omega arith)) (s .registers i h)
+        other n = rw (
+          put-other ws d b (2 * i) (omega arith) (omega arith),
+          put-other ws d b (2 * i + 1) (omega arith)
+              (omega arith),
+        ) (s .registers i h)
 
-        go : (i < d) ⊎ (d ≤ i) → (d < i) ⊎ (i ≤ d) → IsBracket F top (getD (put ws d b) (2 * i) 0) (getD (put ws d b) (2 * i + 1) 0)
+        go : (i < d) ⊎ (d ≤ i) → (d < i) ⊎ (i ≤ d)
+            → IsBracket F top (getD (put ws d b) (2 * i) 0) (getD (put ws d b) (2 * i + 1) 0)
         go (inl x) y = other (omega arith)
         go (inr x) (inl y) = other (omega arith)
         go (inr x) (inr y) =
@@ -95,20 +105,33 @@ module _ (F : ℕ) (ws : List ℕ) (top : ℕ) (p : 0 < F) (s : Sound F ws top) 
       low = s .low;
       high = rw (length-put ws d b) (s .high);
       registers = reg-registers;
-      heap = λ c f h. rw (put-other ws d b (2 * c) (omega arith) (omega arith), put-other ws d b (2 * c + 1) (omega arith) (omega arith)) (s .heap c f h);
-      free = λ c f h. rw (put-other ws d b (2 * c) (omega (arith, s .low)) (omega (arith, s .low)), put-other ws d b (2 * c + 1) (omega (arith, s .low)) (omega (arith, s .low))) (s .free c f (rw (length-put ws d b) at h));
+      heap = λ c f h. rw (
+        put-other ws d b (2 * c) (omega arith) (omega arith),
+        put-other ws d b (2 * c + 1)
+            (omega arith) (omega arith),
+      ) (s .heap c f h);
+      free = λ c f h. rw (
+        put-other ws d b (2 * c) (omega (arith, s .low)) (omega (arith, s .low)),
+        put-other ws d b
+            (2 * c + 1) (omega (arith, s .low)) (omega (arith, s .low)),
+      ) (s .free c f (rw (length-put ws d b) at h));
     }
 
   -- the first free cell
   module _ (r : 2 * suc top ≤ length ws) (b : Cell) (t : TermIn F top b) where
-    top-heap : (c : ℕ) → F ≤ c → c < suc top → IsTerm F c (getD (put ws top b) (2 * c) 0) (getD (put ws top b) (2 * c + 1) 0)
+    top-heap : (c : ℕ) → F ≤ c → c < suc top
+        → IsTerm F c (getD (put ws top b) (2 * c) 0) (getD (put ws top b) (2 * c + 1) 0)
     top-heap c f h = go (eq-or-lt-of-le (le-of-suc-le-suc h))
       where
         go : (c ≡ top) ⊎ (c < top) → IsTerm F c (getD (put ws top b) (2 * c) 0) (getD (put ws top b) (2 * c + 1) 0)
         go (inl e) =
             let q : 2 * top + 1 < length ws = omega arith in
             rw (e, put-one ws top b q, put-two ws top b q) (is-term F top b t)
-        go (inr l) = rw (put-other ws top b (2 * c) (omega arith) (omega arith), put-other ws top b (2 * c + 1) (omega arith) (omega arith)) (s .heap c f l)
+        go (inr l) = rw (
+          put-other ws top b (2 * c) (omega arith) (omega arith),
+          put-other ws top b (2 * c + 1)
+              (omega arith) (omega arith),
+        ) (s .heap c f l)
 
     pub sound-top : Sound F (put ws top b) (suc top)
     sound-top = record {
@@ -117,19 +140,30 @@ module _ (F : ℕ) (ws : List ℕ) (top : ℕ) (p : 0 < F) (s : Sound F ws top) 
       small = rw (length-put ws top b) (s .small);
       low = omega (arith, s .low);
       high = rw (length-put ws top b) (omega arith);
-      registers = λ i h. rw (put-other ws top b (2 * i) (omega (arith, s .low)) (omega (arith, s .low)), put-other ws top b (2 * i + 1) (omega (arith, s .low)) (omega (arith, s .low))) (bracket-wider F (omega arith) (s .registers i h));
+      registers = λ i h. rw (
+        put-other ws top b (2 * i) (omega (arith, s .low)) (omega (arith, s .low)),
+        put-other ws
+            top b (2 * i + 1) (omega (arith, s .low)) (omega (arith, s .low)),
+      )
+          (bracket-wider F (omega arith) (s .registers i h));
       heap = top-heap;
-      free = λ c f h. rw (put-other ws top b (2 * c) (omega arith) (omega arith), put-other ws top b (2 * c + 1) (omega arith) (omega arith)) (s .free c (omega arith) (rw (length-put ws top b) at h));
+      free = λ c f h. rw (
+        put-other ws top b (2 * c) (omega arith) (omega arith),
+        put-other ws top b (2 * c + 1)
+            (omega arith) (omega arith),
+      ) (s .free c (omega arith) (rw (length-put ws top b) at h));
     }
 
 -- ---- meaning
 
 module _ (F : ℕ) (k k′ : ℕ → Cell) (top : ℕ) (g : Good F k top) (same : (c : ℕ) → F ≤ c → c < top → k′ c ≡ k c) where
-  termOf-same : (n lim : ℕ) (b : Cell) → lim ≤ top → TermIn F lim b → ((c : ℕ) → F ≤ c → c < top → term k n c ≡ term k′ n c) → termOf (term k n) b ≡ termOf (term k′ n) b
+  termOf-same : (n lim : ℕ) (b : Cell) → lim ≤ top → TermIn F lim b
+      → ((c : ℕ) → F ≤ c → c < top → term k n c ≡ term k′ n c) → termOf (term k n) b ≡ termOf (term k′ n) b
   termOf-same n lim (code a) l t r = refl
   termOf-same n lim hollow l t r = refl
   termOf-same n lim (ends x y) l t r =
-      ap (λ (z : Expr). Expr.parens z Expr.nothing) (run-ext (term k n) (term k′ n) x x (suc y - x) (λ j h. r (x + j) (omega (arith, t .0)) (omega (arith, t .1, t .2))))
+      ap (λ (z : Expr). Expr.parens z Expr.nothing) (run-ext (term k n) (term k′ n) x x (suc y - x)
+      (λ j h. r (x + j) (omega (arith, t .0)) (omega (arith, t .1, t .2))))
 
   -- the meaning of a heap cell depends on heap cells only
   pub term-same : (n c : ℕ) → F ≤ c → c < top → term k n c ≡ term k′ n c
@@ -140,12 +174,14 @@ module _ (F : ℕ) (k k′ : ℕ → Cell) (top : ℕ) (g : Good F k top) (same 
   inside-same n (code a) t = refl
   inside-same n hollow t = refl
   inside-same n (ends x y) t =
-      run-ext (term k n) (term k′ n) x x (suc y - x) (λ j h. term-same n (x + j) (omega (arith, t .0)) (omega (arith, t .1, t .2)))
+      run-ext (term k n) (term k′ n) x x (suc y - x) (λ j h. term-same n (x + j) (omega (arith, t .0))
+      (omega (arith, t .1, t .2)))
 
 -- the equation of terms, without depth
 module _ (F : ℕ) (ws : List ℕ) (top : ℕ) (p : 0 < F) (s : Sound F ws top) where
   pub term-law : (c : ℕ) → F ≤ c → c < top → term (at ws) (length ws) c ≡ termOf (term (at ws) (length ws)) (at ws c)
-  term-law c f l = term-depth F (at ws) top (good F ws top p s) (length ws) (suc (length ws)) c f l (omega (arith, s .high)) (omega (arith, s .high))
+  term-law c f l = term-depth F (at ws) top (good F ws top p s) (length ws) (suc (length ws)) c f l
+      (omega (arith, s .high)) (omega (arith, s .high))
 
   -- a register set to a bracket b denotes what is inside b, and no other register changes
   module _ (d : ℕ) (l : d < F) (b : Cell) (t : BracketIn F top b) where
@@ -162,4 +198,5 @@ module _ (F : ℕ) (ws : List ℕ) (top : ℕ) (p : 0 < F) (s : Sound F ws top) 
     unfolding meaning
     meaning-other i h n =
         rw (length-put ws d b, at-put-other ws d b i n)
-        (sym (inside-same F (at ws) (at (put ws d b)) top (good F ws top p s) heap-same (length ws) (at ws i) (good F ws top p s .regs i h)))
+        (sym (inside-same F (at ws) (at (put ws d b)) top (good F ws top p s) heap-same (length ws) (at ws i)
+        (good F ws top p s .regs i h)))

@@ -12,7 +12,8 @@
 --   Program    what the program writes for what it reads
 --   Rows       the worked stores P1 to P8, as one table
 -- Everything is over the first heap cell F as a parameter. In a signature `ws` are the store's words and `c` is a cell.
--- Names of laws end in -same, -other (after a cell is put), -length, -kept (unchanged), -mono, -step (one turn), -unique, -iff.
+-- Names of laws end in -same, -other (after a cell is put), -length, -kept (unchanged), -mono, -step (one turn),
+-- -unique, -iff.
 pub mod Limits
 pub mod Expr
 pub mod Sound

@@ -23,7 +23,8 @@ termOf t (code a) = symbol a nothing
 termOf t hollow = parens nothing nothing
 termOf t (ends l r) = parens (run t l (suc r - l)) nothing
 
--- The term of a cell, through at most n brackets. References point down, so in a sound store no more than c brackets lie
+-- The term of a cell, through at most n brackets. References point down, so in a sound store no more than c brackets
+-- lie
 -- within one another in cell c, and n makes no difference from c + 1 on (`term-depth`).
 abbrev pub term : (ℕ → Cell) → ℕ → ℕ → Expr
 term k zero c = nothing

@@ -38,7 +38,8 @@ abbrev pub consIf : Bool → ℕ → List ℕ → List ℕ
 consIf true c cs = c ∷ cs
 consIf false c cs = cs
 
--- The reached ones of the n cells below `top`, in order. Only registers and higher cells hold a cell, so one pass downward
+-- The reached ones of the n cells below `top`, in order. Only registers and higher cells hold a cell, so one pass
+-- downward
 -- finds them.
 abbrev pub reachedOf : ℕ → (ℕ → Cell) → ℕ → ℕ → List ℕ
 reachedOf F k top zero = []

@@ -9,7 +9,8 @@ use Rattle.meaning.specs.Check.{Verdict, check, Done, fresh, hollows, co
 use Rattle.meaning.specs.Batch.{Ran, runs}
 use Rattle.meaning.specs.Program.{program, decimal, bytesOf}
 
--- a store and `top`, then: the calls, the answers, the store and `top` after them; or the store and `top` once collected, with
+-- a store and `top`, then: the calls, the answers, the store and `top` after them; or the store and `top` once
+-- collected, with
 -- live; or the check's status and value. Or what the program reads, and what it writes.
 pub data Row : Type 0 where
   runsTo : List ℕ → ℕ → List ℕ → List ℕ → List ℕ → ℕ → Row
@@ -51,14 +52,16 @@ p1 =
 -- the lines `0 0`, `0 0`, `0 0`, `16 0`, `0 0`, `0 0`, `16 0`, `0 0`, `0 3`, and `top ` before its number
 unfoldable pub p1Lines : List ℕ
 p1Lines =
-    48 ∷ 32 ∷ 48 ∷ 10 ∷ 48 ∷ 32 ∷ 48 ∷ 10 ∷ 48 ∷ 32 ∷ 48 ∷ 10 ∷ 49 ∷ 54 ∷ 32 ∷ 48 ∷ 10 ∷ 48 ∷ 32 ∷ 48 ∷ 10 ∷ 48 ∷ 32 ∷ 48 ∷
+    48 ∷ 32 ∷ 48 ∷ 10 ∷ 48 ∷ 32 ∷ 48 ∷ 10 ∷ 48 ∷ 32 ∷ 48 ∷ 10 ∷ 49 ∷ 54 ∷ 32 ∷ 48 ∷ 10 ∷ 48 ∷ 32 ∷ 48 ∷ 10 ∷ 48 ∷ 32 ∷
+    48 ∷
     10 ∷ 49 ∷ 54 ∷ 32 ∷ 48 ∷ 10 ∷ 48 ∷ 32 ∷ 48 ∷ 10 ∷ 48 ∷ 32 ∷ 51 ∷ 10 ∷ 116 ∷ 111 ∷ 112 ∷ 32 ∷ []
 
 -- (B C D)(A B C) of 001, section 2, before and after it is collected
 unfoldable pub p2 : ℕ → List ℕ
 p2 F =
     (5 + F) ∷ bracketTo (6 + F) ∷ hollows (F - 1) ++
-    (70 ∷ 0 ∷ 65 ∷ 0 ∷ 66 ∷ 0 ∷ 67 ∷ 0 ∷ 68 ∷ 0 ∷ (2 + F) ∷ bracketTo (4 + F) ∷ (1 + F) ∷ bracketTo (3 + F) ∷ 0 ∷ 0 ∷ [])
+    (70 ∷ 0 ∷ 65 ∷ 0 ∷ 66 ∷ 0 ∷ 67 ∷ 0 ∷ 68 ∷ 0 ∷ (2 + F) ∷ bracketTo (4 + F) ∷ (1 + F) ∷ bracketTo (3 + F) ∷ 0 ∷ 0 ∷
+    [])
 
 unfoldable pub p3 : ℕ → List ℕ
 p3 F =
@@ -85,9 +88,11 @@ rows F =
     collectsTo (p2 F) (7 + F) 6 (p3 F) (6 + F) ∷
     collectsTo (p3 F) (6 + F) 6 (p3 F) (6 + F) ∷
     -- P4: SYMBOL 0 1, WRAP 0 0, JOIN 0 0 0
-    runsTo (fresh F F) F (2 ∷ 0 ∷ 1 ∷ 0 ∷ 3 ∷ 0 ∷ 0 ∷ 0 ∷ 4 ∷ 0 ∷ 0 ∷ 0 ∷ []) (16 ∷ 0 ∷ 16 ∷ 0 ∷ 0 ∷ 0 ∷ []) (fresh F F) F ∷
+    runsTo (fresh F F) F (2 ∷ 0 ∷ 1 ∷ 0 ∷ 3 ∷ 0 ∷ 0 ∷ 0 ∷ 4 ∷ 0 ∷ 0 ∷ 0 ∷ []) (16 ∷ 0 ∷ 16 ∷ 0 ∷ 0 ∷ 0 ∷ [])
+    (fresh F F) F ∷
     -- P5
-    runsTo (fresh F (1 + F)) F (2 ∷ 0 ∷ 268435455 ∷ 0 ∷ 2 ∷ 0 ∷ 268435456 ∷ 0 ∷ []) (0 ∷ 0 ∷ 13 ∷ 0 ∷ []) (lone F 268435455) (1 + F) ∷
+    runsTo (fresh F (1 + F)) F (2 ∷ 0 ∷ 268435455 ∷ 0 ∷ 2 ∷ 0 ∷ 268435456 ∷ 0 ∷ []) (0 ∷ 0 ∷ 13 ∷ 0 ∷ [])
+    (lone F 268435455) (1 + F) ∷
     -- P6
     checksTo (p6 F F (1 + F)) (3 + F) 0 0 ∷
     checksTo (p6 F F (2 + F)) (3 + F) 3 (2 + F) ∷
@@ -98,7 +103,8 @@ rows F =
     -- P8
     runsTo (fresh F F) F (12 ∷ 99 ∷ 0 ∷ 0 ∷ []) (10 ∷ 0 ∷ []) (fresh F F) F ∷
     -- of the rows marked "run only": CLEAR of the last register, of one more, and with a third word of 1
-    runsTo (fresh F F) F (0 ∷ (F - 1) ∷ 0 ∷ 0 ∷ 0 ∷ F ∷ 0 ∷ 0 ∷ 0 ∷ 0 ∷ 1 ∷ 0 ∷ []) (0 ∷ 0 ∷ 11 ∷ 0 ∷ 12 ∷ 0 ∷ []) (fresh F F) F ∷ []
+    runsTo (fresh F F) F (0 ∷ (F - 1) ∷ 0 ∷ 0 ∷ 0 ∷ F ∷ 0 ∷ 0 ∷ 0 ∷ 0 ∷ 1 ∷ 0 ∷ []) (0 ∷ 0 ∷ 11 ∷ 0 ∷ 12 ∷ 0 ∷ [])
+    (fresh F F) F ∷ []
 
 -- every row holds
 abbrev pub RowsRight : ℕ → Type 0
