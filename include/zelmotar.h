@@ -1,0 +1,146 @@
+/* zelmotar.h: the expression store of Zelmotar, for C and C++.
+ *
+ * The functions below are those of the proved library. This file is written by hand: nothing checks it
+ * against the library but the tests that link both.
+ *
+ * A store is n words that the caller lends, two words to a cell, and a number top. Cells 0 to 15 are the
+ * registers, and the cells from 16 up to but not including top are occupied. A register holds an
+ * expression: terms in order, each a symbol with a code or a bracket around an expression.
+ *
+ *   second word 0                    a symbol; the first word is its code, at most ZELMOTAR_MOST_CODE
+ *   second word 2147483648           an empty bracket or register; the first word is 0
+ *   second word 2147483648 plus r    a bracket or register around the cells l to r; the first word is l
+ *
+ * Both ends are inclusive. A register's ends lie between 16 and top, those of a bracket in cell c between
+ * 16 and c. Cells from top on are zero. A store that keeps all these rules is sound.
+ *
+ * What holds for all five functions:
+ *
+ *   - They take any words, any top and any register, and refuse by number what is not in order. A store
+ *     need not be checked before it is lent; each function checks it.
+ *   - A pointer must lead to as many words as its count says, aligned as uint32_t is. It must not be null,
+ *     not even where the count is 0; it may then lead anywhere.
+ *   - Word lists that are lent to one call must not overlap.
+ *   - They read and write nothing outside the words lent, keep no pointer, hold no state between calls,
+ *     allocate nothing, print nothing and call nothing back. Calls on different stores may run at the same
+ *     time in different threads; calls on one store may not, unless both only read.
+ *   - Wherever the status is 1 to 5, no word is changed.
+ *   - A collection uses no memory that grows with the store, neither beside it nor on the stack.
+ */
+#ifndef ZELMOTAR_H
+#define ZELMOTAR_H
+
+#include <stddef.h>
+#include <stdint.h>
+
+#ifdef __cplusplus
+extern "C" {
+#endif
+
+/* Limits. */
+#define ZELMOTAR_REGISTERS 16         /* registers, and so the address of the first heap cell */
+#define ZELMOTAR_LEAST_WORDS 32       /* words of the smallest store, 16 cells */
+#define ZELMOTAR_MOST_WORDS 8192      /* words of the largest store, 4,096 cells */
+#define ZELMOTAR_MOST_CALL_WORDS 4096 /* words of the longest call list, 1,024 calls */
+#define ZELMOTAR_MOST_CODE 268435455  /* the largest code of a symbol */
+
+/* What a function answers. Status and value are named with each function; top is the end of the occupied
+ * cells afterwards, in cells, and goes into the next call on the same store. */
+typedef struct {
+    uint32_t status;
+    uint32_t value;
+    size_t top;
+} zelmotar_answer;
+
+/* A part of a store, as offsets in words: words[from] up to but not including words[to]. */
+typedef struct {
+    size_t from;
+    size_t to;
+} zelmotar_span;
+
+/* Status of a whole request. The first that applies is given. */
+enum {
+    ZELMOTAR_DONE = 0,        /* done */
+    ZELMOTAR_BAD_LENGTH = 1,  /* n is odd, under 32 or over 8,192; value 0 */
+    ZELMOTAR_BAD_TOP = 2,     /* top is under 16 or over n / 2; value 0 */
+    ZELMOTAR_DAMAGED = 3,     /* a cell breaks its rule; value: the first such cell, lowest address */
+    ZELMOTAR_BAD_CALLS = 4,   /* the call list is over 4,096 words or not a multiple of four; value 0 */
+    ZELMOTAR_BAD_ANSWERS = 5  /* the answer space is under two words a call; value 0 */
+};
+
+/* Status of one call in a batch: ZELMOTAR_DONE, or the first of these that applies. A refused call has
+ * value 0, and later calls go on. All but ZELMOTAR_NO_ROOM change no word of the store. */
+enum {
+    ZELMOTAR_BAD_OPERATION = 10, /* the operation is over 11 */
+    ZELMOTAR_BAD_REGISTER = 11,  /* a register word that the call uses is over 15 */
+    ZELMOTAR_STRAY_WORD = 12,    /* a word that the call does not use is not 0 */
+    ZELMOTAR_BAD_CODE = 13,      /* SYMBOL with a code over 268,435,455 */
+    ZELMOTAR_EMPTY = 14,         /* HEAD, REST, OPEN or FIRST on an empty register */
+    ZELMOTAR_WRONG_KIND = 15,    /* OPEN on a symbol, or FIRST on a bracket */
+    ZELMOTAR_NO_ROOM = 16        /* no room for the new cells; the store is left collected */
+};
+
+/* Operations. A call is four words: operation, d, a, b. Words that are not named here must be 0. Registers
+ * may coincide. A shared expression takes no new cells. */
+enum {
+    ZELMOTAR_CLEAR = 0,   /* d        register d becomes empty */
+    ZELMOTAR_COPY = 1,    /* d a      d becomes a, shared */
+    ZELMOTAR_SYMBOL = 2,  /* d a      d becomes the one symbol with code a; 1 new cell */
+    ZELMOTAR_WRAP = 3,    /* d a      d becomes one bracket around a; 1 new cell */
+    ZELMOTAR_JOIN = 4,    /* d a b    d becomes a then b. If a is empty b is shared, else if b is empty a is
+                           *          shared, else there is a new cell for each term of both */
+    ZELMOTAR_HEAD = 5,    /* d a      d becomes the first term of a, shared */
+    ZELMOTAR_REST = 6,    /* d a      d becomes a less its first term, shared */
+    ZELMOTAR_OPEN = 7,    /* d a      d becomes the contents of a's first term, shared */
+    ZELMOTAR_LENGTH = 8,  /* a        value: the number of terms of a, those inside brackets not counted */
+    ZELMOTAR_FIRST = 9,   /* a        value: the code of a's first term */
+    ZELMOTAR_LIVE = 10,   /*          value: the number of live cells, those that some register reaches */
+    ZELMOTAR_COLLECT = 11 /*          collects the store; value: the number of live cells */
+};
+
+/* Checks a store.
+ *
+ * Reads the n words. Writes nothing.
+ * Answers ZELMOTAR_DONE with value 0 if the store is sound, else ZELMOTAR_BAD_LENGTH, ZELMOTAR_BAD_TOP or
+ * ZELMOTAR_DAMAGED with the values named there. top comes back as it came. */
+zelmotar_answer zelmotar_check(const uint32_t *words, size_t n, size_t top);
+
+/* Writes a fresh store: sixteen empty registers and zeros after them, whatever the words held.
+ *
+ * Writes all n words, or none.
+ * Answers ZELMOTAR_DONE with value 0 and top 16, or ZELMOTAR_BAD_LENGTH with value 0 and top 0. */
+zelmotar_answer zelmotar_fresh(uint32_t *words, size_t n);
+
+/* Collects a store: live cells close up in their order from cell 16 on, every reference follows, and what
+ * comes after them is zero. Registers keep their expressions, and shared cells stay shared.
+ *
+ * Reads and writes the n words.
+ * Answers ZELMOTAR_DONE with the number of live cells as value and 16 more than it as top; else, as
+ * zelmotar_check does, ZELMOTAR_BAD_LENGTH, ZELMOTAR_BAD_TOP or ZELMOTAR_DAMAGED, with top as it came. */
+zelmotar_answer zelmotar_collect(uint32_t *words, size_t n, size_t top);
+
+/* Runs a batch of calls, in order.
+ *
+ * Reads the n words and the calls_n words of the call list, four to a call. Writes the n words and all
+ * answers_n words of the answer space: for call i, its status at 2 * i and its value at 2 * i + 1; words
+ * after those of the last call become 0. The call list is not written.
+ * New cells are laid from top upward. Only where they would not fit is the store collected, and only if
+ * they do not fit then is the call refused with ZELMOTAR_NO_ROOM.
+ * Answers ZELMOTAR_DONE with value 0 and the new top once every call has its answer, refused ones too;
+ * else one of ZELMOTAR_BAD_LENGTH to ZELMOTAR_BAD_ANSWERS, and then no call is run and top comes back as it
+ * came. A batch of no calls is done and changes no word of the store. */
+zelmotar_answer zelmotar_run(uint32_t *words, size_t n, size_t top, const uint32_t *calls, size_t calls_n,
+                             uint32_t *answers, size_t answers_n);
+
+/* Looks at a register: the part of the lent words that holds its cells, whole cells in their order.
+ *
+ * Reads the n words. Writes nothing.
+ * from and to are both 0 where the register is empty or over 15, or the store is not sound; zelmotar_check
+ * tells which. The offsets hold until the store is next written. */
+zelmotar_span zelmotar_look(const uint32_t *words, size_t n, size_t top, size_t reg);
+
+#ifdef __cplusplus
+}
+#endif
+
+#endif

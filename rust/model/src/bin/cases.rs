@@ -1,0 +1,196 @@
+//! Random cases for the definitions, as a module of antt: stores, calls, answer spaces and inputs
+//! with what the model makes of them.
+//!
+//! `cases COUNT` writes the module to standard output. The definitions compute each case when the
+//! module is checked. A group of cases is one theorem, so that a refusal names its group.
+
+use std::fmt::Write;
+use zelmotar_model::make::{self, Runs};
+use zelmotar_model::plain::{self, Reply, HEAP};
+use zelmotar_model::random::Random;
+
+/// The cases of one theorem.
+const GROUP: usize = 20;
+
+/// Stores stay small: the definitions are computed by unfolding, which is slow on long lists.
+const MOST_CELLS: usize = 30;
+
+/// Everything before the cases: their type, and the test of each kind.
+const HEAD: &str = "\
+-- Random cases, written by a program from the model. Assumes nothing.
+use mathlib.Core.Bool.{Bool, true, false, _&&_}
+use mathlib.Core.List.{List, [], _∷_}
+use Prim.Native.Nat.{ℕ}
+use lib.Dec.{eqb, T}
+use Rattle.meaning.specs.Limits.{firstCell, limit, codeTest, callsLimit, programCells, programBytes}
+use Rattle.meaning.specs.Sound.{at}
+use Rattle.meaning.specs.Reach.{reached, live}
+use Rattle.meaning.specs.Collected.{newAddress, collectedOf, collected, collectedTop}
+use Rattle.meaning.specs.Check.{Verdict, Done, only, done, refused, bracketTest, termTest, cellTest, lengthTest, topTest}
+use Rattle.meaning.specs.Check.{verdictAt, check, fresh, freshIn, collectIn, Span, spanOf, lookSpan}
+use Rattle.meaning.specs.Call.{ops, opAt, uses, wrong11, wrong12, wrong13, fault, put, copy, share, head, rest}
+use Rattle.meaning.specs.Call.{openTerm, openFirst, codeTerm, codeFirst, newSymbol, newBracket, newRunOf, newRun}
+use Rattle.meaning.specs.Call.{sought, planOf, lacks, roomWords, roomTop, withRoom, carry, perform, stepAfter, step}
+use Rattle.meaning.specs.Batch.{then, Outcome, asLent, ended, callsTest, batchOf, batch}
+use Rattle.meaning.specs.Program.{decimal, written, refusal, served, program}
+use Rattle.meaning.specs.Rows.{same}
+
+data Case : Type 0 where
+  batches : List ℕ → ℕ → List ℕ → List ℕ → ℕ → ℕ → List ℕ → ℕ → List ℕ → Case
+  collects : List ℕ → ℕ → ℕ → ℕ → List ℕ → ℕ → Case
+  makes : List ℕ → ℕ → List ℕ → ℕ → Case
+  looks : List ℕ → ℕ → ℕ → ℕ → ℕ → Case
+  writes : List ℕ → List ℕ → Case
+
+verdict : Verdict → ℕ → ℕ → Bool
+verdict v s n = eqb (v .status) s && eqb (v .value) n
+
+outcome : Outcome → ℕ → ℕ → List ℕ → ℕ → List ℕ → Bool
+outcome r s v ws top answers =
+    verdict (r .verdict) s v && same (r .words) ws && eqb (r .top) top && same (r .answers) answers
+
+left : Done → ℕ → ℕ → List ℕ → ℕ → Bool
+left r s v ws top = verdict (r .verdict) s v && same (r .words) ws && eqb (r .top) top
+
+span : Span → ℕ → ℕ → Bool
+span s from to = eqb (s .from) from && eqb (s .to) to
+
+right : Case → Bool
+right (batches ws top calls out s v ws′ top′ answers) =
+    outcome (batch firstCell ws top calls out) s v ws′ top′ answers
+right (collects ws top s v ws′ top′) = left (collectIn firstCell ws top) s v ws′ top′
+right (makes ws s ws′ top′) = left (freshIn firstCell ws) s 0 ws′ top′
+right (looks ws top i from to) = span (lookSpan firstCell ws top i) from to
+right (writes input output) = same (program firstCell input) output
+
+every : List Case → Bool
+every [] = true
+every (c ∷ cs) = right c && every cs
+";
+
+/// The definitions that the cases unfold.
+const UNFOLDING: &str = "\
+unfolding limit codeTest callsLimit programCells programBytes at reached live newAddress collectedOf collected
+    collectedTop only done refused bracketTest termTest cellTest lengthTest topTest verdictAt check fresh freshIn
+    collectIn spanOf lookSpan ops opAt uses wrong11 wrong12 wrong13 fault put copy share head rest openTerm openFirst
+    codeTerm codeFirst newSymbol newBracket newRunOf newRun sought planOf lacks roomWords roomTop withRoom carry
+    perform stepAfter step then asLent ended callsTest batchOf batch decimal written refusal served program verdict
+    outcome left span right every";
+
+/// A list of numbers in antt.
+fn list<T: std::fmt::Display>(numbers: &[T]) -> String {
+    let mut text = String::from("(");
+    for number in numbers {
+        write!(text, "{number} ∷ ").expect("a string takes all text");
+    }
+    text + "[])"
+}
+
+/// A store of few cells, sound or damaged.
+fn store(random: &mut Random) -> (Vec<u32>, usize) {
+    let capacity = random.within(HEAP..=MOST_CELLS);
+    let (mut words, mut top) = make::sound(random, capacity, Runs::Any);
+    if random.one_in(4) {
+        make::damage(random, &mut words, &mut top);
+        words.truncate(2 * MOST_CELLS + 3);
+    }
+    (words, top)
+}
+
+/// A batch: what is lent, and what the model leaves.
+fn batch(random: &mut Random) -> String {
+    let (mut words, top) = store(random);
+    let count = random.below(10);
+    let mut calls = make::calls(random, count);
+    if random.one_in(10) {
+        calls.resize(calls.len() + random.below(4), 0);
+    }
+    let mut answers = make::answers(random, calls.len());
+    let lent = format!("{} {} {} {}", list(&words), top, list(&calls), list(&answers));
+    let Reply { status, value, top } = plain::run(&mut words, top, &calls, &mut answers);
+    format!("batches {lent} {status} {value} {} {top} {}", list(&words), list(&answers))
+}
+
+/// A collection alone.
+fn collection(random: &mut Random) -> String {
+    let (mut words, top) = store(random);
+    let lent = format!("{} {}", list(&words), top);
+    let Reply { status, value, top } = plain::collect(&mut words, top);
+    format!("collects {lent} {status} {value} {} {top}", list(&words))
+}
+
+/// A fresh store over words of any kind.
+fn fresh(random: &mut Random) -> String {
+    let length = random.below(2 * MOST_CELLS + 4);
+    let mut words: Vec<u32> = (0..length).map(|_| random.word()).collect();
+    let lent = list(&words);
+    let Reply { status, top, .. } = plain::fresh(&mut words);
+    format!("makes {lent} {status} {} {top}", list(&words))
+}
+
+/// A look at a register, or at a number that is none.
+fn look(random: &mut Random) -> String {
+    let (words, top) = store(random);
+    let register = random.below(HEAP + 3);
+    let (from, to) = plain::look(&words, top, register);
+    format!("looks {} {top} {register} {from} {to}", list(&words))
+}
+
+/// The little-endian word that four bytes spell.
+fn word(bytes: &[u8]) -> u32 {
+    u32::from_le_bytes(bytes.try_into().expect("four bytes"))
+}
+
+/// What the program has to write: the batch on a fresh store, or a refusal.
+fn written(input: &[u8]) -> String {
+    let capacity = input.get(..4).map_or(0, |bytes| word(bytes) as usize);
+    if !(HEAP..=4096).contains(&capacity) {
+        return "refused 1 0\n".into();
+    }
+    if input.len() > 16388 || (input.len() - 4) % 16 != 0 {
+        return "refused 4 0\n".into();
+    }
+    let calls: Vec<u32> = input[4..].chunks(4).map(word).collect();
+    let (mut words, mut answers) = (vec![0; 2 * capacity], vec![0; calls.len() / 2]);
+    let top = plain::fresh(&mut words).top;
+    let reply = plain::run(&mut words, top, &calls, &mut answers);
+    let lines: String = answers.chunks(2).map(|a| format!("{} {}\n", a[0], a[1])).collect();
+    format!("{lines}top {}\n", reply.top)
+}
+
+/// The program's bytes for a short input, whole, cut short or with a bad capacity.
+fn program(random: &mut Random) -> String {
+    let capacity = random.pick(&[16, 17, 18, 20, 24, 15, 0, 4097]);
+    let count = random.below(8);
+    let words = [vec![capacity], make::calls(random, count)].concat();
+    let mut input: Vec<u8> = words.iter().flat_map(|word| word.to_le_bytes()).collect();
+    if random.one_in(4) {
+        input.truncate(random.below(input.len() + 1));
+    }
+    format!("writes {} {}", list(&input), list(written(&input).as_bytes()))
+}
+
+/// One case of any kind, batches more often than not.
+fn case(random: &mut Random) -> String {
+    match random.below(10) {
+        0..=4 => batch(random),
+        5..=6 => collection(random),
+        7 => fresh(random),
+        8 => look(random),
+        _ => program(random),
+    }
+}
+
+/// Writes the module.
+fn main() {
+    let count: usize = std::env::args().nth(1).and_then(|n| n.parse().ok()).unwrap_or(1000);
+    let mut random = Random::of("definitions");
+    println!("{HEAD}");
+    for group in 0..count.div_ceil(GROUP) {
+        println!("group{group} : T (every (");
+        for _ in 0..GROUP.min(count - group * GROUP) {
+            println!("    {} ∷", case(&mut random));
+        }
+        println!("    []))\n{UNFOLDING}\ngroup{group} = tt\n");
+    }
+}

@@ -1,0 +1,23 @@
+//! A model of the expression store, for tests and benchmarks only.
+//!
+//! It is written from the rules of the store and shares no code with the proved library. Nothing
+//! here is linked into what a user of the package builds. In order:
+//!
+//! - [`plain`]: the store in words, with an ordinary collector, written to be compared with the
+//!   rules by eye. It says what every word must be.
+//! - [`trees`]: expressions with no addresses. It says what every call means.
+//! - [`ordinary`]: the same store written for speed, the measure of the benchmarks.
+//! - [`random`]: repeatable random numbers.
+//! - [`make`]: random stores, damage and call lists.
+//!
+//! The tests of this package hold [`plain`], [`trees`] and [`ordinary`] against each other and need
+//! no library.
+
+#![warn(missing_docs)]
+#![forbid(unsafe_code)]
+
+pub mod make;
+pub mod ordinary;
+pub mod plain;
+pub mod random;
+pub mod trees;

@@ -1,0 +1,194 @@
+//! Random stores, damage and call lists.
+//!
+//! Stores are made cell by cell and not by calls, so that they have overlapping runs, dead cells
+//! between live ones and brackets that no call would lay. Small capacities are the most frequent:
+//! there a few calls fill the store, and room runs out.
+
+use crate::plain::{put, Cell, BRACKET, HEAP, MOST_CODE};
+use crate::random::Random;
+
+/// How long the runs of a random store are.
+#[derive(Clone, Copy, Debug, PartialEq, Eq)]
+pub enum Runs {
+    /// One to four cells.
+    Short,
+    /// Anything that fits.
+    Any,
+}
+
+/// A capacity, small as a rule.
+pub fn capacity(random: &mut Random) -> usize {
+    match random.below(20) {
+        0..=15 => random.within(16..=40),
+        16..=18 => random.within(41..=128),
+        _ => random.within(129..=600),
+    }
+}
+
+/// The ends of a run of cells from 16 up to but not including `limit`, or none if there is no cell.
+fn run(random: &mut Random, limit: usize, runs: Runs) -> Option<(usize, usize)> {
+    if limit <= HEAP {
+        return None;
+    }
+    let end = random.within(HEAP..=limit - 1);
+    let other = match runs {
+        Runs::Short => end.saturating_sub(random.below(4)).max(HEAP),
+        Runs::Any => random.within(HEAP..=limit - 1),
+    };
+    Some((end.min(other), end.max(other)))
+}
+
+/// A symbol code, often a small one or the largest.
+fn code(random: &mut Random) -> u32 {
+    match random.below(8) {
+        0 => MOST_CODE,
+        1 => random.word() & MOST_CODE,
+        _ => random.below(6) as u32,
+    }
+}
+
+/// A cell that may stand at `c` of the heap.
+pub fn heap_cell(random: &mut Random, c: usize, runs: Runs) -> Cell {
+    match (random.below(9), run(random, c, runs)) {
+        (0..=3, Some((l, r))) => Cell::Bracket(l, r),
+        (4, _) => Cell::Empty,
+        _ => Cell::Symbol(code(random)),
+    }
+}
+
+/// A sound store of the given capacity: its words and its `top`.
+pub fn sound(random: &mut Random, capacity: usize, runs: Runs) -> (Vec<u32>, usize) {
+    let mut words = vec![0; 2 * capacity];
+    let top = match random.below(4) {
+        0 => HEAP,
+        1 => capacity,
+        _ => random.within(HEAP..=capacity),
+    };
+    for c in HEAP..top {
+        let cell = heap_cell(random, c, runs);
+        put(&mut words, c, cell);
+    }
+    let sparse = random.pick(&[2, 4, 12]);
+    for register in 0..HEAP {
+        let cell = match run(random, top, runs) {
+            Some((l, r)) if random.one_in(sparse) => Cell::Bracket(l, r),
+            _ => Cell::Empty,
+        };
+        put(&mut words, register, cell);
+    }
+    (words, top)
+}
+
+/// A word that is likely to break a rule only just.
+fn telling_word(random: &mut Random, top: usize) -> u32 {
+    let near = random.pick(&[0, 1, 15, 16, 17, top.wrapping_sub(1) as u32, top as u32, MOST_CODE]);
+    let flags = random.pick(&[0, 0, BRACKET, BRACKET, BRACKET, 1 << 30, 1 << 29, 1 << 28]);
+    match random.below(6) {
+        0 => random.word(),
+        1 => near.wrapping_add(1) | flags,
+        _ => near | flags,
+    }
+}
+
+/// Spoils one word, if there is any.
+fn spoil_word(random: &mut Random, words: &mut [u32], top: usize) {
+    if words.is_empty() {
+        return;
+    }
+    let i = random.below(words.len());
+    if random.one_in(2) {
+        words[i] ^= 1 << random.below(32);
+    } else {
+        words[i] = telling_word(random, top);
+    }
+}
+
+/// A length for a store, allowed or not.
+fn telling_length(random: &mut Random) -> usize {
+    random.pick(&[0, 1, 2, 30, 31, 32, 33, 34, 35, 64, 65, 8190, 8191, 8192, 8193, 8194])
+}
+
+/// Damages a store: its words, its `top` or its length. Now and then it stays sound.
+pub fn damage(random: &mut Random, words: &mut Vec<u32>, top: &mut usize) {
+    let capacity = words.len() / 2;
+    match random.below(10) {
+        0 => *top = random.pick(&[0, 1, 15, 16, capacity, capacity + 1, usize::MAX]),
+        1 => *top = random.below(2 * capacity + 2),
+        2 if random.one_in(8) => words.resize(telling_length(random), 0),
+        2 => words.truncate(random.below(words.len() + 1)),
+        3 => words.push(0),
+        4 => words.iter_mut().for_each(|word| *word = random.word()),
+        5 if capacity > 1 => {
+            let c = random.below(capacity - 1);
+            words[2 * c..2 * c + 4].rotate_left(2);
+        }
+        _ => (0..=random.below(3)).for_each(|_| spoil_word(random, words, *top)),
+    }
+}
+
+/// A register, most often one of the first four so that calls meet each other's results.
+fn register(random: &mut Random) -> u32 {
+    match random.below(4) {
+        0 => random.below(16) as u32,
+        _ => random.below(4) as u32,
+    }
+}
+
+/// A call whose words are in order.
+pub fn call(random: &mut Random) -> [u32; 4] {
+    const OFTEN: [u32; 24] =
+        [0, 1, 1, 2, 2, 2, 2, 3, 3, 3, 4, 4, 4, 4, 5, 6, 6, 7, 7, 8, 9, 10, 10, 11];
+    let operation = random.pick(&OFTEN);
+    let (d, a, b) = (register(random), register(random), register(random));
+    match operation {
+        0 => [0, d, 0, 0],
+        2 => [2, d, code(random), 0],
+        4 => [4, d, a, b],
+        8 | 9 => [operation, 0, a, 0],
+        10 | 11 => [operation, 0, 0, 0],
+        _ => [operation, d, a, 0],
+    }
+}
+
+/// A call with one or two words spoilt; now and then it is still in order.
+fn spoilt_call(random: &mut Random) -> [u32; 4] {
+    let mut call = call(random);
+    for _ in 0..=random.below(2) {
+        call[random.below(4)] = match random.below(8) {
+            0..=3 => random.below(21) as u32,
+            4 => random.word(),
+            _ => random.pick(&[1, 12, 15, 16, 99, MOST_CODE, MOST_CODE + 1, u32::MAX]),
+        };
+    }
+    call
+}
+
+/// A list of `count` calls, some of them spoilt.
+pub fn calls(random: &mut Random, count: usize) -> Vec<u32> {
+    let spoilt = random.pick(&[3, 8, 40]);
+    (0..count)
+        .flat_map(|_| match random.one_in(spoilt) {
+            true => spoilt_call(random),
+            false => call(random),
+        })
+        .collect()
+}
+
+/// Brings a call list to a length that is, more often than not, refused.
+pub fn stretch(random: &mut Random, calls: &mut Vec<u32>) {
+    match random.below(12) {
+        0 => calls.resize(random.pick(&[4092, 4095, 4096, 4097, 4100, 5000]), 0),
+        _ => calls.resize(calls.len() + random.below(6), random.below(20) as u32),
+    }
+}
+
+/// An answer space for a list of `call_words` words, full of junk: exact, longer or too short.
+pub fn answers(random: &mut Random, call_words: usize) -> Vec<u32> {
+    let exact = call_words / 4 * 2;
+    let length = match random.below(8) {
+        0 => random.below(exact + 1),
+        1..=3 => exact + random.below(9),
+        _ => exact,
+    };
+    (0..length).map(|_| random.word()).collect()
+}

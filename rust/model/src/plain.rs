@@ -1,0 +1,367 @@
+//! The store in words, the plain way.
+//!
+//! One cell at a time is decoded into a [`Cell`]. The collector marks into a side table with an
+//! explicit stack, numbers the reached cells in a second table and writes a second vector. Nothing
+//! here is quick or in place.
+
+/// The number of registers, and so the address of the first heap cell.
+pub const HEAP: usize = 16;
+/// The largest capacity, in cells.
+pub const MOST_CELLS: usize = 4096;
+/// The longest call list, in words.
+pub const MOST_CALL_WORDS: usize = 4096;
+/// The largest symbol code.
+pub const MOST_CODE: u32 = (1 << 28) - 1;
+/// The second word of an empty bracket.
+pub const BRACKET: u32 = 1 << 31;
+
+/// What a function of the store answers.
+#[derive(Clone, Copy, Debug, PartialEq, Eq)]
+pub struct Reply {
+    /// 0, or the number of the refusal.
+    pub status: u32,
+    /// The number named beside the status.
+    pub value: u32,
+    /// The end of the occupied cells afterwards.
+    pub top: usize,
+}
+
+/// A cell as the rules tell cells apart.
+#[derive(Clone, Copy, Debug, PartialEq, Eq)]
+pub enum Cell {
+    /// A symbol and its code.
+    Symbol(u32),
+    /// A bracket with nothing in it.
+    Empty,
+    /// A bracket and its ends, both inclusive.
+    Bracket(usize, usize),
+}
+
+impl Cell {
+    /// The cell that two words spell. `None` where they spell none at any address.
+    pub fn read(first: u32, second: u32) -> Option<Cell> {
+        let (flags, right) = (second >> 28, second & MOST_CODE);
+        match (flags, right) {
+            (0, 0) if first <= MOST_CODE => Some(Cell::Symbol(first)),
+            (8, 0) if first == 0 => Some(Cell::Empty),
+            (8, 1..) => Some(Cell::Bracket(first as usize, right as usize)),
+            _ => None,
+        }
+    }
+
+    /// The two words that spell the cell.
+    pub fn spelt(self) -> (u32, u32) {
+        match self {
+            Cell::Symbol(code) => (code, 0),
+            Cell::Empty => (0, BRACKET),
+            Cell::Bracket(l, r) => (l as u32, BRACKET + r as u32),
+        }
+    }
+}
+
+/// Puts `cell` at address `c`.
+pub fn put(words: &mut [u32], c: usize, cell: Cell) {
+    (words[2 * c], words[2 * c + 1]) = cell.spelt();
+}
+
+/// The cell at address `c` of a sound store.
+fn at(words: &[u32], c: usize) -> Cell {
+    Cell::read(words[2 * c], words[2 * c + 1])
+        .expect("a sound store has only cells that spell something")
+}
+
+/// The ends of the bracket or register at `c`, if it has any.
+fn ends(words: &[u32], c: usize) -> Option<(usize, usize)> {
+    match at(words, c) {
+        Cell::Bracket(l, r) => Some((l, r)),
+        _ => None,
+    }
+}
+
+/// Whether cell `c` keeps its rule in a store whose length and `top` are in range.
+fn keeps_its_rule(words: &[u32], top: usize, c: usize) -> bool {
+    let (first, second) = (words[2 * c], words[2 * c + 1]);
+    if c >= top {
+        return first == 0 && second == 0;
+    }
+    let limit = if c < HEAP { top } else { c };
+    match Cell::read(first, second) {
+        None => false,
+        Some(Cell::Symbol(_)) => c >= HEAP,
+        Some(Cell::Empty) => true,
+        Some(Cell::Bracket(l, r)) => HEAP <= l && l <= r && r < limit,
+    }
+}
+
+/// Whether a slice of `n` words may hold a store.
+fn fits(n: usize) -> bool {
+    n % 2 == 0 && (2 * HEAP..=2 * MOST_CELLS).contains(&n)
+}
+
+/// The check: 0, or refusals 1 to 3. `top` comes back as it came.
+pub fn check(words: &[u32], top: usize) -> Reply {
+    let reply = |status, value| Reply { status, value, top };
+    if !fits(words.len()) {
+        return reply(1, 0);
+    }
+    let capacity = words.len() / 2;
+    if !(HEAP..=capacity).contains(&top) {
+        return reply(2, 0);
+    }
+    match (0..capacity).find(|&c| !keeps_its_rule(words, top, c)) {
+        Some(c) => reply(3, c as u32),
+        None => reply(0, 0),
+    }
+}
+
+/// A fresh store, or refusal 1 with `top` 0.
+pub fn fresh(words: &mut [u32]) -> Reply {
+    if !fits(words.len()) {
+        return Reply { status: 1, value: 0, top: 0 };
+    }
+    words.fill(0);
+    for register in 0..HEAP {
+        put(words, register, Cell::Empty);
+    }
+    Reply { status: 0, value: 0, top: HEAP }
+}
+
+/// The part of the words that holds a register's cells, as offsets; (0, 0) where there is none.
+pub fn look(words: &[u32], top: usize, register: usize) -> (usize, usize) {
+    if check(words, top).status != 0 || register >= HEAP {
+        return (0, 0);
+    }
+    match ends(words, register) {
+        Some((l, r)) => (2 * l, 2 * (r + 1)),
+        None => (0, 0),
+    }
+}
+
+/// For each address below `top`, whether a heap cell there is reached. The store is sound.
+pub fn reached(words: &[u32], top: usize) -> Vec<bool> {
+    let mut seen = vec![false; top];
+    let mut runs: Vec<_> = (0..HEAP).filter_map(|register| ends(words, register)).collect();
+    while let Some((l, r)) = runs.pop() {
+        for (c, seen) in (l..).zip(&mut seen[l..=r]) {
+            if !*seen {
+                *seen = true;
+                runs.extend(ends(words, c));
+            }
+        }
+    }
+    seen
+}
+
+/// The number of reached heap cells of a sound store.
+pub fn live(words: &[u32], top: usize) -> usize {
+    reached(words, top).iter().filter(|&&seen| seen).count()
+}
+
+/// Collects a sound store and gives the new `top`.
+fn compact(words: &mut [u32], top: usize) -> usize {
+    let seen = reached(words, top);
+    let mut place: Vec<usize> = (0..top).collect();
+    let mut next = HEAP;
+    for c in HEAP..top {
+        place[c] = next;
+        next += usize::from(seen[c]);
+    }
+    let mut second = vec![0; words.len()];
+    for c in (0..top).filter(|&c| c < HEAP || seen[c]) {
+        let moved = match at(words, c) {
+            Cell::Bracket(l, r) => Cell::Bracket(place[l], place[r]),
+            other => other,
+        };
+        put(&mut second, place[c], moved);
+    }
+    words.copy_from_slice(&second);
+    next
+}
+
+/// Collecting alone: 0 with live and the new `top`, or refusals 1 to 3 with nothing changed.
+pub fn collect(words: &mut [u32], top: usize) -> Reply {
+    let checked = check(words, top);
+    if checked.status != 0 {
+        return checked;
+    }
+    let top = compact(words, top);
+    Reply { status: 0, value: (top - HEAP) as u32, top }
+}
+
+/// What an operand word is to an operation.
+#[derive(Clone, Copy, PartialEq, Eq)]
+enum Operand {
+    Register,
+    Code,
+    Unused,
+}
+
+/// The operand words d, a and b of the twelve operations.
+const OPERANDS: [[Operand; 3]; 12] = {
+    use Operand::{Code, Register, Unused};
+    [
+        [Register, Unused, Unused],     // CLEAR
+        [Register, Register, Unused],   // COPY
+        [Register, Code, Unused],       // SYMBOL
+        [Register, Register, Unused],   // WRAP
+        [Register, Register, Register], // JOIN
+        [Register, Register, Unused],   // HEAD
+        [Register, Register, Unused],   // REST
+        [Register, Register, Unused],   // OPEN
+        [Unused, Register, Unused],     // LENGTH
+        [Unused, Register, Unused],     // FIRST
+        [Unused, Unused, Unused],       // LIVE
+        [Unused, Unused, Unused],       // COLLECT
+    ]
+};
+
+/// The refusal 10 to 13 of a call, which its words alone decide, or 0.
+fn refused_by_words(call: &[u32]) -> u32 {
+    let Some(operands) = OPERANDS.get(call[0] as usize) else {
+        return 10;
+    };
+    let any =
+        |operand, bad: fn(u32) -> bool| (0..3).any(|i| operands[i] == operand && bad(call[i + 1]));
+    if any(Operand::Register, |word| word > 15) {
+        11
+    } else if any(Operand::Unused, |word| word != 0) {
+        12
+    } else if any(Operand::Code, |word| word > MOST_CODE) {
+        13
+    } else {
+        0
+    }
+}
+
+/// The refusal 14 or 15 of a call whose words are in order, or 0.
+fn refused_by_store(words: &[u32], call: &[u32]) -> u32 {
+    if ![5, 6, 7, 9].contains(&call[0]) {
+        return 0;
+    }
+    let Some((l, _)) = ends(words, call[2] as usize) else {
+        return 14;
+    };
+    match (call[0], at(words, l)) {
+        (7, Cell::Symbol(_)) => 15,
+        (9, Cell::Empty | Cell::Bracket(..)) => 15,
+        _ => 0,
+    }
+}
+
+/// The number of cells in a register.
+fn length(words: &[u32], register: u32) -> usize {
+    ends(words, register as usize).map_or(0, |(l, r)| r - l + 1)
+}
+
+/// The number of new cells that an unrefused call needs.
+fn need(words: &[u32], call: &[u32]) -> usize {
+    match call[0] {
+        2 | 3 => 1,
+        4 => match (length(words, call[2]), length(words, call[3])) {
+            (0, _) | (_, 0) => 0,
+            (a, b) => a + b,
+        },
+        _ => 0,
+    }
+}
+
+/// Lays `cells` from `top` upward and sets register `d` on them.
+fn lay(words: &mut [u32], top: &mut usize, d: usize, cells: &[Cell]) {
+    let l = *top;
+    for &cell in cells {
+        put(words, *top, cell);
+        *top += 1;
+    }
+    put(words, d, Cell::Bracket(l, *top - 1));
+}
+
+/// JOIN: shares where one side is empty, else copies the cells of both.
+fn join(words: &mut [u32], top: &mut usize, call: &[u32]) {
+    let d = call[1] as usize;
+    match (ends(words, call[2] as usize), ends(words, call[3] as usize)) {
+        (None, _) => put(words, d, at(words, call[3] as usize)),
+        (_, None) => put(words, d, at(words, call[2] as usize)),
+        (Some((al, ar)), Some((bl, br))) => {
+            let cells: Vec<_> = (al..=ar).chain(bl..=br).map(|c| at(words, c)).collect();
+            lay(words, top, d, &cells);
+        }
+    }
+}
+
+/// The first cell of a register, and the register's cell without it.
+fn parted(words: &[u32], register: usize) -> (usize, Cell) {
+    let (l, r) = ends(words, register).expect("refusal 14 comes first");
+    (l, if l == r { Cell::Empty } else { Cell::Bracket(l + 1, r) })
+}
+
+/// Does a call that nothing refuses and that has room, and gives its value.
+fn perform(words: &mut [u32], top: &mut usize, call: &[u32]) -> u32 {
+    let (d, a) = (call[1] as usize, call[2] as usize);
+    match call[0] {
+        0 => put(words, d, Cell::Empty),
+        1 => put(words, d, at(words, a)),
+        2 => lay(words, top, d, &[Cell::Symbol(call[2])]),
+        3 => lay(words, top, d, &[at(words, a)]),
+        4 => join(words, top, call),
+        5 => {
+            let (first, _) = parted(words, a);
+            put(words, d, Cell::Bracket(first, first));
+        }
+        6 => {
+            let (_, rest) = parted(words, a);
+            put(words, d, rest);
+        }
+        7 => {
+            let (first, _) = parted(words, a);
+            put(words, d, at(words, first));
+        }
+        8 => return length(words, call[2]) as u32,
+        9 => return words[2 * parted(words, a).0],
+        10 => return live(words, *top) as u32,
+        _ => {
+            *top = compact(words, *top);
+            return (*top - HEAP) as u32;
+        }
+    }
+    0
+}
+
+/// One call on a sound store: its status and value.
+pub fn step(words: &mut [u32], top: &mut usize, call: &[u32]) -> (u32, u32) {
+    let refused = match refused_by_words(call) {
+        0 => refused_by_store(words, call),
+        number => number,
+    };
+    if refused != 0 {
+        return (refused, 0);
+    }
+    let (need, capacity) = (need(words, call), words.len() / 2);
+    if *top + need > capacity {
+        *top = compact(words, *top);
+    }
+    if *top + need > capacity {
+        return (16, 0);
+    }
+    (0, perform(words, top, call))
+}
+
+/// A batch: each call's status and value go to `answers`, and zeros after them.
+pub fn run(words: &mut [u32], top: usize, calls: &[u32], answers: &mut [u32]) -> Reply {
+    let checked = check(words, top);
+    if checked.status != 0 {
+        return checked;
+    }
+    let reply = |status, top| Reply { status, value: 0, top };
+    if calls.len() > MOST_CALL_WORDS || calls.len() % 4 != 0 {
+        return reply(4, top);
+    }
+    if answers.len() < calls.len() / 4 * 2 {
+        return reply(5, top);
+    }
+    answers.fill(0);
+    let mut top = top;
+    for (call, answer) in calls.chunks(4).zip(answers.chunks_mut(2)) {
+        (answer[0], answer[1]) = step(words, &mut top, call);
+    }
+    reply(0, top)
+}

@@ -1,0 +1,178 @@
+//! Expressions with no addresses, and what each call does to them.
+//!
+//! A register is a vector of terms, and a term is a symbol or a pair of parentheses around terms.
+//! Sharing in a store lets a few hundred cells denote more terms than any memory holds, so equal
+//! terms stand once in a [`Pool`] and are written by name: equal names are equal terms. A name says
+//! nothing of where a cell lies.
+
+use std::collections::HashMap;
+
+/// The name of a term in its pool.
+pub type Name = u32;
+
+/// The terms of a register or of a pair of parentheses, in order.
+pub type Expression = Vec<Name>;
+
+/// A term.
+#[derive(Clone, Debug, PartialEq, Eq, Hash)]
+pub enum Term {
+    /// A symbol and its code.
+    Symbol(u32),
+    /// Parentheses around an expression.
+    Parens(Expression),
+}
+
+/// All terms met so far, each once.
+#[derive(Clone, Debug, Default)]
+pub struct Pool {
+    terms: Vec<Term>,
+    names: HashMap<Term, Name>,
+}
+
+impl Pool {
+    /// The name of `term`, which is the same whenever the term is the same.
+    pub fn name(&mut self, term: Term) -> Name {
+        let next = self.terms.len() as Name;
+        *self.names.entry(term).or_insert_with_key(|term| {
+            self.terms.push(term.clone());
+            next
+        })
+    }
+
+    /// The term of a name that this pool gave.
+    pub fn term(&self, name: Name) -> &Term {
+        &self.terms[name as usize]
+    }
+
+    /// What the sixteen registers of a sound store denote.
+    ///
+    /// Contents of a heap cell lie below it, so one pass upward meets them first.
+    pub fn denoted(&mut self, words: &[u32], top: usize) -> Vec<Expression> {
+        let mut names: Vec<Name> = vec![0; 16];
+        for c in 16..top {
+            let term = match words[2 * c + 1] {
+                0 => Term::Symbol(words[2 * c]),
+                _ => Term::Parens(Self::contents(&names, words, c)),
+            };
+            let name = self.name(term);
+            names.push(name);
+        }
+        (0..16).map(|register| Self::contents(&names, words, register)).collect()
+    }
+
+    /// The names between the ends of the bracket at `c`.
+    fn contents(names: &[Name], words: &[u32], c: usize) -> Expression {
+        let (left, right) = (words[2 * c] as usize, (words[2 * c + 1] & 0x0fff_ffff) as usize);
+        if right == 0 {
+            return Expression::new();
+        }
+        names[left..=right].to_vec()
+    }
+}
+
+/// Sixteen registers of expressions.
+#[derive(Clone, Debug)]
+pub struct Trees {
+    /// The terms that the registers name.
+    pub pool: Pool,
+    /// The registers.
+    pub registers: Vec<Expression>,
+}
+
+impl Trees {
+    /// The expressions of a sound store.
+    pub fn denoted_by(words: &[u32], top: usize) -> Trees {
+        let mut pool = Pool::default();
+        let registers = pool.denoted(words, top);
+        Trees { pool, registers }
+    }
+
+    /// One call: its status and value. `live` is the number of reached cells before it.
+    ///
+    /// Room depends on `live` and `capacity` alone. A store that still has room below its capacity
+    /// is not collected, yet it would not be refused if it were, as 16 + live is at most `top`.
+    pub fn step(&mut self, call: [u32; 4], live: usize, capacity: usize) -> (u32, u32) {
+        match self.effect(call, live, capacity) {
+            Ok(Effect::Becomes(d, expression)) => {
+                self.registers[d as usize] = expression;
+                (0, 0)
+            }
+            Ok(Effect::Tells(value)) => (0, value as u32),
+            Err(status) => (status, 0),
+        }
+    }
+
+    /// What a call does, or the number that refuses it.
+    fn effect(&mut self, call: [u32; 4], live: usize, capacity: usize) -> Result<Effect, u32> {
+        well_formed(call)?;
+        let [operation, d, a, b] = call;
+        let room = |need: usize| if 16 + live + need > capacity { Err(16u32) } else { Ok(()) };
+        let of = |register: u32| self.registers[register as usize].clone();
+        Ok(match operation {
+            0 => Effect::Becomes(d, Expression::new()),
+            1 => Effect::Becomes(d, of(a)),
+            2 => {
+                room(1)?;
+                Effect::Becomes(d, vec![self.pool.name(Term::Symbol(a))])
+            }
+            3 => {
+                room(1)?;
+                let inside = of(a);
+                Effect::Becomes(d, vec![self.pool.name(Term::Parens(inside))])
+            }
+            4 => {
+                let (before, after) = (of(a), of(b));
+                if !before.is_empty() && !after.is_empty() {
+                    room(before.len() + after.len())?;
+                }
+                Effect::Becomes(d, [before, after].concat())
+            }
+            8 => Effect::Tells(of(a).len()),
+            10 | 11 => Effect::Tells(live),
+            _ => return self.effect_on_first(operation, d, &of(a)),
+        })
+    }
+
+    /// What HEAD, REST, OPEN and FIRST do with the expression `whole`.
+    fn effect_on_first(&self, operation: u32, d: u32, whole: &[Name]) -> Result<Effect, u32> {
+        let (first, rest) = whole.split_first().ok_or(14u32)?;
+        match (operation, self.pool.term(*first)) {
+            (5, _) => Ok(Effect::Becomes(d, vec![*first])),
+            (6, _) => Ok(Effect::Becomes(d, rest.to_vec())),
+            (7, Term::Parens(inside)) => Ok(Effect::Becomes(d, inside.clone())),
+            (9, Term::Symbol(code)) => Ok(Effect::Tells(*code as usize)),
+            _ => Err(15),
+        }
+    }
+}
+
+/// What a done call does.
+enum Effect {
+    /// A register becomes an expression.
+    Becomes(u32, Expression),
+    /// No register changes, and a value is told.
+    Tells(usize),
+}
+
+/// Refusals 10 to 13, in their order.
+fn well_formed([operation, d, a, b]: [u32; 4]) -> Result<(), u32> {
+    let (registers, unused): (&[u32], &[u32]) = match operation {
+        0 => (&[d], &[a, b]),
+        2 => (&[d], &[b]),
+        1 | 3 | 5 | 6 | 7 => (&[d, a], &[b]),
+        4 => (&[d, a, b], &[]),
+        8 | 9 => (&[a], &[d, b]),
+        10 | 11 => (&[], &[d, a, b]),
+        _ => return Err(10),
+    };
+    if registers.iter().any(|&word| word >= 16) {
+        return Err(11);
+    }
+    if unused.iter().any(|&word| word != 0) {
+        return Err(12);
+    }
+    if operation == 2 && a >= 268_435_456 {
+        return Err(13);
+    }
+    Ok(())
+}

@@ -1,0 +1,144 @@
+//! The three parts of the model, held against each other and against the rules said word for word.
+
+use zelmotar_model::ordinary::{self, Bits, Bytes, Marks, Ordinary};
+use zelmotar_model::plain::{self, HEAP};
+use zelmotar_model::random::Random;
+use zelmotar_model::trees::Trees;
+use zelmotar_model::{make, make::Runs};
+
+/// Cells reached by the words of the definition: registers first, then whatever lies between the
+/// ends of something reached, until nothing is new.
+fn reached_by_definition(words: &[u32], top: usize) -> Vec<bool> {
+    let mut reached = vec![false; top];
+    let holds = |holder: usize, c: usize| {
+        let (l, second) = (words[2 * holder] as usize, words[2 * holder + 1]);
+        second > 1 << 31 && l <= c && c <= (second - (1 << 31)) as usize
+    };
+    loop {
+        let new: Vec<usize> = (HEAP..top)
+            .filter(|&c| !reached[c])
+            .filter(|&c| {
+                (0..top).any(|holder| (holder < HEAP || reached[holder]) && holds(holder, c))
+            })
+            .collect();
+        if new.is_empty() {
+            return reached;
+        }
+        new.into_iter().for_each(|c| reached[c] = true);
+    }
+}
+
+/// The words after a collection, by the words of the definition.
+fn collected_by_definition(words: &[u32], top: usize) -> Vec<u32> {
+    let reached = reached_by_definition(words, top);
+    let place = |c: usize| HEAP + (HEAP..c).filter(|&below| reached[below]).count();
+    let mut after = vec![0; words.len()];
+    for c in (0..top).filter(|&c| c < HEAP || reached[c]) {
+        let (first, second) = (words[2 * c], words[2 * c + 1]);
+        let to = if c < HEAP { c } else { place(c) };
+        let has_contents = second > 1 << 31;
+        after[2 * to] = if has_contents { place(first as usize) as u32 } else { first };
+        after[2 * to + 1] = if has_contents {
+            (1 << 31) + place((second - (1 << 31)) as usize) as u32
+        } else {
+            second
+        };
+    }
+    after
+}
+
+#[test]
+fn random_sound_stores_are_sound() {
+    let mut random = Random::of("sound stores");
+    for _ in 0..5_000 {
+        let capacity = make::capacity(&mut random);
+        let (words, top) = make::sound(&mut random, capacity, Runs::Any);
+        assert_eq!(plain::check(&words, top).status, 0, "{words:?} {top}");
+    }
+}
+
+#[test]
+fn plain_collects_as_the_definition_says() {
+    let mut random = Random::of("collects");
+    for _ in 0..5_000 {
+        let capacity = random.within(16..=48);
+        let runs = random.pick(&[Runs::Short, Runs::Any]);
+        let (mut words, top) = make::sound(&mut random, capacity, runs);
+        let (expected, reached) =
+            (collected_by_definition(&words, top), reached_by_definition(&words, top));
+        let live = reached.iter().filter(|&&reached| reached).count();
+        let reply = plain::collect(&mut words, top);
+        assert_eq!((reply.status, reply.value as usize, reply.top), (0, live, HEAP + live));
+        assert_eq!(words, expected);
+        assert_eq!(plain::check(&words, reply.top).status, 0);
+    }
+}
+
+#[test]
+fn collecting_keeps_what_registers_denote() {
+    let mut random = Random::of("denotes");
+    for _ in 0..3_000 {
+        let capacity = make::capacity(&mut random);
+        let (mut words, top) = make::sound(&mut random, capacity, Runs::Short);
+        let mut trees = Trees::denoted_by(&words, top);
+        let reply = plain::collect(&mut words, top);
+        assert_eq!(trees.pool.denoted(&words, reply.top), trees.registers);
+    }
+}
+
+#[test]
+fn plain_calls_mean_what_trees_say() {
+    let mut random = Random::of("calls");
+    for _ in 0..10_000 {
+        let capacity = make::capacity(&mut random);
+        let (mut words, mut top) = make::sound(&mut random, capacity, Runs::Short);
+        let mut trees = Trees::denoted_by(&words, top);
+        let count = random.below(25);
+        for call in make::calls(&mut random, count).chunks(4) {
+            let live = plain::live(&words, top);
+            let expected = trees.step(call.try_into().unwrap(), live, capacity);
+            let got = plain::step(&mut words, &mut top, call);
+            assert_eq!(got, expected, "{call:?} with {live} live cells of {capacity}");
+            assert_eq!(trees.pool.denoted(&words, top), trees.registers, "{call:?}");
+            assert_eq!(plain::check(&words, top).status, 0, "{call:?}");
+        }
+    }
+}
+
+/// Holds the quick store against the plain one on one batch and on collecting alone.
+fn same_as_plain<M: Marks>(
+    tables: &mut Ordinary<M>,
+    words: &[u32],
+    top: usize,
+    calls: &[u32],
+    answers: &[u32],
+) {
+    let mut ours = (words.to_vec(), answers.to_vec());
+    let mut theirs = ours.clone();
+    let expected = plain::run(&mut theirs.0, top, calls, &mut theirs.1);
+    assert_eq!(tables.run(&mut ours.0, top, calls, &mut ours.1), expected);
+    assert_eq!(ours, theirs);
+    let (mut ours, mut theirs) = (words.to_vec(), words.to_vec());
+    assert_eq!(tables.collect(&mut ours, top), plain::collect(&mut theirs, top));
+    assert_eq!(ours, theirs);
+    assert_eq!(ordinary::check(words, top), plain::check(words, top));
+}
+
+#[test]
+fn the_quick_store_is_the_plain_store() {
+    let mut random = Random::of("quick");
+    let (mut bytes, mut bits) = (Ordinary::<Bytes>::new(), Ordinary::<Bits>::new());
+    for _ in 0..20_000 {
+        let capacity = make::capacity(&mut random);
+        let runs = random.pick(&[Runs::Short, Runs::Any]);
+        let (mut words, mut top) = make::sound(&mut random, capacity, runs);
+        if random.one_in(3) {
+            make::damage(&mut random, &mut words, &mut top);
+        }
+        let count = random.below(12);
+        let calls = make::calls(&mut random, count);
+        let answers = make::answers(&mut random, calls.len());
+        same_as_plain(&mut bytes, &words, top, &calls, &answers);
+        same_as_plain(&mut bits, &words, top, &calls, &answers);
+    }
+}

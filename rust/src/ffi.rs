@@ -1,0 +1,98 @@
+//! The C functions of the linked library, each behind a safe function on slices.
+//!
+//! This is the only file with `unsafe` in it. The declarations repeat `include/zelmotar.h`; nothing
+//! checks one against the other but the tests.
+
+/// What a function of the library answers, in numbers.
+///
+/// It is laid out as `zelmotar_answer` of the C header.
+#[repr(C)]
+#[derive(Clone, Copy, Debug, PartialEq, Eq)]
+pub struct Reply {
+    /// 0 for done, else the number of the refusal.
+    pub status: u32,
+    /// The number that the status names: a cell, a count of live cells, or 0.
+    pub value: u32,
+    /// The end of the occupied cells after the call, in cells.
+    pub top: usize,
+}
+
+/// A part of a store, as offsets in words; `to` is not part of it.
+///
+/// It is laid out as `zelmotar_span` of the C header.
+#[repr(C)]
+#[derive(Clone, Copy, Debug, PartialEq, Eq)]
+pub struct Span {
+    /// The offset of the first word.
+    pub from: usize,
+    /// The offset after the last word.
+    pub to: usize,
+}
+
+extern "C" {
+    fn zelmotar_check(words: *const u32, n: usize, top: usize) -> Reply;
+    fn zelmotar_fresh(words: *mut u32, n: usize) -> Reply;
+    fn zelmotar_collect(words: *mut u32, n: usize, top: usize) -> Reply;
+    fn zelmotar_run(
+        words: *mut u32,
+        n: usize,
+        top: usize,
+        calls: *const u32,
+        calls_n: usize,
+        answers: *mut u32,
+        answers_n: usize,
+    ) -> Reply;
+    fn zelmotar_look(words: *const u32, n: usize, top: usize, reg: usize) -> Span;
+}
+
+/// Checks a store: 0, or refusals 1 to 3. Nothing is written, and `top` comes back as it came.
+pub fn check(words: &[u32], top: usize) -> Reply {
+    // SAFETY: pointer and count are those of a live slice, which the function only reads and does
+    // not keep. It takes every `top`.
+    unsafe { zelmotar_check(words.as_ptr(), words.len(), top) }
+}
+
+/// Writes a fresh store: 0 with `top` 16, or refusal 1 with `top` 0 and the words as they were.
+pub fn fresh(words: &mut [u32]) -> Reply {
+    // SAFETY: pointer and count are those of a slice that is borrowed alone, and all that the
+    // function writes is u32 within the count.
+    unsafe { zelmotar_fresh(words.as_mut_ptr(), words.len()) }
+}
+
+/// Collects a store: 0 with the number of live cells and the new `top`, or refusals 1 to 3 with the
+/// words and `top` as they came.
+pub fn collect(words: &mut [u32], top: usize) -> Reply {
+    // SAFETY: pointer and count are those of a slice that is borrowed alone, and all that the
+    // function writes is u32 within the count. It takes every `top` and every word.
+    unsafe { zelmotar_collect(words.as_mut_ptr(), words.len(), top) }
+}
+
+/// Runs a batch of calls of four words each, and writes two answer words for each.
+///
+/// It answers 0 with the new `top` and sets what is left of `answers` to zero, or refuses with 1 to
+/// 5, and then words, answers and `top` are as they came.
+pub fn run(words: &mut [u32], top: usize, calls: &[u32], answers: &mut [u32]) -> Reply {
+    // SAFETY: each pointer and count are those of a live slice. `words` and `answers` are borrowed
+    // alone, so none of the three overlap, and the function writes u32 to these two only, within
+    // their counts. It takes every `top` and every word.
+    unsafe {
+        zelmotar_run(
+            words.as_mut_ptr(),
+            words.len(),
+            top,
+            calls.as_ptr(),
+            calls.len(),
+            answers.as_mut_ptr(),
+            answers.len(),
+        )
+    }
+}
+
+/// The part of `words` that holds the cells of a register.
+///
+/// Both offsets are 0 where the register is empty or over 15, or the store is not sound.
+pub fn look(words: &[u32], top: usize, register: usize) -> Span {
+    // SAFETY: pointer and count are those of a live slice, which the function only reads and does
+    // not keep. It takes every `top` and every register.
+    unsafe { zelmotar_look(words.as_ptr(), words.len(), top, register) }
+}

@@ -1,0 +1,87 @@
+//! Zelmotar is an expression store: symbols and brackets in a slice of words that the caller lends,
+//! with sharing and a collector, and without an allocator.
+//!
+//! Its code is proved and linked as a static library. This package is its safe face in Rust and has
+//! no dependencies. In short:
+//!
+//! - A **store** is a slice of 32-bit words, two to a cell, and a number `top`. It has 16 registers
+//!   and up to [`MAX_CELLS`] cells, registers included.
+//! - A **register** holds an expression: terms in order, each a symbol with a code or a bracket
+//!   around an expression.
+//! - A **call** changes a register or asks something. Calls run in batches. Each has an [`Answer`].
+//! - A store that has no room for a call collects itself first. No answer shows when it did.
+//!
+//! ```
+//! use zelmotar::{Answer, Call, Store};
+//!
+//! # fn main() -> Result<(), zelmotar::Refusal> {
+//! let mut store = Store::new(64)?;
+//! let answers = store.run(&[
+//!     Call::Symbol { d: 0, code: 65 },
+//!     Call::Symbol { d: 1, code: 66 },
+//!     Call::Join { d: 2, a: 0, b: 1 },
+//!     Call::Wrap { d: 2, a: 2 },
+//!     Call::Join { d: 2, a: 2, b: 0 },
+//!     Call::Length { a: 2 },
+//! ])?;
+//! assert_eq!(answers[5], Answer::Value(2));
+//! assert_eq!(store.look(2).to_string(), "(65 66) 65");
+//! # Ok(())
+//! # }
+//! ```
+//!
+//! # Linking
+//!
+//! The build looks for `libzelmotar.a` in the folder that the environment variable `ZELMOTAR_LIB`
+//! names, else in `target/native` of the repository, where `tools/archive` puts it.
+
+#![warn(missing_docs)]
+#![deny(unsafe_code)]
+
+mod answer;
+mod call;
+#[allow(unsafe_code)]
+mod ffi;
+mod store;
+mod terms;
+
+pub use answer::{Answer, Fault, Refusal};
+pub use call::Call;
+pub use store::Store;
+pub use terms::{Term, Terms};
+
+/// The functions of the library as they are: slices go in, numbers come out.
+///
+/// They are what [`Store`] is made of, for those who keep words and `top` themselves. All take any
+/// words, any `top` and any register; what is out of range is refused by number.
+///
+/// ```
+/// use zelmotar::raw;
+///
+/// let mut words = [7; 40];
+/// let reply = raw::fresh(&mut words);
+/// assert_eq!((reply.status, reply.top), (0, 16));
+/// let mut answers = [0; 2];
+/// let reply = raw::run(&mut words, reply.top, &[2, 0, 65, 0], &mut answers);
+/// assert_eq!((reply.status, reply.top, answers), (0, 17, [0, 0]));
+/// let span = raw::look(&words, reply.top, 0);
+/// assert_eq!(words[span.from..span.to], [65, 0]);
+/// ```
+pub mod raw {
+    pub use crate::ffi::{check, collect, fresh, look, run, Reply, Span};
+}
+
+/// The number of registers.
+pub const REGISTERS: usize = 16;
+
+/// The address of the first heap cell, and so the `top` of a fresh store.
+pub const FIRST_HEAP_CELL: usize = 16;
+
+/// The largest capacity of a store, in cells.
+pub const MAX_CELLS: usize = 4096;
+
+/// The most calls in one batch.
+pub const MAX_CALLS: usize = 1024;
+
+/// The largest code of a symbol.
+pub const MAX_CODE: u32 = 268_435_455;

@@ -1,0 +1,23 @@
+//! The linked library beside the model: every status, value, word, `top` and answer word.
+//!
+//! Random numbers are repeatable; `ZELMOTAR_SEED` sets another seed than the usual one. A case that
+//! differs is made smaller by dropping calls, then printed. In order:
+//!
+//! - [`worked`]: rows that are worked out by hand.
+//! - [`face`]: the safe wrapper, its enums and its iterator.
+//! - [`batches`]: random stores, sound and damaged, with random lists and answer spaces.
+//! - [`meaning`]: call for call against expressions with no addresses.
+//! - [`alike`]: stores that differ in dead cells, collections and cuts between batches only.
+//! - [`bytes`]: raw bytes as store, calls and answer space.
+//!
+//! [`case`], [`shrink`] and [`tally`] serve these.
+
+mod alike;
+mod batches;
+mod bytes;
+mod case;
+mod face;
+mod meaning;
+mod shrink;
+mod tally;
+mod worked;

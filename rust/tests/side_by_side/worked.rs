@@ -1,0 +1,206 @@
+//! Rows that are worked out by hand: P1 to P8, and the rows that are only run.
+
+use zelmotar::raw::{self, Reply};
+use zelmotar::{Answer, Call, Fault, Refusal, Store};
+
+/// The second word of an empty bracket.
+const EMPTY: u32 = 2_147_483_648;
+
+fn fresh(capacity: usize) -> Store {
+    Store::new(capacity).expect("the capacity is allowed")
+}
+
+/// Words of the given capacity with sixteen empty registers, then `cells` put over them.
+fn words(capacity: usize, cells: &[(usize, [u32; 2])]) -> Vec<u32> {
+    let mut words = vec![0; 2 * capacity];
+    words[..32].chunks_mut(2).for_each(|register| register[1] = EMPTY);
+    for &(c, cell) in cells {
+        words[2 * c..2 * c + 2].copy_from_slice(&cell);
+    }
+    words
+}
+
+fn refused(fault: Fault) -> Answer {
+    Answer::Refused(fault)
+}
+
+#[test]
+fn p1_a_small_store_fills_up() {
+    let mut store = fresh(20);
+    let calls = [
+        Call::Symbol { d: 0, code: 65 },
+        Call::Symbol { d: 1, code: 66 },
+        Call::Join { d: 2, a: 0, b: 1 },
+        Call::Join { d: 3, a: 2, b: 0 },
+        Call::Clear { d: 0 },
+        Call::Clear { d: 1 },
+        Call::Join { d: 3, a: 2, b: 2 },
+        Call::Wrap { d: 3, a: 2 },
+        Call::Live,
+    ];
+    let list: Vec<u32> = calls.iter().flat_map(|call| call.words()).collect();
+    let mut answers = [9; 18];
+    store.run_words(&list, &mut answers).expect("the batch is run");
+    let lines: Vec<String> =
+        answers.chunks(2).map(|answer| format!("{} {}", answer[0], answer[1])).collect();
+    assert_eq!(lines, ["0 0", "0 0", "0 0", "16 0", "0 0", "0 0", "16 0", "0 0", "0 3"]);
+    assert_eq!(store.top(), 19);
+    let expected = words(
+        20,
+        &[
+            (2, [16, 2_147_483_665]),
+            (3, [18, 2_147_483_666]),
+            (16, [65, 0]),
+            (17, [66, 0]),
+            (18, [16, 2_147_483_665]),
+        ],
+    );
+    assert_eq!(store.words(), expected);
+}
+
+/// Overlapping runs: (B C D)(A B C) over one run of symbols, with a dead cell before them.
+fn overlapping() -> Vec<u32> {
+    words(
+        24,
+        &[
+            (0, [21, EMPTY + 22]),
+            (16, [70, 0]),
+            (17, [65, 0]),
+            (18, [66, 0]),
+            (19, [67, 0]),
+            (20, [68, 0]),
+            (21, [18, EMPTY + 20]),
+            (22, [17, EMPTY + 19]),
+        ],
+    )
+}
+
+#[test]
+fn p2_and_p3_overlapping_runs_close_up_once() {
+    let mut store = Store::from_parts(overlapping(), 23);
+    assert_eq!(store.look(0).to_string(), "(66 67 68) (65 66 67)");
+    assert_eq!(store.collect(), Ok(6));
+    assert_eq!(store.top(), 22);
+    let expected = words(
+        24,
+        &[
+            (0, [20, EMPTY + 21]),
+            (16, [65, 0]),
+            (17, [66, 0]),
+            (18, [67, 0]),
+            (19, [68, 0]),
+            (20, [17, EMPTY + 19]),
+            (21, [16, EMPTY + 18]),
+        ],
+    );
+    assert_eq!(store.words(), expected);
+    assert_eq!(store.look(0).to_string(), "(66 67 68) (65 66 67)");
+    assert_eq!(store.collect(), Ok(6));
+    assert_eq!((store.top(), store.words()), (22, &expected[..]));
+}
+
+#[test]
+fn p4_no_heap_at_all() {
+    let mut store = fresh(16);
+    assert_eq!(store.call(Call::Symbol { d: 0, code: 1 }), Ok(refused(Fault::Room)));
+    assert_eq!(store.call(Call::Wrap { d: 0, a: 0 }), Ok(refused(Fault::Room)));
+    assert_eq!(store.call(Call::Join { d: 0, a: 0, b: 0 }), Ok(Answer::Done));
+    assert_eq!((store.top(), store.words()), (16, &words(16, &[])[..]));
+}
+
+#[test]
+fn p5_the_largest_code() {
+    let mut store = fresh(20);
+    assert_eq!(store.call(Call::Symbol { d: 0, code: 268_435_455 }), Ok(Answer::Done));
+    assert_eq!(store.call(Call::Symbol { d: 0, code: 268_435_456 }), Ok(refused(Fault::Code)));
+    assert_eq!(store.call(Call::First { a: 0 }), Ok(Answer::Value(268_435_455)));
+}
+
+#[test]
+fn p6_ends_of_a_bracket_in_cell_18() {
+    let with_ends = |l, r| {
+        Store::from_parts(words(24, &[(16, [1, 0]), (17, [2, 0]), (18, [l, EMPTY + r])]), 19)
+            .check()
+    };
+    assert_eq!(with_ends(16, 17), Ok(()));
+    assert_eq!(with_ends(16, 18), Err(Refusal::Damaged { cell: 18 }));
+    assert_eq!(with_ends(17, 16), Err(Refusal::Damaged { cell: 18 }));
+}
+
+#[test]
+fn p7_head_of_nothing_and_of_one_term() {
+    let mut store = fresh(20);
+    assert_eq!(store.call(Call::Head { d: 0, a: 0 }), Ok(refused(Fault::Empty)));
+    store.call(Call::Symbol { d: 0, code: 7 }).expect("the store is sound");
+    let before = store.words().to_vec();
+    assert_eq!(store.call(Call::Head { d: 0, a: 0 }), Ok(Answer::Done));
+    assert_eq!(store.look(0).to_string(), "7");
+    assert_eq!(store.words(), before);
+}
+
+#[test]
+fn p8_the_operation_is_judged_before_the_register() {
+    let mut answers = [9; 2];
+    fresh(16).run_words(&[12, 99, 0, 0], &mut answers).expect("the batch is run");
+    assert_eq!(answers, [10, 0]);
+}
+
+#[test]
+fn run_only_store_lengths() {
+    for (length, status) in [(0, 1), (30, 1), (33, 1), (8_194, 1), (32, 0), (8_192, 0)] {
+        let mut words = vec![5; length];
+        let reply = raw::fresh(&mut words);
+        assert_eq!(
+            reply,
+            Reply { status, value: 0, top: if status == 0 { 16 } else { 0 } },
+            "{length}"
+        );
+        assert_eq!(raw::check(&words, 16).status, status, "{length}");
+        assert_eq!(raw::collect(&mut words, 16).status, status, "{length}");
+        assert_eq!(raw::run(&mut words, 16, &[], &mut []).status, status, "{length}");
+        assert!(status == 0 || words.iter().all(|&word| word == 5), "{length}");
+    }
+}
+
+#[test]
+fn run_only_tops() {
+    for (top, status) in [(15, 2), (21, 2), (16, 0), (20, 0)] {
+        // Where 20 passes the four heap cells are symbols with code 0.
+        let mut words = words(20, &[]);
+        let expected = Reply { status, value: 0, top };
+        assert_eq!(raw::check(&words, top), expected);
+        assert_eq!(raw::run(&mut words, top, &[], &mut []), expected);
+    }
+}
+
+#[test]
+fn run_only_call_lists() {
+    for (length, status) in [(3, 4), (4_100, 4), (0, 0), (4_096, 0)] {
+        let calls = vec![0; length];
+        let mut answers = vec![9; 3_000];
+        let mut words = words(16, &[]);
+        let reply = raw::run(&mut words, 16, &calls, &mut answers);
+        assert_eq!(reply, Reply { status, value: 0, top: 16 }, "{length}");
+        let left = if status == 0 { 0 } else { 9 };
+        assert!(answers.iter().all(|&word| word == left), "{length}");
+    }
+}
+
+#[test]
+fn run_only_answer_space() {
+    let two_calls = [[10, 0, 0, 0], [10, 0, 0, 0]].concat();
+    let mut answers = [9; 3];
+    assert_eq!(fresh(16).run_words(&two_calls, &mut answers), Err(Refusal::Answers));
+    assert_eq!(answers, [9; 3]);
+    assert_eq!(fresh(16).run_words(&two_calls, &mut [9; 4]), Ok(()));
+}
+
+#[test]
+fn run_only_registers_and_stray_words() {
+    let mut store = fresh(16);
+    assert_eq!(store.call(Call::Clear { d: 15 }), Ok(Answer::Done));
+    assert_eq!(store.call(Call::Clear { d: 16 }), Ok(refused(Fault::Register)));
+    let mut answers = [9; 2];
+    store.run_words(&[0, 0, 1, 0], &mut answers).expect("the batch is run");
+    assert_eq!(answers, [12, 0]);
+}
