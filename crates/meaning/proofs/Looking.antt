@@ -21,7 +21,7 @@ run-in F lim (code a) t = absurd t
 run-in F lim hollow t = omega arith
 run-in F lim (ends l r) t = omega (arith, t .1, t .2)
 
-module _ (F : ℕ) (ws : List ℕ) (top : ℕ) (p : 0 < F) (s : Sound F ws top) (i : ℕ) where
+module _ (F : ℕ) (ws : List ℕ) (top : ℕ) (s : Sound F ws top) (i : ℕ) where
   pub span-register : i < F → lookSpan F ws top i ≡ spanOf (at ws i)
   unfolding lookSpan only
   span-register h = rw (sound-check F ws top s, lt-ltb i F h) refl
@@ -30,15 +30,20 @@ module _ (F : ℕ) (ws : List ℕ) (top : ℕ) (p : 0 < F) (s : Sound F ws top) 
   unfolding lookSpan only
   span-none h = rw (sound-check F ws top s, le-ltb i F h) refl
 
-  fits : i < F → 2 * start (at ws i) + 2 * size (at ws i) ≤ length ws
-  fits h = omega (arith, run-in F top (at ws i) (good F ws top p s .regs i h), s .high)
+  pub look-none : F ≤ i → look F ws top i ≡ []
+  unfolding look spanOf
+  look-none h = rw (span-none h) refl
+
+module _ (F : ℕ) (ws : List ℕ) (top : ℕ) (p : 0 < F) (s : Sound F ws top) (i : ℕ) where
+  pub run-fits : i < F → 2 * start (at ws i) + 2 * size (at ws i) ≤ length ws
+  run-fits h = omega (arith, run-in F top (at ws i) (good F ws top p s .regs i h), s .high)
 
   -- two words a term
   pub look-length : i < F → length (look F ws top i) ≡ 2 * terms (meaning ws i)
   unfolding look spanOf
   look-length h =
-      rw (span-register h, ← size-terms F ws top p s i h)
-      (simp (length-take, length-drop) (omega (arith, fits h)))
+      rw (span-register F ws top s i h, ← size-terms F ws top p s i h)
+      (simp (length-take, length-drop) (omega (arith, run-fits h)))
 
   -- the words from the left end on
   pub look-word : i < F → (k : ℕ) → k < 2 * size (at ws i)
@@ -46,11 +51,7 @@ module _ (F : ℕ) (ws : List ℕ) (top : ℕ) (p : 0 < F) (s : Sound F ws top) 
   unfolding look spanOf
   look-word h k l =
       let m : k < 2 * start (at ws i) + 2 * size (at ws i) - 2 * start (at ws i) = omega arith in
-      rw (span-register h) (rw (getD-take, getD-drop) refl)
-
-  pub look-none : F ≤ i → look F ws top i ≡ []
-  unfolding look spanOf
-  look-none h = rw (span-none h) refl
+      rw (span-register F ws top s i h) (rw (getD-take, getD-drop) refl)
 
 -- an unsound store
 pub look-unsound : (F : ℕ) (ws : List ℕ) (top i n : ℕ) → check F ws top .status ≡ suc n → look F ws top i ≡ []

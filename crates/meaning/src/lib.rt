@@ -6,3 +6,14 @@ pub const FIRST_CELL: usize = 16;
 
 // The most cells that a store may have.
 pub const LIMIT: usize = 4096;
+
+// The largest code of a symbol.
+pub const CODE_LIMIT: u32 = 268435455;
+
+// The longest call list, in words.
+pub const CALL_WORDS: usize = 4096;
+
+// The program's own most cells, and its longest input in bytes.
+pub const PROGRAM_CELLS: usize = 4096;
+
+pub const PROGRAM_BYTES: usize = 16388;

@@ -1,0 +1,70 @@
+-- The claims of specs/Unique.antt. Each answer is got back from what document 01 says of it, by a function on the left
+-- of its statement.
+-- Assumes nothing.
+use mathlib.Core.Path.{_≡_, refl, sym, ap, _∙_}
+use mathlib.Core.List.{List}
+use Prim.Native.Nat.{ℕ, zero, suc, _-_}
+use lib.ListN.{take, drop}
+use Rattle.meaning.specs.Check.{Verdict, only, Done, done, refused, Span, onZero, look}
+use Rattle.store.specs.Answers.{verdictOf, madeIn}
+use Rattle.store.specs.Unique.{VerdictsDiffer, OneCheck, OneFresh, OneSpan, OneLook, LookAtSpan}
+use Rattle.store.specs.declared.Checked.{Checked}
+use Rattle.store.specs.declared.Checked.the-variants as checked
+use Rattle.store.specs.declared.Made.{Made}
+use Rattle.store.specs.declared.Made.the-variants as made
+use Rattle.store.specs.declared.Extent.{Extent}
+
+abbrev numbered : ℕ → ℕ → Checked
+numbered zero v = checked.Sound
+numbered (suc zero) v = checked.BadLength
+numbered (suc (suc zero)) v = checked.BadTop
+numbered (suc (suc (suc s))) v = checked.Damaged v
+
+numbered-back : (r : Checked) → numbered (verdictOf r .status) (verdictOf r .value) ≡ r
+unfolding only
+numbered-back checked.Sound = refl
+numbered-back checked.BadLength = refl
+numbered-back checked.BadTop = refl
+numbered-back (checked.Damaged c) = refl
+
+pub verdicts-differ : VerdictsDiffer
+verdicts-differ r r′ e =
+    sym (numbered-back r) ∙ ap (λ (v : Verdict). numbered (v .status) (v .value)) e ∙ numbered-back r′
+
+pub one-check : OneCheck
+one-check ws top r r′ p q = verdicts-differ r r′ (p ∙ sym q)
+
+abbrev madeOf : Done → Made
+madeOf d = onZero (d .verdict .status) (made.Ready (d .top)) made.BadLength
+
+made-back : (r : Made) (vs : List ℕ) → madeOf (madeIn r vs) ≡ r
+unfolding only done refused
+made-back (made.Ready t) vs = refl
+made-back made.BadLength vs = refl
+
+words-back : (r : Made) (vs : List ℕ) → madeIn r vs .words ≡ vs
+unfolding done refused
+words-back (made.Ready t) vs = refl
+words-back made.BadLength vs = refl
+
+pub one-fresh : OneFresh
+one-fresh ws r r′ vs vs′ p q =
+    let e : madeIn r vs ≡ madeIn r′ vs′ = p ∙ sym q in
+    let w : madeIn r vs .words ≡ madeIn r′ vs′ .words = ap (λ (d : Done). d .words) e in
+    (sym (made-back r vs) ∙ ap madeOf e ∙ made-back r′ vs′, sym (words-back r vs) ∙ w ∙ words-back r′ vs′)
+
+abbrev extentOf : Span → Extent
+extentOf s = record { from = s .from; to = s .to }
+
+pub one-span : OneSpan
+one-span ws top i r r′ p q = ap extentOf (p .0 ∙ sym (q .0))
+
+pub one-look : OneLook
+one-look ws top i r r′ p q =
+    let b : r .ptr .0 ≡ r′ .ptr .0 = p .1 .0 ∙ sym (q .1 .0) in
+    let o : r .ptr .1 ≡ r′ .ptr .1 = p .1 .1 ∙ sym (q .1 .1) in
+    (p .0 ∙ sym (q .0), λ j. (b j, o j))
+
+pub look-at-span : LookAtSpan
+unfolding look
+look-at-span ws top i r p = ap (λ (s : Span). take (s .to - s .from) (drop (s .from) ws)) (sym (p .0))

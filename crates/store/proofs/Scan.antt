@@ -1,0 +1,59 @@
+-- The check by its tests, and the pass over the cells a step at a time: what the loop of `check` does.
+-- Assumes nothing.
+use mathlib.Core.Path.{_≡_, refl, sym, _∙_}
+use mathlib.Core.Bool.{Bool, true, false}
+use mathlib.Core.List.{List}
+use Prim.Native.Nat.{ℕ, suc, _+_, _-_, _≤_, _<_}
+use native.Mathlib.Numerals.{add-one}
+use native.Mathlib.Omega.{arith}
+use lib.ListN.{length}
+use borrow.Author.Tests.{lt-ltb, le-ltb}
+use Rattle.words.specs.Cell.{firstWord, secondWord}
+use Rattle.meaning.specs.Sound.{capacity}
+use Rattle.meaning.specs.Check.{only, cellTest, damaged, lengthTest, topTest, verdictAt, check}
+
+-- the test of a cell's words, from the test of what was read
+pub tested : (F top c : ℕ) {x y a b : ℕ} {r t : Bool} → x ≡ a → y ≡ b → r ≡ cellTest F top c x y → r ≡ t
+    → cellTest F top c a b ≡ t
+tested F top c p q e f = rw (← p, ← q) (sym e ∙ f)
+
+module _ (F : ℕ) (ws : List ℕ) (top : ℕ) where
+  pub check-length : lengthTest F (length ws) ≡ false → check F ws top ≡ only 1
+  unfolding check
+  check-length e = rw (e, check)
+
+  pub check-top : lengthTest F (length ws) ≡ true → topTest F (capacity ws) top ≡ false → check F ws top ≡ only 2
+  unfolding check
+  check-top e f = rw (e, f, check)
+
+  pub check-cells : lengthTest F (length ws) ≡ true → topTest F (capacity ws) top ≡ true
+      → check F ws top ≡ verdictAt ws (damaged F ws top 0 (capacity ws))
+  unfolding check
+  check-cells e f = rw (e, f, check)
+
+  module _ (cells c : ℕ) where
+    -- a turn of the loop
+    pub turn : c < cells → cellTest F top c (firstWord ws c) (secondWord ws c) ≡ true
+        → damaged F ws top (c + 1) (cells - (c + 1)) ≡ damaged F ws top c (cells - c)
+    turn h e =
+        let k : cells - c ≡ suc (cells - suc c) = omega arith in
+        rw (k, add-one c, e, damaged) refl
+
+    -- it leaves with the damaged cell
+    pub stop : c < cells → cellTest F top c (firstWord ws c) (secondWord ws c) ≡ false
+        → damaged F ws top c (cells - c) ≡ c
+    stop h e =
+        let k : cells - c ≡ suc (cells - (c + 1)) = omega arith in
+        rw (k, e, damaged) refl
+
+    -- it leaves at the end
+    pub finish : cells ≤ c → damaged F ws top c (cells - c) ≡ c
+    finish h = let k : cells - c ≡ 0 = omega arith in rw k refl
+
+pub verdict-damaged : (ws : List ℕ) (c : ℕ) → c < capacity ws → verdictAt ws c ≡ record { status = 3; value = c }
+unfolding verdictAt
+verdict-damaged ws c h = rw (lt-ltb c (capacity ws) h, verdictAt) refl
+
+pub verdict-sound : (ws : List ℕ) (c : ℕ) → capacity ws ≤ c → verdictAt ws c ≡ only 0
+unfolding verdictAt
+verdict-sound ws c h = rw (le-ltb c (capacity ws) h, verdictAt) refl

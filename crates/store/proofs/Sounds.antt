@@ -1,0 +1,73 @@
+-- What the answer of the check says of the store, for those that go on only where it is sound.
+-- Assumes nothing.
+use mathlib.Core.Path.{_≡_, refl, sym, ap, _∙_}
+use mathlib.Core.Logic.{_≢_, _↔_}
+use mathlib.Core.Bool.{Bool, true, false}
+use mathlib.Core.List.{List}
+use Prim.Native.Nat.{ℕ, zero, suc, _+_, _*_, _≤_, _<_}
+use native.Mathlib.Omega.{arith}
+use lib.Dec.{eqb, lit<}
+use lib.ListN.{length}
+use borrow.Author.Tests.{eqb-true, eqb-false, eq-eqb}
+use Rattle.meaning.specs.Limits.{firstCell, limit}
+use Rattle.meaning.specs.Sound.{Sound}
+use Rattle.meaning.specs.Check.{Verdict, only, check, onZero, ifSound}
+use Rattle.meaning.proofs.Checking.{sound-check, check-sound}
+use Rattle.store.specs.Answers.{verdictOf}
+use Rattle.store.specs.Holds.{Bracketed, Termed}
+use Rattle.store.specs.declared.Checked.{Checked}
+
+pub firstCell-pos : 0 < firstCell
+firstCell-pos = lit< tt
+
+onZero-yes : {A : Type 0} (s : ℕ) (x y : A) → s ≡ 0 → onZero s x y ≡ x
+onZero-yes s x y e = rw e refl
+
+onZero-no : {A : Type 0} (s : ℕ) (x y : A) → s ≢ 0 → onZero s x y ≡ y
+onZero-no zero x y n = absurd (n refl)
+onZero-no (suc s) x y n = refl
+
+-- `found` is the answer of `check`, and the test is that of `is_sound`
+module _ (F : ℕ) (ws : List ℕ) (top : ℕ) (found : Checked) (q : verdictOf found ≡ check F ws top) where
+  abbrev zero? : Bool
+  zero? = eqb (verdictOf found .status) 0
+
+  status : verdictOf found .status ≡ check F ws top .status
+  status = ap (λ (v : Verdict). v .status) q
+
+  status-zero : zero? ≡ true → check F ws top .status ≡ 0
+  status-zero e = sym status ∙ eqb-true (verdictOf found .status) 0 e
+
+  pub sound-no : zero? ≡ false → check F ws top .status ≢ 0
+  sound-no e z = eqb-false (verdictOf found .status) 0 e (status ∙ z)
+
+  pub sound-iff : (zero? ≡ true) ↔ Sound F ws top
+  unfolding only
+  sound-iff = (
+    λ e. check-sound F ws top (status-zero e),
+    λ s. eq-eqb (verdictOf found .status) 0 (status ∙ ap (λ (v : Verdict). v .status) (sound-check F ws top s)),
+  )
+
+  pub ifSound-yes : {A : Type 0} (x y : A) → zero? ≡ true → ifSound (check F ws top) x y ≡ x
+  ifSound-yes x y e = onZero-yes (check F ws top .status) x y (status-zero e)
+
+  pub ifSound-no : {A : Type 0} (x y : A) → zero? ≡ false → ifSound (check F ws top) x y ≡ y
+  ifSound-no x y e = onZero-no (check F ws top .status) x y (sound-no e)
+
+-- a sound store's cells may be read
+module _ (ws : List ℕ) (top : ℕ) (s : Sound firstCell ws top) where
+  top-limit : top ≤ limit
+  top-limit = omega (arith, s .high, s .small)
+
+  pub register-bracketed : (i : ℕ) → i < firstCell → Bracketed ws i
+  register-bracketed i h = (top, top-limit, s .registers i h)
+
+  pub heap-termed : (c : ℕ) → firstCell ≤ c → c < top → Termed ws c
+  heap-termed c l h = (c, omega (arith, top-limit), s .heap c l h)
+
+  -- its words lie in the store
+  pub register-inside : (i : ℕ) → i < firstCell → 2 * i + 1 < length ws
+  register-inside i h = omega (arith, s .large)
+
+  pub heap-inside : (c : ℕ) → c < top → 2 * c + 1 < length ws
+  heap-inside c h = omega (arith, s .high)

@@ -1,0 +1,63 @@
+-- `store::run_at` meets its contract. Assumes nothing.
+use Prim.Native.Nat.{ℕ, _+_, _-_}
+use mathlib.Core.Path.{sym, ap, _∙_}
+use native.Mathlib.Omega.{arith}
+use Rattle.words.specs.Cell.{firstWord}
+use Rattle.meaning.specs.Limits.{firstCell}
+use Rattle.meaning.specs.Sound.{at}
+use Rattle.store.proofs.Sounds.{firstCell-pos}
+use Rattle.store.proofs.Held.{Contents, contents}
+use borrow.Author.Needs.{needs}
+use Rattle.store.proofs.run_at.Statement.{statement}
+use Rattle.store.proofs.run_at.Tie as tie
+
+known : (c : tie.After-right-end) →
+    let a = c .before .before .before .args in
+    Contents (firstWord (a .ws .now) (a .c)) (c .right-end .result) (at (a .ws .now) (a .c))
+known c =
+    let p = c .before .before .before .pre .1 in
+    contents firstCell (p .0) firstCell-pos (p .1) _ _ (c .before .second-word .ensures) (c .right-end .ensures) (p .2)
+
+second-word-requires : tie.Need-second-word-requires
+second-word-requires c κs = search needs
+
+right-end-requires : tie.Need-right-end-requires
+right-end-requires c κs = search needs
+
+cast-last : tie.Need-cast-last
+cast-last c = search needs
+
+returns : tie.Need-returns
+returns c = let e = known (c .before) .empty (c .if1 .taken) in (sym (e .0), sym (e .1))
+
+first-word-requires : tie.Need-first-word-requires
+first-word-requires c κs = search needs
+
+cast-start : tie.Need-cast-start
+cast-start c = search needs
+
+add-size : tie.Need-add-size
+add-size c = search needs
+
+sub-size : tie.Need-sub-size
+sub-size c = omega (arith, known (c .before .before) .full (c .before .if1 .left) .0, c .first-word .ensures)
+
+returns-2 : tie.Need-returns-2
+returns-2 c =
+    let f = known (c .before .before) .full (c .before .if1 .left) in
+    let e = c .first-word .ensures in
+    (e ∙ sym (f .1), ap (λ (x : ℕ). c .before .before .right-end .result + 1 - x) e ∙ sym (f .2))
+
+pub run-at-spec : {M : Type 1} → statement M
+run-at-spec =
+    tie.close
+    (tie.spec
+    second-word-requires
+    right-end-requires
+    cast-last
+    returns
+    first-word-requires
+    cast-start
+    add-size
+    sub-size
+    returns-2)

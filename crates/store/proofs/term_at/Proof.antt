@@ -1,0 +1,59 @@
+-- `store::term_at` meets its contract. Assumes nothing.
+use mathlib.Core.Path.{_≡_, refl, sym, ap, _∙_}
+use mathlib.Core.Bool.{false}
+use Rattle.meaning.specs.Limits.{firstCell}
+use Rattle.meaning.specs.Sound.{at, code}
+use Rattle.store.specs.Holds.{Bracketed, isCode}
+use Rattle.store.proofs.Sounds.{firstCell-pos}
+use Rattle.store.proofs.Held.{br-tested, contents, term-bracket, term-symbol}
+use borrow.Author.Needs.{needs}
+use Rattle.store.proofs.term_at.Statement.{statement}
+use Rattle.store.proofs.term_at.Tie as tie
+
+bracketed : (c : tie.Then1) →
+    let a = c .before .before .before .before .args in
+    Bracketed (a .ws .now) (a .c)
+bracketed c =
+    let p = c .before .before .before .before .pre .1 in
+    let e = br-tested (c .before .before .second-word .ensures) (c .before .is-bracket .ensures) (c .if1 .taken) in
+    (p .0, p .1, term-bracket firstCell (p .0) firstCell-pos (p .1) (p .2) e)
+
+bracketed-not : (c : tie.Then1) →
+    let a = c .before .before .before .before .args in
+    isCode (at (a .ws .now) (a .c)) ≡ false
+bracketed-not c =
+    let b = bracketed c in
+    contents firstCell (b .0) firstCell-pos (b .1) _ _ refl refl (b .2) .notCode
+
+second-word-requires : tie.Need-second-word-requires
+second-word-requires c κs = search needs
+
+is-bracket-requires : tie.Need-is-bracket-requires
+is-bracket-requires c κs = search needs
+
+run-at-requires : tie.Need-run-at-requires
+run-at-requires c κs = (search needs, bracketed c)
+
+returns : tie.Need-returns
+returns c = (bracketed-not (c .before), c .run-at .ensures)
+
+first-word-requires : tie.Need-first-word-requires
+first-word-requires c κs = search needs
+
+returns-2 : tie.Need-returns-2
+returns-2 c =
+    let at-test = c .before .before in
+    let p = at-test .before .before .before .pre .1 in
+    let e = br-tested (at-test .before .second-word .ensures) (at-test .is-bracket .ensures) (c .before .if1 .left) in
+    term-symbol firstCell (p .0) firstCell-pos (p .1) _ _ (p .2) e ∙ ap code (sym (c .first-word .ensures))
+
+pub term-at-spec : {M : Type 1} → statement M
+term-at-spec =
+    tie.close
+    (tie.spec
+    second-word-requires
+    is-bracket-requires
+    run-at-requires
+    returns
+    first-word-requires
+    returns-2)

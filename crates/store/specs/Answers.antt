@@ -1,0 +1,37 @@
+-- Document 01's number and values for each case of an answer ("Numbers that come back").
+-- Assumes nothing.
+use mathlib.Core.Path.{_≡_}
+use mathlib.Core.List.{List}
+use Prim.Native.Nat.{ℕ, _+_, _*_, _≤_}
+use lib.ListN.{length}
+use denote.Ref.{RefT}
+use Rattle.meaning.specs.Check.{Verdict, only, Done, done, refused, Span, lookSpan}
+use Rattle.store.specs.declared.Checked.{Checked}
+use Rattle.store.specs.declared.Checked.the-variants as checked
+use Rattle.store.specs.declared.Made.{Made}
+use Rattle.store.specs.declared.Made.the-variants as made
+use Rattle.store.specs.declared.Extent.{Extent}
+
+-- the check: 0; 1 for the length; 2 for `top`; 3 with the first damaged cell
+abbrev pub verdictOf : Checked → Verdict
+verdictOf checked.Sound = only 0
+verdictOf checked.BadLength = only 1
+verdictOf checked.BadTop = only 2
+verdictOf (checked.Damaged c) = record { status = 3; value = c }
+
+-- a fresh store: 0 with its `top`, or 1 with `top` 0; and the words that are left
+abbrev pub madeIn : Made → List ℕ → Done
+madeIn (made.Ready t) ws = done ws t 0
+madeIn made.BadLength ws = refused ws 0 (only 1)
+
+-- the look's place
+abbrev pub spanIn : Extent → Span
+spanIn e = record { from = e .from; to = e .to }
+
+-- the extent is that of register i's cells, and a part of the store
+abbrev pub Placed : ℕ → List ℕ → ℕ → ℕ → Extent → Type 0
+Placed F ws top i e = (spanIn e ≡ lookSpan F ws top i) × (e .from ≤ e .to) × (e .to ≤ length ws)
+
+-- r refers to the place s of what ws refers to: `ptr` is a block of memory and a byte of it, and a word has four bytes
+abbrev pub PartAt : RefT (List ℕ) → Span → RefT (List ℕ) → Type 0
+PartAt ws s r = (r .ptr .0 ≡ ws .ptr .0) × (r .ptr .1 ≡ ws .ptr .1 + 4 * s .from)

@@ -1,0 +1,8 @@
+-- What has to be believed of `store` beside `meaning`. In order:
+--   Answers  document 01's number and values for each case of an answer
+--   Holds    what a cell is read as
+--   Unique   the claims that no statement leaves a second outcome
+-- Assumes nothing.
+pub mod Answers
+pub mod Holds
+pub mod Unique

@@ -1,0 +1,189 @@
+// A store lent as a slice of words: its check, a fresh store, a look at a register; and, for the crates above, what a
+// cell of a sound store holds. The numbers of document 01 that an answer stands for are in specs/Answers.antt.
+ghost use mathlib.Core.Path.{_≡_};
+ghost use mathlib.Core.Bool.{cond};
+ghost use Prim.Native.Nat.{_+_, _*_, _<_};
+ghost use lib.Dec.{ltb, eqb};
+ghost use lib.ListN.{length};
+ghost use Rattle.words.specs.Second.{bracketTo};
+ghost use Rattle.meaning.specs.Limits.{firstCell, codeTest};
+ghost use Rattle.meaning.specs.Sound.{at};
+ghost use Rattle.meaning.specs.Check.{lengthTest, topTest, check, freshIn, lookSpan, look};
+ghost use Rattle.store.specs.Answers.{verdictOf, madeIn, Placed, PartAt};
+ghost use Rattle.store.specs.Holds.{Bracketed, Termed, RunIs, termIs};
+
+mod cells;
+
+// Whether a is a symbol's code.
+pub fn is_code(a: u32) -> bool
+    ensures { λ r. ⌜ r ≡ codeTest a ⌝ }
+{
+    a <= meaning::CODE_LIMIT
+}
+
+// What the check finds.
+pub enum Checked {
+    Sound,
+    BadLength,
+    BadTop,
+    Damaged(usize),
+}
+
+fn length_ok(n: usize) -> bool
+    ensures { λ r. ⌜ r ≡ lengthTest firstCell n ⌝ }
+{
+    if n % 2 != 0 {
+        return false;
+    }
+    if n < 2 * meaning::FIRST_CELL {
+        return false;
+    }
+    n <= 2 * meaning::LIMIT
+}
+
+fn top_ok(top: usize, cells: usize) -> bool
+    ensures { λ r. ⌜ r ≡ topTest firstCell cells top ⌝ }
+{
+    if top < meaning::FIRST_CELL {
+        return false;
+    }
+    top <= cells
+}
+
+// The length, then `top`, then the cells from the lowest address up: one pass, which leaves at the first damaged cell.
+pub fn check(ws: &[u32], top: usize) -> Checked
+    ensures { λ r. ⌜ verdictOf r ≡ check firstCell (now (ws .entry)) top ⌝ }
+{
+    if !length_ok(ws.len()) {
+        return Checked::BadLength;
+    }
+    let cells = ws.len() / 2;
+    if !top_ok(top, cells) {
+        return Checked::BadTop;
+    }
+    let mut c: usize = 0;
+    loop {
+        if cells <= c {
+            break Checked::Sound;
+        }
+        if !cells::cell_ok(words::first_word(ws, c), words::second_word(ws, c), c, top) {
+            break Checked::Damaged(c);
+        }
+        c += 1;
+    }
+}
+
+pub fn is_sound(found: Checked) -> bool
+    ensures { λ r. ⌜ r ≡ eqb (verdictOf found .status) 0 ⌝ }
+{
+    match found {
+        Checked::Sound => true,
+        Checked::BadLength => false,
+        Checked::BadTop => false,
+        Checked::Damaged(_) => false,
+    }
+}
+
+// What making a fresh store answers: its `top`, or that the slice has no length that a store may have.
+pub enum Made {
+    Ready(usize),
+    BadLength,
+}
+
+// The second word of cell c in a fresh store.
+fn fresh_second(c: usize) -> u32
+    ensures { λ r. ⌜ r ≡ cond (ltb c firstCell) (bracketTo 0) 0 ⌝ }
+{
+    if c < meaning::FIRST_CELL {
+        return words::EMPTY;
+    }
+    0
+}
+
+// A fresh store, written into a slice of an allowed length. Any other slice is left as it is.
+pub fn fresh(ws: &mut [u32]) -> Made
+    ensures { λ r. ⌜ madeIn r (now (ws .exit)) ≡ freshIn firstCell (now (ws .entry)) ⌝ }
+{
+    if !length_ok(ws.len()) {
+        return Made::BadLength;
+    }
+    let cells = ws.len() / 2;
+    for c in 0..cells {
+        words::put_cell(ws, c, 0, fresh_second(c));
+    }
+    Made::Ready(meaning::FIRST_CELL)
+}
+
+// The contents of a bracket: `size` cells from `start` on, or 0 and 0 where it is empty.
+pub struct Run {
+    pub start: usize,
+    pub size: usize,
+}
+
+// The contents of cell c, which is a bracket.
+pub fn run_at(ws: &[u32], c: usize) -> Run
+    requires { ⌜ 2 * c + 1 < length (now ws) ⌝ }
+    requires { ⌜ Bracketed (now ws) c ⌝ }
+    ensures { λ r. ⌜ RunIs r (at (now (ws .entry)) c) ⌝ }
+{
+    let last = words::right_end(words::second_word(ws, c)) as usize;
+    if last == 0 {
+        return Run { start: 0, size: 0 };
+    }
+    let start = words::first_word(ws, c) as usize;
+    let size = last + 1 - start;
+    Run { start, size }
+}
+
+// A term: a symbol by its code, or a bracket by its contents.
+pub enum Term {
+    Symbol(u32),
+    Bracket(Run),
+}
+
+// The term of cell c, which is an occupied heap cell.
+pub fn term_at(ws: &[u32], c: usize) -> Term
+    requires { ⌜ 2 * c + 1 < length (now ws) ⌝ }
+    requires { ⌜ Termed (now ws) c ⌝ }
+    ensures { λ r. ⌜ termIs r (at (now (ws .entry)) c) ⌝ }
+{
+    if words::is_bracket(words::second_word(ws, c)) {
+        return Term::Bracket(run_at(ws, c));
+    }
+    Term::Symbol(words::first_word(ws, c))
+}
+
+// A part of the store, by its words: `from` up to but not including `to`.
+#[repr(C)]
+pub struct Extent {
+    pub from: usize,
+    pub to: usize,
+}
+
+// Where the cells of a register lie; 0 to 0 for an empty register, a register that is none, or an unsound store.
+pub fn span(ws: &[u32], top: usize, register: usize) -> Extent
+    ensures { λ r. ⌜ Placed firstCell (now (ws .entry)) top register r ⌝ }
+{
+    if !is_sound(check(ws, top)) {
+        return Extent { from: 0, to: 0 };
+    }
+    if meaning::FIRST_CELL <= register {
+        return Extent { from: 0, to: 0 };
+    }
+    let held = run_at(ws, register);
+    let from = 2 * held.start;
+    let to = from + 2 * held.size;
+    Extent { from, to }
+}
+
+// The part of the lent store that holds a register's cells, from its left end to its right end: not a copy of it, nor
+// equal words at another place.
+pub fn look(ws: &[u32], top: usize, register: usize) -> &[u32]
+    ensures words { λ r. ⌜ now r ≡ look firstCell (now (ws .entry)) top register ⌝ }
+    ensures place { λ r. ⌜ PartAt (ws .entry) (lookSpan firstCell (now (ws .entry)) top register) r ⌝ }
+{
+    let place = span(ws, top, register);
+    let from = place.from;
+    let to = place.to;
+    &ws[from..to]
+}
