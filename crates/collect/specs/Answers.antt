@@ -1,0 +1,14 @@
+-- Document 01's number and values for each case of collecting's answer ("Also public: .. collecting alone").
+-- Assumes nothing.
+use mathlib.Core.List.{List}
+use Prim.Native.Nat.{ℕ}
+use Rattle.meaning.specs.Check.{Done, only, done, refused}
+use Rattle.collect.specs.declared.Collected.{Collected}
+use Rattle.collect.specs.declared.Collected.the-variants as collected
+
+-- 0 with live and the new `top`, or 1 to 3 with `top` as it came; and the words that are left
+abbrev pub collectedIn : Collected → List ℕ → ℕ → Done
+collectedIn (collected.Done n t) ws top = done ws t n
+collectedIn collected.BadLength ws top = refused ws top (only 1)
+collectedIn collected.BadTop ws top = refused ws top (only 2)
+collectedIn (collected.Damaged c) ws top = refused ws top (record { status = 3; value = c })

@@ -1,0 +1,17 @@
+-- The claim that collecting's statement leaves no second outcome ("What the proofs have to nail"). Proved in
+-- proofs/Final.antt.
+-- Assumes nothing.
+use mathlib.Core.Path.{_≡_}
+use mathlib.Core.List.{List}
+use Prim.Native.Nat.{ℕ}
+use Rattle.meaning.specs.Limits.{firstCell}
+use Rattle.meaning.specs.Check.{collectIn}
+use Rattle.collect.specs.Answers.{collectedIn}
+use Rattle.collect.specs.declared.Collected.{Collected}
+
+-- the answer and every word of the slice
+abbrev pub OneCollect : Type 0
+OneCollect =
+    (ws : List ℕ) (top : ℕ) (r r′ : Collected) (vs vs′ : List ℕ)
+    → collectedIn r vs top ≡ collectIn firstCell ws top → collectedIn r′ vs′ top ≡ collectIn firstCell ws top
+    → (r ≡ r′) × (vs ≡ vs′)
