@@ -72,7 +72,7 @@ yes-term F c (isBracket {a} {b} h) = rw (ne-eqb b 0 (λ e. omega (arith, bracket
 
 -- ---- all cells
 
-two-zeros : (a b : ℕ) → cond (eqb a 0) (eqb b 0) false ≡ true → (a ≡ 0) × (b ≡ 0)
+pub two-zeros : (a b : ℕ) → cond (eqb a 0) (eqb b 0) false ≡ true → (a ≡ 0) × (b ≡ 0)
 two-zeros a b q = go (eqb a 0) refl q
   where
     go : (t : Bool) → eqb a 0 ≡ t → cond t (eqb b 0) false ≡ true → (a ≡ 0) × (b ≡ 0)

@@ -1,0 +1,204 @@
+-- Demand 2, calls: what `meaning` shows of a call through its plan, in document 01's words; and a batch, call by call.
+-- Assumes nothing.
+use mathlib.Core.Path.{_≡_, refl, sym, ap, _∙_, subst}
+use mathlib.Core.Logic.{_≢_}
+use mathlib.Core.Bool.{Bool, true, false, cond}
+use mathlib.Core.List.{List}
+use Prim.Native.Nat.{ℕ, zero, suc, _+_, _-_, _≤_, _<_}
+use native.Mathlib.Nat.{add-zero}
+use native.Mathlib.Omega.{arith}
+use lib.Dec.{ltb, eqb}
+use borrow.Author.Tests.{ltb-true, lt-ltb, le-ltb, lt-leb, ne-eqb}
+use Rattle.meaning.specs.Sound.{at, capacity, Sound}
+use Rattle.meaning.specs.Meaning.{meaning}
+use Rattle.meaning.specs.Reach.{live}
+use Rattle.meaning.specs.Collected.{collected, collectedTop}
+use Rattle.meaning.specs.Check.{Done, done, refused}
+use Rattle.meaning.specs.Call.{ops, opAt, uses, wrong11, wrong12, wrong13, fault, planOf, perform, stepAfter, step}
+use Rattle.meaning.specs.Effect.{does, orElse, callStatus}
+use Rattle.meaning.specs.Batch.{then, runs, ended}
+use Rattle.meaning.proofs.Reaching.{live-le}
+use Rattle.meaning.proofs.Uses.{right}
+use Rattle.meaning.proofs.Plans.{planLacks, planTop, topAfter, WordsAfter}
+use Rattle.meaning.proofs.Steps.{Steps, step-meets, lacks-need, Fours, none, four}
+use Rattle.meaning.proofs.Batches.{batch-runs}
+use Rattle.promises.specs.Calls.{effect, lacking, collectsFirst, base, baseTop, OnlyThere, CallsDo, CallsAnswer}
+use Rattle.promises.specs.Calls.{Answered, next, BatchesRun}
+use Rattle.promises.proofs.Struck.{answers-length}
+use Rattle.promises.proofs.Acting.{is-collect, orElse-zero, op-small, stays, first, plan-top, plan-words}
+use Rattle.promises.proofs.Acting.{asked-words}
+
+-- ---- a call, whatever its words are
+
+-- the words and `top` of a refused call
+module _ (ws ws₁ v : List ℕ) (x y top u : ℕ) where
+  as-was : (s : ℕ) → WordsAfter s ws ws₁ v → u ≡ topAfter s x y top → s ≢ 0 → s ≢ 16 → (v ≡ ws) × (u ≡ top)
+  as-was zero w t n m = absurd (n refl)
+  as-was (suc s) w t n m = let z : eqb s 15 ≡ false = ne-eqb s 15 (omega arith) in (rw z at w, rw z at t)
+
+-- 16 by room alone
+sixteen : (c n : ℕ) (s : ℕ) → s ≡ cond (ltb c n) 16 0 → (s ≡ 16 → c < n) × (c < n → s ≡ 16)
+sixteen c n s e = (λ z. go (ltb c n) refl (sym e ∙ z), λ l. e ∙ rw (lt-ltb c n l) refl)
+  where
+    go : (t : Bool) → ltb c n ≡ t → _≡_ {A = ℕ} (cond t 16 0) 16 → c < n
+    go true q r = ltb-true c n q
+    go false q r = absurd (omega arith)
+
+module _ (F : ℕ) (p : 0 < F) (ws : List ℕ) (top : ℕ) (s : Sound F ws top) (o d a b : ℕ) where
+  abbrev r : Done
+  r = step F ws top o d a b
+
+  abbrev n : ℕ
+  n = does (opAt o) (meaning ws) (live F ws top) d a b .need
+
+  m : Steps F ws top o d a b r
+  m = step-meets F ws top p s o d a b
+
+  status : r .verdict .status ≡ callStatus F (meaning ws) (live F ws top) (lacking F ws top n) o d a b
+  unfolding callStatus
+  status = m .status ∙ go (fault F o d a b) refl
+    where
+      go : (f : ℕ) → fault F o d a b ≡ f
+          → orElse f (orElse (does (opAt o) (meaning ws) (live F ws top) d a b .unfit)
+          (cond (planLacks F (planOf (opAt o) F ws top d a b) ws top) 16 0))
+          ≡ orElse f (orElse (does (opAt o) (meaning ws) (live F ws top) d a b .unfit) (cond (lacking F ws top n) 16 0))
+      go zero q = rw (lacks-need F ws top p s (opAt o) d a b (right F o d a b q)) refl
+      go (suc f) q = refl
+
+  -- done: its own words are right
+  faultless : r .verdict .status ≡ 0 → fault F o d a b ≡ 0
+  unfolding callStatus
+  faultless e = orElse-zero (fault F o d a b) _ (sym status ∙ e)
+
+  firsts : fault F o d a b ≡ 0 → collectsFirst o ws top n ≡ first F ws top p s d a b (opAt o)
+  firsts q = ap (λ (x : Bool). cond x true (ltb (capacity ws) (top + n))) (is-collect o (op-small F o d a b q))
+
+  done-top : r .verdict .status ≡ 0 → r .top ≡ baseTop F o ws top n + n
+  done-top e =
+      let q = faultless e in
+      m .tops ∙ rw (e, firsts q) (plan-top F ws top p s d a b (opAt o) (right F o d a b q))
+
+  performed : fault F o d a b ≡ 0 → r ≡ perform (opAt o) F ws top d a b
+  unfolding step stepAfter
+  performed q = rw q refl
+
+  done-words : r .verdict .status ≡ 0 → OnlyThere d (baseTop F o ws top n) n (base F o ws top n) (r .words)
+  done-words e =
+      let q = faultless e in
+      let z = performed q in
+      rw (firsts q, z) (plan-words F ws top p s d a b (opAt o) (right F o d a b q)
+      (ap (λ (x : Done). x .verdict .status) (sym z) ∙ e))
+
+  asked : r .verdict .status ≡ 0 → 8 ≤ o → r .words ≡ base F o ws top n
+  asked e l =
+      let q = faultless e in
+      let k : o - 8 < 4 = omega (arith, op-small F o d a b q) in
+      let z : 8 + (o - 8) ≡ o = omega arith in
+      ap (λ (x : Done). x .words) (performed q)
+      ∙ (subst (λ (y : ℕ). perform (opAt y) F ws top d a b .words ≡ cond (first F ws top p s d a b (opAt y))
+      (collected F ws top) ws) z (asked-words F ws top p s d a b (o - 8) k)
+      ∙ rw (firsts q) refl)
+
+  -- without need, and not COLLECT
+  as-it-is : o ≢ 11 → n ≡ 0 → collectsFirst o ws top n ≡ false
+  as-it-is h z = rw (ne-eqb o 11 h, z) (stays F ws top p s)
+
+pub calls-do : CallsDo
+unfolding collectedTop callStatus
+calls-do F p ws top s o d a b =
+    let x = m F p ws top s o d a b in
+    let r = step F ws top o d a b in
+    let t = as-was ws (collected F ws top) (r .words) (planTop F (planOf (opAt o) F ws top d a b) ws top)
+    (F + live F ws top) top (r .top) in
+    let g = done-top F p ws top s o d a b in
+    let w = done-words F p ws top s o d a b in
+    record {
+      status = status F p ws top s o d a b;
+      value = x .value;
+      registers = x .registers;
+      noRoom = λ f u. sixteen (capacity ws) (F + live F ws top + effect F ws top o d a b .need) (r .verdict .status)
+          (status F p ws top s o d a b ∙ rw (f, u) refl);
+      doneTop = g;
+      doneWords = w;
+      asked = asked F p ws top s o d a b;
+      noNeed = λ e h z. (
+        g e ∙ rw (as-it-is F p ws top s o d a b h z, z) (add-zero top),
+        rw (as-it-is F p ws top s o d a b h z, z) at (w e),
+      );
+      full = λ e. (rw e at (x .left), x .tops ∙ rw e refl);
+      refused = t (r .verdict .status) (x .left) (x .tops);
+      sound = x .sound;
+      len = x .len;
+    }
+
+-- ---- LENGTH, FIRST, LIVE, COLLECT
+
+by-parts : (x : Done) (w : List ℕ) (u c v : ℕ) → x .verdict .status ≡ c → x .verdict .value ≡ v → x .words ≡ w
+    → x .top ≡ u
+    → x ≡ record { verdict = record { status = c; value = v }; words = w; top = u }
+by-parts x w u c v e f g h = rw (← e, ← f, ← g, ← h) refl
+
+is-done : (x : Done) (w : List ℕ) (u v : ℕ) → x .verdict .status ≡ 0 → x .verdict .value ≡ v → x .words ≡ w → x .top ≡ u
+    → x ≡ done w u v
+unfolding done
+is-done x w u v = by-parts x w u 0 v
+
+module _ (F : ℕ) (p : 0 < F) (ws : List ℕ) (top : ℕ) (s : Sound F ws top) where
+  fault-one : (a : ℕ) → a < F → (fault F 8 0 a 0 ≡ 0) × (fault F 9 0 a 0 ≡ 0)
+  unfolding fault uses wrong11 wrong12 wrong13
+  fault-one a h = (rw (lt-leb F a h) refl, rw (lt-leb F a h) refl)
+
+  fault-none : (fault F 10 0 0 0 ≡ 0) × (fault F 11 0 0 0 ≡ 0)
+  unfolding fault uses wrong11 wrong12 wrong13
+  fault-none = (refl, refl)
+
+  -- a call without need that changes no register, in the store that is collected first where x says so
+  ask : (o a : ℕ) (x : Bool) → 8 ≤ o → fault F o 0 a 0 ≡ 0 → effect F ws top o 0 a 0 .unfit ≡ 0
+      → effect F ws top o 0 a 0 .need ≡ 0 → collectsFirst o ws top 0 ≡ x
+      → step F ws top o 0 a 0 ≡ done (cond x (collected F ws top) ws) (cond x (F + live F ws top) top)
+      (effect F ws top o 0 a 0 .value)
+  unfolding callStatus
+  ask o a x l f u z c =
+      let k = calls-do F p ws top s o 0 a 0 in
+      let g : lacking F ws top 0 ≡ false = le-ltb (capacity ws) (F + live F ws top + 0)
+      (omega (arith, live-le F ws top p s, s .high)) in
+      let e : step F ws top o 0 a 0 .verdict .status ≡ 0 = k .status ∙ rw (f, u, z, g) refl in
+      is-done (step F ws top o 0 a 0) (cond x (collected F ws top) ws) (cond x (F + live F ws top) top)
+      (effect F ws top o 0 a 0 .value) e
+      (k .value ∙ rw e refl) (k .asked e l ∙ rw (z, c) refl)
+      (k .doneTop e ∙ rw (z, c) (add-zero (cond x (F + live F ws top) top)))
+
+pub calls-answer : CallsAnswer
+unfolding opAt ops
+calls-answer F p ws top s =
+    let k = stays F ws top p s in
+    record {
+      lengths = λ a h. ask F p ws top s 8 a false (omega arith) (fault-one F p ws top s a h .0) refl refl k;
+      firsts = λ a c e h z. ask F p ws top s 9 a false (omega arith) (fault-one F p ws top s a h .1) (rw z refl) refl k
+          ∙ rw z refl;
+      lives = ask F p ws top s 10 0 false (omega arith) (fault-none F p ws top s .0) refl refl k;
+      collects = ask F p ws top s 11 0 true (omega arith) (fault-none F p ws top s .1) refl refl refl;
+    }
+
+-- ---- a batch
+
+answered : (F : ℕ) (p : 0 < F) (ws : List ℕ) (top : ℕ) {cs : List ℕ} → Fours cs → Sound F ws top
+    → Answered F ws top cs (runs F ws top cs .answers) (runs F ws top cs .words) (runs F ws top cs .top)
+unfolding then
+answered F p ws top none s = Answered.none
+answered F p ws top (four {o} {d} {a} {b} {cs} c) s =
+    let r = step F ws top o d a b in
+    let k = calls-do F p ws top s o d a b in
+    next r refl k (answered F p (r .words) (r .top) c (k .sound))
+
+pub batches-run : BatchesRun
+unfolding ended
+batches-run F p ws top calls out e =
+    let q = batch-runs F p ws top calls out e in
+    rw (q .2)
+    (record {
+      said = runs F ws top calls .answers;
+      answered = answered F p ws top (q .1) (q .0);
+      many = answers-length F ws top (q .1);
+      answers = refl;
+    })

@@ -1,0 +1,82 @@
+-- The claims of specs/, each with its proof. Nothing else stands here.
+-- Assumes nothing.
+use Rattle.promises.specs.Table.{CheckAnswers, FreshAnswers, CollectAnswers, LookAnswers, BatchAnswers}
+use Rattle.promises.specs.Table.{CallAnswers}
+use Rattle.promises.specs.Collecting.{LiveCounts, CollectingGathers}
+use Rattle.promises.specs.Calls.{CallsDo, CallsAnswer, BatchesRun}
+use Rattle.promises.specs.Alike.{AlikeIsCollected, CollectionsNeverShow}
+use Rattle.promises.specs.Unique.{OneAnswer, OneCheck, OneFresh, OneCollected, OneLook, OneCollect, OneBatch}
+use Rattle.promises.proofs.Tables as tables
+use Rattle.promises.proofs.Gathering as gathering
+use Rattle.promises.proofs.Calling as calling
+use Rattle.promises.proofs.Alikes as alikes
+use Rattle.promises.proofs.Struck as struck
+use Rattle.promises.proofs.Once as once
+
+-- ---- demand 1
+
+pub check-answers : CheckAnswers
+check-answers = tables.check-answers
+
+pub fresh-answers : FreshAnswers
+fresh-answers = tables.fresh-answers
+
+pub collect-answers : CollectAnswers
+collect-answers = tables.collect-answers
+
+pub look-answers : LookAnswers
+look-answers = tables.look-answers
+
+pub batch-answers : BatchAnswers
+batch-answers = tables.batch-answers
+
+pub call-answers : CallAnswers
+call-answers = tables.call-answers
+
+-- ---- demand 2
+
+pub live-counts : LiveCounts
+live-counts = gathering.live-counts
+
+pub collecting-gathers : CollectingGathers
+collecting-gathers = gathering.collecting-gathers
+
+pub calls-do : CallsDo
+calls-do = calling.calls-do
+
+pub calls-answer : CallsAnswer
+calls-answer = calling.calls-answer
+
+pub batches-run : BatchesRun
+batches-run = calling.batches-run
+
+-- ---- demand 3
+
+pub alike-is-collected : AlikeIsCollected
+alike-is-collected = alikes.alike-is-collected
+
+pub collections-never-show : CollectionsNeverShow
+collections-never-show = struck.collections-never-show
+
+-- ---- one outcome
+
+pub one-answer : OneAnswer
+one-answer = once.one-answer
+
+pub one-check : OneCheck
+one-check = once.one-check
+
+pub one-fresh : OneFresh
+one-fresh = once.one-fresh
+
+pub one-collected : OneCollected
+one-collected = once.one-collected
+
+pub one-look : OneLook
+one-look = once.one-look
+
+pub one-collect : OneCollect
+one-collect = once.one-collect
+
+pub one-batch : OneBatch
+one-batch = once.one-batch

@@ -1,0 +1,30 @@
+-- The proofs of the claims in specs/, lowest first; Final has the claims one by one.
+--   Canons     the canonical words of a store: those that collecting leaves, without the zeros
+--   Follow     stores that follow one another, cell by cell, have the same canonical words
+--   Pairs      a store and that store collected, and both with a register set or with n new cells
+--   Agree, Builds   what an action does in a store, it does in that store collected; without and with new cells
+--   Twins      what a call does in a store, it does in any store with the same canonical words
+--   Alikes     alike, by canonical words and by collecting
+--   Struck     lists of calls without COLLECT, and cut into batches: demand 3
+--   Touching, Acting   which words an action changes, in which store, and its `top`
+--   Calling    demand 2, calls and batches
+--   Gathering  demand 2, collecting
+--   Rules, Numbers, Tables   demand 1
+--   Once       one outcome
+pub mod Canons
+pub mod Follow
+pub mod Pairs
+pub mod Agree
+pub mod Builds
+pub mod Twins
+pub mod Alikes
+pub mod Struck
+pub mod Touching
+pub mod Acting
+pub mod Calling
+pub mod Gathering
+pub mod Rules
+pub mod Numbers
+pub mod Tables
+pub mod Once
+pub mod Final

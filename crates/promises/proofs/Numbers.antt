@@ -1,0 +1,75 @@
+-- The numbers of a call: which statuses its own words, its operand and the room can give, and the first that applies.
+-- Assumes nothing.
+use mathlib.Core.Path.{refl}
+use mathlib.Core.Logic.{inl, inr}
+use mathlib.Core.Bool.{Bool, true, false, cond, _||_}
+use mathlib.Core.List.{List, [], _∷_}
+use Prim.Native.Nat.{ℕ, _+_, _*_}
+use lib.Dec.{ltb}
+use lib.ListN.{getD}
+use Rattle.meaning.specs.Expr.{Expr, nothing, symbol, parens}
+use Rattle.meaning.specs.Call.{Op, CLEAR, COPY, SYMBOL, WRAP, JOIN, HEAD, REST, OPEN, LENGTH, FIRST, LIVE, COLLECT}
+use Rattle.meaning.specs.Call.{uses, wrong11, wrong12, wrong13, fault}
+use Rattle.meaning.specs.Effect.{does, onEmpty, onOpen, onFirst, orElse}
+use Rattle.promises.specs.Table.{OneOf}
+
+pub fault-number : (F o d a b : ℕ) → OneOf (fault F o d a b) (0 ∷ 10 ∷ 11 ∷ 12 ∷ 13 ∷ [])
+unfolding fault
+fault-number F o d a b =
+    let u = getD uses (3 * o) 0 in
+    let v = getD uses (3 * o + 1) 0 in
+    let w = getD uses (3 * o + 2) 0 in
+    go (ltb 11 o) (wrong11 F u d || wrong11 F v a || wrong11 F w b) (wrong12 u d || wrong12 v a || wrong12 w b)
+    (wrong13 u d || wrong13 v a || wrong13 w b)
+  where
+    go : (q r s t : Bool) → OneOf (cond q 10 (cond r 11 (cond s 12 (cond t 13 0)))) (0 ∷ 10 ∷ 11 ∷ 12 ∷ 13 ∷ [])
+    go true r s t = inr (inl refl)
+    go false true s t = inr (inr (inl refl))
+    go false false true t = inr (inr (inr (inl refl)))
+    go false false false true = inr (inr (inr (inr (inl refl))))
+    go false false false false = inl refl
+
+empty-number : (e : Expr) → OneOf (onEmpty e) (0 ∷ 14 ∷ 15 ∷ [])
+empty-number nothing = inr (inl refl)
+empty-number (symbol s r) = inl refl
+empty-number (parens i r) = inl refl
+
+open-number : (e : Expr) → OneOf (onOpen e) (0 ∷ 14 ∷ 15 ∷ [])
+open-number nothing = inr (inl refl)
+open-number (symbol s r) = inr (inr (inl refl))
+open-number (parens i r) = inl refl
+
+first-number : (e : Expr) → OneOf (onFirst e) (0 ∷ 14 ∷ 15 ∷ [])
+first-number nothing = inr (inl refl)
+first-number (symbol s r) = inl refl
+first-number (parens i r) = inr (inr (inl refl))
+
+pub unfit-number : (o : Op) (e : ℕ → Expr) (lv d a b : ℕ) → OneOf (does o e lv d a b .unfit) (0 ∷ 14 ∷ 15 ∷ [])
+unfit-number CLEAR e lv d a b = inl refl
+unfit-number COPY e lv d a b = inl refl
+unfit-number SYMBOL e lv d a b = inl refl
+unfit-number WRAP e lv d a b = inl refl
+unfit-number JOIN e lv d a b = inl refl
+unfit-number HEAD e lv d a b = empty-number (e a)
+unfit-number REST e lv d a b = empty-number (e a)
+unfit-number OPEN e lv d a b = open-number (e a)
+unfit-number LENGTH e lv d a b = inl refl
+unfit-number FIRST e lv d a b = first-number (e a)
+unfit-number LIVE e lv d a b = inl refl
+unfit-number COLLECT e lv d a b = inl refl
+
+abbrev statuses : List ℕ
+statuses = 0 ∷ 10 ∷ 11 ∷ 12 ∷ 13 ∷ 14 ∷ 15 ∷ 16 ∷ []
+
+pub first-of : (f u : ℕ) (t : Bool) → OneOf f (0 ∷ 10 ∷ 11 ∷ 12 ∷ 13 ∷ []) → OneOf u (0 ∷ 14 ∷ 15 ∷ [])
+    → OneOf (orElse f (orElse u (cond t 16 0))) statuses
+first-of f u true (inl e) (inl g) = rw (e, g) (inr (inr (inr (inr (inr (inr (inr (inl refl))))))))
+first-of f u false (inl e) (inl g) = rw (e, g) (inl refl)
+first-of f u t (inl e) (inr (inl g)) = rw (e, g) (inr (inr (inr (inr (inr (inl refl))))))
+first-of f u t (inl e) (inr (inr (inl g))) = rw (e, g) (inr (inr (inr (inr (inr (inr (inl refl)))))))
+first-of f u t (inl e) (inr (inr (inr g))) = absurd g
+first-of f u t (inr (inl e)) k = rw e (inr (inl refl))
+first-of f u t (inr (inr (inl e))) k = rw e (inr (inr (inl refl)))
+first-of f u t (inr (inr (inr (inl e)))) k = rw e (inr (inr (inr (inl refl))))
+first-of f u t (inr (inr (inr (inr (inl e))))) k = rw e (inr (inr (inr (inr (inl refl)))))
+first-of f u t (inr (inr (inr (inr (inr e))))) k = absurd e

@@ -1,0 +1,135 @@
+-- Which words an action touches: those of register d, and of the new cells.
+-- Assumes nothing.
+use mathlib.Core.Path.{_≡_, refl, _∙_}
+use mathlib.Core.Logic.{_⊎_, inl, inr, _≢_}
+use mathlib.Core.List.{List}
+use Prim.Native.Nat.{ℕ, zero, suc, _+_, _-_, _≤_, _<_}
+use native.Mathlib.Omega.{arith}
+use Rattle.words.proofs.Cells.{firstWord-other, secondWord-other}
+use Rattle.meaning.specs.Sound.{Cell, code, hollow, ends, fst, snd, at}
+use Rattle.words.specs.Cell.{firstWord, secondWord}
+use Rattle.meaning.specs.Check.{Done, done, refused, size, start}
+use Rattle.meaning.specs.Call.{put, copy, copies, share, newSymbol, newBracket, newRunOf, newRun, head, rest, openTerm}
+use Rattle.meaning.specs.Call.{openFirst, codeTerm, codeFirst}
+use Rattle.promises.specs.Calls.{OnlyThere}
+
+module _ (d t n : ℕ) where
+  pub only-same : (ws : List ℕ) → OnlyThere d t n ws ws
+  only-same ws c h g = (refl, refl)
+
+  only-trans : (ws v u : List ℕ) → OnlyThere d t n ws v → OnlyThere d t n v u → OnlyThere d t n ws u
+  only-trans ws v u x y c h g = (y c h g .0 ∙ x c h g .0, y c h g .1 ∙ x c h g .1)
+
+  only-put : (ws : List ℕ) (b : Cell) → OnlyThere d t n ws (put ws d b)
+  unfolding put
+  only-put ws b c h g = (firstWord-other ws d (fst b) (snd b) c h, secondWord-other ws d (fst b) (snd b) c h)
+
+  only-copy : (ws : List ℕ) (x : ℕ) → OnlyThere d t n ws (copy ws d x)
+  unfolding copy
+  only-copy ws x c h g = (
+    firstWord-other ws d (firstWord ws x) (secondWord ws x) c h,
+    secondWord-other ws d (firstWord ws x)
+        (secondWord ws x) c h,
+  )
+
+  -- m cells copied among the new ones
+  only-copies : (ws : List ℕ) (y x m : ℕ) → t ≤ y → y + m ≤ t + n → OnlyThere d t n ws (copies ws y x m)
+  unfolding copy
+  only-copies ws y x zero l k = only-same ws
+  only-copies ws y x (suc m) l k =
+      only-trans ws (copy ws y x) (copies (copy ws y x) (suc y) (suc x) m) (λ c h g. other c (away c g))
+      (only-copies (copy ws y x) (suc y) (suc x) m (omega arith) (omega arith))
+    where
+      away : (c : ℕ) → (c < t) ⊎ (t + n ≤ c) → c ≢ y
+      away c (inl z) = omega arith
+      away c (inr z) = omega arith
+
+      other : (c : ℕ) → c ≢ y
+          → (firstWord (copy ws y x) c ≡ firstWord ws c) × (secondWord (copy ws y x) c ≡ secondWord ws c)
+      other c h = (
+        firstWord-other ws y (firstWord ws x) (secondWord ws x) c h,
+        secondWord-other ws y (firstWord ws x)
+            (secondWord ws x) c h,
+      )
+
+-- ---- the actions, in any store
+
+module _ (d t n : ℕ) (ws : List ℕ) (top : ℕ) where
+  abbrev Only : Done → Type 0
+  Only r = OnlyThere d t n ws (r .words)
+
+  pub clear-only : Only (done (put ws d hollow) top 0)
+  unfolding done
+  clear-only = only-put d t n ws hollow
+
+  pub share-only : (a : ℕ) → Only (share d a ws top)
+  unfolding share done
+  share-only a = only-copy d t n ws a
+
+  pub head-only : (b : Cell) → Only (head ws top d b)
+  unfolding head done refused
+  head-only (code a) = only-same d t n ws
+  head-only hollow = only-same d t n ws
+  head-only (ends l r) = only-put d t n ws (ends l l)
+
+  pub rest-only : (b : Cell) → Only (rest ws top d b)
+  unfolding rest done refused
+  rest-only (code a) = only-same d t n ws
+  rest-only hollow = only-same d t n ws
+  rest-only (ends l r) = only-put d t n ws _
+
+  open-only : (x : ℕ) (b : Cell) → Only (openTerm ws top d x b)
+  unfolding openTerm done refused
+  open-only x (code a) = only-same d t n ws
+  open-only x hollow = only-copy d t n ws x
+  open-only x (ends l r) = only-copy d t n ws x
+
+  pub openFirst-only : (b : Cell) → Only (openFirst ws top d b)
+  unfolding openFirst refused
+  openFirst-only (code a) = only-same d t n ws
+  openFirst-only hollow = only-same d t n ws
+  openFirst-only (ends l r) = open-only l (at ws l)
+
+-- FIRST changes no word
+code-words : (ws : List ℕ) (top : ℕ) (b : Cell) → codeTerm ws top b .words ≡ ws
+unfolding codeTerm done refused
+code-words ws top (code a) = refl
+code-words ws top hollow = refl
+code-words ws top (ends l r) = refl
+
+pub first-words : (ws : List ℕ) (top : ℕ) (b : Cell) → codeFirst ws top b .words ≡ ws
+unfolding codeFirst refused
+first-words ws top (code a) = refl
+first-words ws top hollow = refl
+first-words ws top (ends l r) = code-words ws top (at ws l)
+
+-- the actions that lay cells from `top` on
+module _ (d : ℕ) (ws : List ℕ) (top : ℕ) where
+  one-only : (x : List ℕ) → ((c : ℕ) → c ≢ top → (firstWord x c ≡ firstWord ws c) × (secondWord x c ≡ secondWord ws c))
+      → (b : Cell) → OnlyThere d top 1 ws (put x d b)
+  one-only x h b = only-trans d top 1 ws x (put x d b) (λ c g l. h c (away c l)) (only-put d top 1 x b)
+    where
+      away : (c : ℕ) → (c < top) ⊎ (top + 1 ≤ c) → c ≢ top
+      away c (inl z) = omega arith
+      away c (inr z) = omega arith
+
+  pub symbol-only : (a : ℕ) → OnlyThere d top 1 ws (newSymbol d a ws top .words)
+  unfolding newSymbol done
+  symbol-only a =
+      one-only (put ws top (code a)) (λ c h. only-put top 0 0 ws (code a) c h (inr (omega arith))) (ends top top)
+
+  pub wrap-only : (a : ℕ) → OnlyThere d top 1 ws (newBracket d a ws top .words)
+  unfolding newBracket done
+  wrap-only a = one-only (copy ws top a) (λ c h. only-copy top 0 0 ws a c h (inr (omega arith))) (ends top top)
+
+  pub run-only : (a b n : ℕ) → size (at ws a) + size (at ws b) ≡ n → OnlyThere d top n ws (newRun d a b ws top .words)
+  unfolding newRun newRunOf done
+  run-only a b n e =
+      let p = at ws a in
+      let q = at ws b in
+      let one = copies ws top (start p) (size p) in
+      let two = copies one (top + size p) (start q) (size q) in
+      only-trans d top n ws two (put two d (ends top (top + (size p + size q) - 1)))
+      (only-trans d top n ws one two (only-copies d top n ws top (start p) (size p) (omega arith) (omega arith))
+      (only-copies d top n one (top + size p) (start q) (size q) (omega arith) (omega arith)))
+      (only-put d top n two (ends top (top + (size p + size q) - 1)))

@@ -1,0 +1,109 @@
+-- Demand 2, calls: on a sound store each call, whatever its four words are, does to the registers what it says of
+-- expressions, with the status, the value, the `top` and the words that document 01 gives it ("Calls", "Numbers that
+-- come
+-- back").
+-- Assumes nothing.
+use mathlib.Core.Path.{_≡_}
+use mathlib.Core.Logic.{_⊎_, _≢_}
+use mathlib.Core.Bool.{Bool, true, cond}
+use mathlib.Core.List.{List, [], _∷_, _++_}
+use Prim.Native.Nat.{ℕ, _+_, _-_, _*_, _/_, _≤_, _<_}
+use lib.Dec.{ltb, eqb}
+use lib.ListN.{length, replicate}
+use Rattle.words.specs.Cell.{firstWord, secondWord}
+use Rattle.meaning.specs.Expr.{Expr, symbol, terms}
+use Rattle.meaning.specs.Sound.{capacity, Sound}
+use Rattle.meaning.specs.Meaning.{meaning}
+use Rattle.meaning.specs.Reach.{live}
+use Rattle.meaning.specs.Collected.{collected}
+use Rattle.meaning.specs.Check.{Done, done}
+use Rattle.meaning.specs.Call.{opAt, fault, step}
+use Rattle.meaning.specs.Effect.{Effect, does, callStatus, after, answer}
+use Rattle.meaning.specs.Batch.{Outcome, batch}
+
+-- what the call does, by the table of calls
+abbrev pub effect : ℕ → List ℕ → ℕ → ℕ → ℕ → ℕ → ℕ → Effect
+effect F ws top o d a b = does (opAt o) (meaning ws) (live F ws top) d a b
+
+-- ---- room for the n new cells that it needs
+
+-- there is none: F + live + n exceeds the capacity; live counts d's old expression too
+abbrev pub lacking : ℕ → List ℕ → ℕ → ℕ → Bool
+lacking F ws top n = ltb (capacity ws) (F + live F ws top + n)
+
+-- the store is collected first: by COLLECT, and where `top` + n exceeds the capacity
+abbrev pub collectsFirst : ℕ → List ℕ → ℕ → ℕ → Bool
+collectsFirst o ws top n = cond (eqb o 11) true (ltb (capacity ws) (top + n))
+
+-- so this is the store in which the call acts, and its `top`
+abbrev pub base : ℕ → ℕ → List ℕ → ℕ → ℕ → List ℕ
+base F o ws top n = cond (collectsFirst o ws top n) (collected F ws top) ws
+
+abbrev pub baseTop : ℕ → ℕ → List ℕ → ℕ → ℕ → ℕ
+baseTop F o ws top n = cond (collectsFirst o ws top n) (F + live F ws top) top
+
+-- ---- one call
+
+-- v has the words of ws in every cell but d and the n cells from t on
+abbrev pub OnlyThere : ℕ → ℕ → ℕ → List ℕ → List ℕ → Type 0
+OnlyThere d t n ws v =
+    (c : ℕ) → c ≢ d → (c < t) ⊎ (t + n ≤ c) → (firstWord v c ≡ firstWord ws c) × (secondWord v c ≡ secondWord ws c)
+
+-- r is what the call o d a b does in the store ws, with n the new cells that it needs
+pub record Called (F : ℕ) (ws : List ℕ) (top o d a b n : ℕ) (r : Done) : Type 0 where
+  -- the first status that applies, of 10 to 16, else 0; the value and the registers' expressions by the effect
+  pub status : r .verdict .status ≡ callStatus F (meaning ws) (live F ws top) (lacking F ws top n) o d a b
+  pub value : r .verdict .value ≡ answer (r .verdict .status) (effect F ws top o d a b)
+  pub registers : (i : ℕ) → i < F
+      → meaning (r .words) i ≡ after (r .verdict .status) (effect F ws top o d a b) (meaning ws) i
+  -- a call whose words and operands are right is refused for room exactly when F + live + need exceeds the capacity
+  pub noRoom : fault F o d a b ≡ 0 → effect F ws top o d a b .unfit ≡ 0
+      → (r .verdict .status ≡ 16 → capacity ws < F + live F ws top + n)
+      × (capacity ws < F + live F ws top + n → r .verdict .status ≡ 16)
+  -- done: new cells are laid from the `top` of the store in which it acts, and no other cell but d changes
+  pub doneTop : r .verdict .status ≡ 0 → r .top ≡ baseTop F o ws top n + n
+  pub doneWords : r .verdict .status ≡ 0 → OnlyThere d (baseTop F o ws top n) n (base F o ws top n) (r .words)
+  -- LENGTH, FIRST, LIVE and COLLECT change no register's words
+  pub asked : r .verdict .status ≡ 0 → 8 ≤ o → r .words ≡ base F o ws top n
+  -- a call without need never collects, COLLECT apart
+  pub noNeed : r .verdict .status ≡ 0 → o ≢ 11 → n ≡ 0 → (r .top ≡ top) × OnlyThere d top 0 ws (r .words)
+  -- 16 leaves the store collected, 10 to 15 leave it as it was
+  pub full : r .verdict .status ≡ 16 → (r .words ≡ collected F ws top) × (r .top ≡ F + live F ws top)
+  pub refused : r .verdict .status ≢ 0 → r .verdict .status ≢ 16 → (r .words ≡ ws) × (r .top ≡ top)
+  pub sound : Sound F (r .words) (r .top)
+  pub len : length (r .words) ≡ length ws
+
+abbrev pub CallsDo : Type 0
+CallsDo =
+    (F : ℕ) → 0 < F → (ws : List ℕ) (top : ℕ) → Sound F ws top → (o d a b : ℕ)
+    → Called F ws top o d a b (effect F ws top o d a b .need) (step F ws top o d a b)
+
+-- ---- LENGTH, FIRST, LIVE and COLLECT answer by their definitions
+
+pub record Asked (F : ℕ) (ws : List ℕ) (top : ℕ) : Type 0 where
+  pub lengths : (a : ℕ) → a < F → step F ws top 8 0 a 0 ≡ done ws top (terms (meaning ws a))
+  pub firsts : (a s : ℕ) (e : Expr) → a < F → meaning ws a ≡ symbol s e → step F ws top 9 0 a 0 ≡ done ws top s
+  pub lives : step F ws top 10 0 0 0 ≡ done ws top (live F ws top)
+  pub collects : step F ws top 11 0 0 0 ≡ done (collected F ws top) (F + live F ws top) (live F ws top)
+
+abbrev pub CallsAnswer : Type 0
+CallsAnswer = (F : ℕ) → 0 < F → (ws : List ℕ) (top : ℕ) → Sound F ws top → Asked F ws top
+
+-- ---- a batch answers call by call: a status and a value each, in order; words after those are zero
+
+pub data Answered (F : ℕ) : List ℕ → ℕ → List ℕ → List ℕ → List ℕ → ℕ → Type 0 where
+  none : {ws : List ℕ} {top : ℕ} → Answered F ws top [] [] ws top
+  next : {ws : List ℕ} {top o d a b : ℕ} {cs ans v : List ℕ} {t : ℕ} (r : Done) → r ≡ step F ws top o d a b
+      → Called F ws top o d a b (effect F ws top o d a b .need) r → Answered F (r .words) (r .top) cs ans v t
+      → Answered F ws top (o ∷ d ∷ a ∷ b ∷ cs) (r .verdict .status ∷ r .verdict .value ∷ ans) v t
+
+pub record BatchRun (F : ℕ) (ws : List ℕ) (top : ℕ) (calls out : List ℕ) (r : Outcome) : Type 0 where
+  pub said : List ℕ
+  pub answered : Answered F ws top calls said (r .words) (r .top)
+  pub many : length said ≡ 2 * (length calls / 4)
+  pub answers : r .answers ≡ said ++ replicate (length out - length said) 0
+
+abbrev pub BatchesRun : Type 0
+BatchesRun =
+    (F : ℕ) → 0 < F → (ws : List ℕ) (top : ℕ) (calls out : List ℕ) → batch F ws top calls out .verdict .status ≡ 0
+    → BatchRun F ws top calls out (batch F ws top calls out)

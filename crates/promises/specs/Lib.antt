@@ -1,0 +1,12 @@
+-- The claims that a customer reads, over the definitions of `meaning` alone; proofs/Final.antt proves each. In order:
+--   Table       demand 1: every answer is from its table, and a refusal leaves everything as it was lent
+--   Collecting  demand 2: what a collection keeps, and where
+--   Calls       demand 2: what each call does, and a batch call by call
+--   Alike       demand 3: collections never show
+--   Unique      no claim leaves a second outcome
+-- Everything is over the first heap cell F, which is more than 0.
+pub mod Table
+pub mod Collecting
+pub mod Calls
+pub mod Alike
+pub mod Unique

@@ -1,0 +1,140 @@
+-- Demand 1: whatever words are handed in, each public function answers with a number from its table ("Numbers that come
+-- back"), in the table's order, and a refusal leaves everything as it was lent.
+-- Assumes nothing.
+use mathlib.Core.Path.{_≡_}
+use mathlib.Core.Logic.{_⊎_, _≢_}
+use mathlib.Core.List.{List, [], _∷_}
+use Prim.Native.Nat.{ℕ, suc, _+_, _-_, _*_, _/_, _%_, _≤_, _<_}
+use lib.ListN.{length, getD}
+use Rattle.words.specs.Cell.{firstWord, secondWord}
+use Rattle.meaning.specs.Limits.{limit, callsLimit}
+use Rattle.meaning.specs.Expr.{nothing}
+use Rattle.meaning.specs.Sound.{hollow, ends, at, IsBracket, IsTerm, capacity, Sound}
+use Rattle.meaning.specs.Meaning.{meaning}
+use Rattle.meaning.specs.Reach.{live}
+use Rattle.meaning.specs.Collected.{collected}
+use Rattle.meaning.specs.Check.{Verdict, only, Done, check, fresh, freshIn, collectIn, look}
+use Rattle.meaning.specs.Call.{step}
+use Rattle.meaning.specs.Batch.{Outcome, asLent, batch}
+
+-- n is one of these numbers
+abbrev pub OneOf : ℕ → List ℕ → Type 0
+OneOf n [] = ⊥
+OneOf n (m ∷ ms) = (n ≡ m) ⊎ OneOf n ms
+
+abbrev pub Not : Type 0 → Type 0
+Not A = A → ⊥
+
+-- ---- the rules of a sound store, one by one
+
+abbrev pub LengthRule : ℕ → List ℕ → Type 0
+LengthRule F ws = (length ws % 2 ≡ 0) × (2 * F ≤ length ws) × (length ws ≤ 2 * limit)
+
+abbrev pub TopRule : ℕ → List ℕ → ℕ → Type 0
+TopRule F ws top = (F ≤ top) × (top ≤ capacity ws)
+
+-- a register is a bracket, an occupied heap cell a term, and a cell from `top` on two zero words
+pub record CellRule (F : ℕ) (ws : List ℕ) (top c : ℕ) : Type 0 where
+  pub register : c < F → IsBracket F top (firstWord ws c) (secondWord ws c)
+  pub occupied : F ≤ c → c < top → IsTerm F c (firstWord ws c) (secondWord ws c)
+  pub free : top ≤ c → (firstWord ws c ≡ 0) × (secondWord ws c ≡ 0)
+
+-- ---- the check: 0 exactly for a sound store, 3 with the lowest cell that breaks its rule
+
+pub data Judged (F : ℕ) (ws : List ℕ) (top : ℕ) : Verdict → Type 0 where
+  badLength : Not (LengthRule F ws) → Judged F ws top (only 1)
+  badTop : LengthRule F ws → Not (TopRule F ws top) → Judged F ws top (only 2)
+  badCell : (c : ℕ) → LengthRule F ws → TopRule F ws top → c < capacity ws → Not (CellRule F ws top c)
+      → ((x : ℕ) → x < c → CellRule F ws top x) → Judged F ws top (record { status = 3; value = c })
+  isSound : Sound F ws top → Judged F ws top (only 0)
+
+pub record CheckTable (F : ℕ) (ws : List ℕ) (top : ℕ) (v : Verdict) : Type 0 where
+  pub number : OneOf (v .status) (0 ∷ 1 ∷ 2 ∷ 3 ∷ [])
+  pub value : v .status ≢ 3 → v .value ≡ 0
+  pub sound : (v .status ≡ 0 → Sound F ws top) × (Sound F ws top → v .status ≡ 0)
+  pub judged : Judged F ws top v
+
+abbrev pub CheckAnswers : Type 0
+CheckAnswers = (F : ℕ) (ws : List ℕ) (top : ℕ) → CheckTable F ws top (check F ws top)
+
+-- ---- a fresh store: 0 with `top` F, or 1 with `top` 0 and the slice unchanged
+
+pub record FreshTable (F : ℕ) (ws : List ℕ) (r : Done) : Type 0 where
+  pub number : OneOf (r .verdict .status) (0 ∷ 1 ∷ [])
+  pub value : r .verdict .value ≡ 0
+  pub made : LengthRule F ws → (r .verdict .status ≡ 0) × (r .words ≡ fresh F (capacity ws)) × (r .top ≡ F)
+  pub sound : LengthRule F ws → Sound F (r .words) (r .top) × ((i : ℕ) → i < F → meaning (r .words) i ≡ nothing)
+  pub refused : Not (LengthRule F ws) → (r .verdict .status ≡ 1) × (r .words ≡ ws) × (r .top ≡ 0)
+
+abbrev pub FreshAnswers : Type 0
+FreshAnswers = (F : ℕ) (ws : List ℕ) → FreshTable F ws (freshIn F ws)
+
+-- ---- collecting alone: 1 to 3 with everything as it came, or 0 with live and the new `top`
+
+pub record CollectTable (F : ℕ) (ws : List ℕ) (top : ℕ) (r : Done) : Type 0 where
+  pub number : OneOf (r .verdict .status) (0 ∷ 1 ∷ 2 ∷ 3 ∷ [])
+  pub collects : Sound F ws top
+      → (r .verdict .status ≡ 0) × (r .verdict .value ≡ live F ws top)
+      × (r .words ≡ collected F ws top) × (r .top ≡ F + live F ws top)
+  pub refused : Not (Sound F ws top)
+      → Judged F ws top (r .verdict) × (r .verdict .status ≢ 0) × (r .words ≡ ws) × (r .top ≡ top)
+
+abbrev pub CollectAnswers : Type 0
+CollectAnswers = (F : ℕ) (ws : List ℕ) (top : ℕ) → CollectTable F ws top (collectIn F ws top)
+
+-- ---- the look: the words of the register's cells, from its left end to its right end; nothing for an empty register,
+-- a register that is none, or an unsound store
+
+pub record LookTable (F : ℕ) (ws : List ℕ) (top i : ℕ) (part : List ℕ) : Type 0 where
+  pub unsound : Not (Sound F ws top) → part ≡ []
+  pub none : F ≤ i → part ≡ []
+  pub empty : at ws i ≡ hollow → part ≡ []
+  pub cells : (l r : ℕ) → Sound F ws top → i < F → at ws i ≡ ends l r
+      → (length part ≡ 2 * (suc r - l)) × ((j : ℕ) → j < length part → getD part j 0 ≡ getD ws (2 * l + j) 0)
+
+abbrev pub LookAnswers : Type 0
+LookAnswers = (F : ℕ) → 0 < F → (ws : List ℕ) (top i : ℕ) → LookTable F ws top i (look F ws top i)
+
+-- ---- a batch: 1 to 5 leave the store and the answers as lent and give `top` back as it came
+
+abbrev pub CallsRule : List ℕ → Type 0
+CallsRule calls = (length calls ≤ callsLimit) × (length calls % 4 ≡ 0)
+
+-- two words a call
+abbrev pub SpaceRule : List ℕ → List ℕ → Type 0
+SpaceRule calls out = 2 * (length calls / 4) ≤ length out
+
+pub data Batched (F : ℕ) (ws : List ℕ) (top : ℕ) (calls out : List ℕ) : Outcome → Type 0 where
+  unsound : (v : Verdict) → Judged F ws top v → v .status ≢ 0 → Batched F ws top calls out (asLent v ws top out)
+  badCalls : Sound F ws top → Not (CallsRule calls) → Batched F ws top calls out (asLent (only 4) ws top out)
+  badSpace : Sound F ws top → CallsRule calls → Not (SpaceRule calls out)
+      → Batched F ws top calls out (asLent (only 5) ws top out)
+  runs : (r : Outcome) → Sound F ws top → CallsRule calls → SpaceRule calls out → r .verdict ≡ only 0
+      → Batched F ws top calls out r
+
+pub record BatchTable (F : ℕ) (ws : List ℕ) (top : ℕ) (calls out : List ℕ) (r : Outcome) : Type 0 where
+  pub number : OneOf (r .verdict .status) (0 ∷ 1 ∷ 2 ∷ 3 ∷ 4 ∷ 5 ∷ [])
+  pub value : r .verdict .status ≢ 3 → r .verdict .value ≡ 0
+  pub kept : r .verdict .status ≢ 0 → (r .words ≡ ws) × (r .top ≡ top) × (r .answers ≡ out)
+  pub batched : Batched F ws top calls out r
+  -- a batch of no calls is 0 and changes no store word
+  pub noCalls : Sound F ws top → calls ≡ [] → (r .verdict .status ≡ 0) × (r .words ≡ ws) × (r .top ≡ top)
+
+abbrev pub BatchAnswers : Type 0
+BatchAnswers =
+    (F : ℕ) (ws : List ℕ) (top : ℕ) (calls out : List ℕ) → BatchTable F ws top calls out (batch F ws top calls out)
+
+-- ---- one call of a batch: 10 to 15 change no store word; no refusal changes a register's expression
+
+pub record CallTable (F : ℕ) (ws : List ℕ) (top : ℕ) (r : Done) : Type 0 where
+  pub number : OneOf (r .verdict .status) (0 ∷ 10 ∷ 11 ∷ 12 ∷ 13 ∷ 14 ∷ 15 ∷ 16 ∷ [])
+  pub value : r .verdict .status ≢ 0 → r .verdict .value ≡ 0
+  pub kept : OneOf (r .verdict .status) (10 ∷ 11 ∷ 12 ∷ 13 ∷ 14 ∷ 15 ∷ []) → (r .words ≡ ws) × (r .top ≡ top)
+  pub expressions : r .verdict .status ≢ 0 → (i : ℕ) → i < F → meaning (r .words) i ≡ meaning ws i
+  pub sound : Sound F (r .words) (r .top)
+  pub len : length (r .words) ≡ length ws
+
+abbrev pub CallAnswers : Type 0
+CallAnswers =
+    (F : ℕ) → 0 < F → (ws : List ℕ) (top : ℕ) → Sound F ws top → (o d a b : ℕ)
+    → CallTable F ws top (step F ws top o d a b)

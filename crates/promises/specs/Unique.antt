@@ -1,0 +1,51 @@
+-- One outcome: what the claims say of a check, a fresh store, a collection, a look and a batch leaves no second
+-- answer and
+-- no second word ("What the proofs have to nail"). The contracts of the code are equations, of answers by their
+-- numbers and
+-- values: two outcomes of one equation are equal.
+-- Assumes nothing.
+use mathlib.Core.Path.{_≡_}
+use mathlib.Core.List.{List}
+use Prim.Native.Nat.{ℕ, _<_}
+use Rattle.meaning.specs.Sound.{Sound}
+use Rattle.meaning.specs.Collected.{collected}
+use Rattle.meaning.specs.Check.{Verdict, Done}
+use Rattle.meaning.specs.Batch.{Outcome}
+use Rattle.promises.specs.Table.{CheckTable, FreshTable, CollectTable, LookTable, BatchTable}
+use Rattle.promises.specs.Calls.{BatchRun}
+use Rattle.promises.specs.Collecting.{Gathered}
+
+-- an answer of which the promise says its number and values: two answers with the same numbers and values are one
+abbrev pub OneAnswer : Type 1
+OneAnswer =
+    (A B : Type 0) (numbers : A → B) → ((x y : A) → numbers x ≡ numbers y → x ≡ y)
+    → (b : B) (x y : A) → numbers x ≡ b → numbers y ≡ b → x ≡ y
+
+abbrev pub OneCheck : Type 0
+OneCheck = (F : ℕ) (ws : List ℕ) (top : ℕ) (v w : Verdict) → CheckTable F ws top v → CheckTable F ws top w → v ≡ w
+
+abbrev pub OneFresh : Type 0
+OneFresh = (F : ℕ) (ws : List ℕ) (r q : Done) → FreshTable F ws r → FreshTable F ws q → r ≡ q
+
+-- the words by what is said of a collected store, cell by cell
+abbrev pub OneCollected : Type 0
+OneCollected =
+    (F : ℕ) → 0 < F → (ws : List ℕ) (top : ℕ) → Sound F ws top → (v : List ℕ) → Gathered F ws top v
+    → v ≡ collected F ws top
+
+abbrev pub OneLook : Type 0
+OneLook =
+    (F : ℕ) → 0 < F → (ws : List ℕ) (top i : ℕ) (x y : List ℕ) → LookTable F ws top i x → LookTable F ws top i y → x ≡ y
+
+abbrev pub OneCollect : Type 0
+OneCollect = (F : ℕ) (ws : List ℕ) (top : ℕ) (r q : Done) → CollectTable F ws top r → CollectTable F ws top q → r ≡ q
+
+-- a batch that is refused by its table, one that is run by its calls
+pub record BatchPromise (F : ℕ) (ws : List ℕ) (top : ℕ) (calls out : List ℕ) (r : Outcome) : Type 0 where
+  pub table : BatchTable F ws top calls out r
+  pub run : r .verdict .status ≡ 0 → BatchRun F ws top calls out r
+
+abbrev pub OneBatch : Type 0
+OneBatch =
+    (F : ℕ) (ws : List ℕ) (top : ℕ) (calls out : List ℕ) (r q : Outcome)
+    → BatchPromise F ws top calls out r → BatchPromise F ws top calls out q → r ≡ q
