@@ -1,0 +1,65 @@
+-- A batch by the tests that it passes, as the code makes them. Assumes nothing.
+use mathlib.Core.Path.{_≡_, refl, sym, ap, _∙_, subst}
+use mathlib.Core.Bool.{Bool, true, false, cond, false≢true}
+use mathlib.Core.List.{List, _++_}
+use Prim.Native.Nat.{ℕ, _-_, _*_, _/_, _%_, _≤_, _<_}
+use native.Mathlib.Omega.{arith}
+use lib.Dec.{leb, eqb}
+use lib.ListN.{length, take, replicate}
+use lib.Seq.{length-take-le}
+use borrow.Author.Tests.{le-leb, lt-leb, eqb-true}
+use Rattle.meaning.specs.Limits.{firstCell, callsLimit}
+use Rattle.meaning.specs.Sound.{Sound}
+use Rattle.meaning.specs.Check.{Verdict, only, check, ifSound}
+use Rattle.meaning.specs.Batch.{runs, Outcome, asLent, ended, callsTest, batchOf, batch}
+use Rattle.meaning.proofs.Checking.{check-sound}
+use Rattle.store.specs.Answers.{verdictOf}
+use Rattle.store.specs.declared.Checked.{Checked}
+use Rattle.store.specs.declared.Checked.the-variants as checked
+use Rattle.calls.specs.Calling.{ranTo}
+
+pub calls-fours : (n : ℕ) → callsTest n ≡ true → n % 4 ≡ 0
+unfolding callsTest
+calls-fours n e = go (leb n callsLimit) e
+  where
+    go : (t : Bool) → cond t (eqb (n % 4) 0) false ≡ true → n % 4 ≡ 0
+    go true f = eqb-true (n % 4) 0 f
+    go false f = absurd (false≢true f)
+
+module _ (ws : List ℕ) (top : ℕ) (calls out : List ℕ) where
+  -- ---- the call list and the answer space, of a sound store
+
+  pub bad-calls : callsTest (length calls) ≡ false → batchOf firstCell ws top calls out ≡ asLent (only 4) ws top out
+  unfolding batchOf
+  bad-calls e = rw e refl
+
+  pub short-answers : callsTest (length calls) ≡ true → length out < 2 * (length calls / 4)
+      → batchOf firstCell ws top calls out ≡ asLent (only 5) ws top out
+  unfolding batchOf
+  short-answers e h = rw (e, lt-leb (2 * (length calls / 4)) (length out) h) refl
+
+  pub all-run : (out′ : List ℕ) {t : ℕ} {ws′ out″ : List ℕ} → callsTest (length calls) ≡ true
+      → 2 * (length calls / 4) ≤ length out
+      → runs firstCell ws top calls ≡ ranTo t ws′ (take (2 * (length calls / 4)) out′) → length out′ ≡ length out
+      → out″ ≡ take (2 * (length calls / 4)) out′ ++ replicate (length out′ - 2 * (length calls / 4)) 0
+      → batchOf firstCell ws top calls out ≡ record { verdict = only 0; words = ws′; top = t; answers = out″ }
+  unfolding batchOf ended
+  all-run out′ e h r l z =
+      let m : length (take (2 * (length calls / 4)) out′) ≡ 2 * (length calls / 4) =
+      length-take-le (2 * (length calls / 4)) out′ (omega arith) in
+      rw (e, le-leb (2 * (length calls / 4)) (length out) h, r, m, z, l) refl
+
+  -- ---- the store
+
+  module _ {found v : Checked} (q : verdictOf found ≡ check firstCell ws top) (e : found ≡ v) where
+    pub batch-by : batch firstCell ws top calls out
+        ≡ ifSound (verdictOf v) (batchOf firstCell ws top calls out) (asLent (verdictOf v) ws top out)
+    unfolding batch
+    batch-by = rw (← q, e) refl
+
+  pub found-sound : {found : Checked} → verdictOf found ≡ check firstCell ws top → found ≡ checked.Sound
+      → Sound firstCell ws top
+  unfolding only
+  found-sound q e =
+      check-sound firstCell ws top
+      (ap (λ (v : Verdict). v .status) (sym q) ∙ ap (λ (c : Checked). verdictOf c .status) e)

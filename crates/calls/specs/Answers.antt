@@ -1,0 +1,24 @@
+-- One call's answer and a batch's, as the definitions have them: document 01's number and values for each case
+-- ("Numbers that come back").
+-- Assumes nothing.
+use mathlib.Core.List.{List}
+use Prim.Native.Nat.{ℕ}
+use Rattle.meaning.specs.Check.{Done, only}
+use Rattle.meaning.specs.Batch.{Outcome, asLent}
+use Rattle.calls.specs.declared.step.Stepped.{Stepped}
+use Rattle.calls.specs.declared.Ran.{Ran}
+use Rattle.calls.specs.declared.Ran.the-variants as ran
+
+-- a call's status, value and `top`, with the words that it leaves
+abbrev pub steppedIn : Stepped → List ℕ → Done
+steppedIn r ws = record { verdict = record { status = r .status; value = r .value }; words = ws; top = r .top }
+
+-- a batch: run to its end, with the new `top`; or one of 1 to 5, with the words and the answers as they are, and `top`
+-- as it came
+abbrev pub ranIn : Ran → List ℕ → ℕ → List ℕ → Outcome
+ranIn (ran.Ended t) ws top out = record { verdict = only 0; words = ws; top = t; answers = out }
+ranIn ran.BadLength ws top out = asLent (only 1) ws top out
+ranIn ran.BadTop ws top out = asLent (only 2) ws top out
+ranIn (ran.Damaged c) ws top out = asLent (record { status = 3; value = c }) ws top out
+ranIn ran.BadCalls ws top out = asLent (only 4) ws top out
+ranIn ran.ShortAnswers ws top out = asLent (only 5) ws top out

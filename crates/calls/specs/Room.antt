@@ -1,0 +1,40 @@
+-- What making room leaves, for a call that needs n new cells in a sound store.
+-- Assumes nothing.
+use mathlib.Core.Path.{_≡_}
+use mathlib.Core.List.{List}
+use Prim.Native.Nat.{ℕ, _+_, _*_, _≤_, _<_}
+use lib.ListN.{length}
+use Rattle.meaning.specs.Limits.{firstCell}
+use Rattle.meaning.specs.Sound.{Sound, capacity}
+use Rattle.meaning.specs.Meaning.{meaning}
+use Rattle.meaning.specs.Check.{Done, refused, only}
+use Rattle.meaning.specs.Call.{withRoom}
+use Rattle.calls.specs.declared.room.Room.{Room}
+use Rattle.calls.specs.declared.room.Room.the-variants.{Ready, Lacking}
+
+-- a sound store with room for n new cells
+abbrev pub Roomy : ℕ → List ℕ → ℕ → Type 0
+Roomy n ws top = Sound firstCell ws top × (2 * (top + n) ≤ length ws)
+
+-- the call's action, where there is room; else 16
+abbrev pub roomThen : Room → List ℕ → (List ℕ → ℕ → Done) → Done
+roomThen (Ready t) ws act = act ws t
+roomThen (Lacking t) ws act = refused ws t (only 16)
+
+abbrev pub ReadyFor : ℕ → Room → List ℕ → Type 0
+ReadyFor n (Ready t) ws = Roomy n ws t
+ReadyFor n (Lacking t) ws = Unit {0}
+
+pub record RoomMade (n : ℕ) (ws : List ℕ) (top : ℕ) (r : Room) (ws′ : List ℕ) : Type 0 where
+  -- whatever the call's action is, it is carried out as the rule for room says
+  pub does : (act : List ℕ → ℕ → Done) → withRoom firstCell n ws act ws top ≡ roomThen r ws′ act
+  pub ready : ReadyFor n r ws′
+  -- every register denotes what it did
+  pub denote : (i : ℕ) → i < firstCell → meaning ws′ i ≡ meaning ws i
+
+-- n cells are to be laid from t on in the store v, which is the store itself or the store collected; one test says
+-- whether there is room for them
+pub record Sought (n : ℕ) (ws : List ℕ) (top : ℕ) (v : List ℕ) (t : ℕ) : Type 0 where
+  pub small : t ≤ top
+  pub ready : t + n ≤ capacity ws → RoomMade n ws top (Ready t) v
+  pub lacking : capacity ws < t + n → RoomMade n ws top (Lacking t) v

@@ -1,0 +1,61 @@
+// The calls that answer with a value and leave every word as it is: LENGTH, FIRST and LIVE.
+use crate::step::Stepped;
+ghost use mathlib.Core.Path.{_≡_};
+ghost use Prim.Native.Nat.{_<_};
+ghost use Rattle.meaning.specs.Limits.{firstCell};
+ghost use Rattle.meaning.specs.Sound.{Sound, at};
+ghost use Rattle.meaning.specs.Reach.{live};
+ghost use Rattle.meaning.specs.Check.{done, size};
+ghost use Rattle.meaning.specs.Call.{codeFirst};
+ghost use Rattle.calls.specs.Answers.{steppedIn};
+
+pub fn length(ws: &[u32], top: usize, a: usize) -> Stepped
+    requires { ⌜ Sound firstCell (now ws) top × (a < firstCell) ⌝ }
+    ensures { λ r. ⌜ steppedIn r (now (ws .entry)) ≡ done (now (ws .entry)) top (size (at (now (ws .entry)) a)) ⌝ }
+{
+    let run = store::run_at(ws, a);
+    Stepped {
+        status: 0,
+        value: run.size as u32,
+        top,
+    }
+}
+
+pub fn first(ws: &[u32], top: usize, a: usize) -> Stepped
+    requires { ⌜ Sound firstCell (now ws) top × (a < firstCell) ⌝ }
+    ensures { λ r. ⌜ steppedIn r (now (ws .entry)) ≡ codeFirst (now (ws .entry)) top (at (now (ws .entry)) a) ⌝ }
+{
+    let run = store::run_at(ws, a);
+    if run.size == 0 {
+        return Stepped {
+            status: 14,
+            value: 0,
+            top,
+        };
+    }
+    match store::term_at(ws, run.start) {
+        store::Term::Symbol(code) => Stepped {
+            status: 0,
+            value: code,
+            top,
+        },
+        store::Term::Bracket(_) => Stepped {
+            status: 15,
+            value: 0,
+            top,
+        },
+    }
+}
+
+pub fn live(ws: &mut [u32], top: usize) -> Stepped
+    requires { ⌜ Sound firstCell (now ws) top ⌝ }
+    ensures { λ r. ⌜ steppedIn r (now (ws .exit))
+        ≡ done (now (ws .entry)) top (live firstCell (now (ws .entry)) top) ⌝ }
+{
+    let reached = collect::live(ws, top);
+    Stepped {
+        status: 0,
+        value: reached as u32,
+        top,
+    }
+}

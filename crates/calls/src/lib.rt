@@ -1,0 +1,119 @@
+// A batch of calls on a lent store. The store, the call list and the answer space are tested first, in the order of
+// document 01, and a refused batch leaves everything as it is lent. Else each call is carried out after the one before
+// it, and its status and value are written into the answers; what is left of the answers is zeroed.
+ghost use mathlib.Core.Path.{_≡_};
+ghost use Prim.Native.Nat.{_+_, _-_, _*_, _/_, _%_, _≤_, _<_};
+ghost use mathlib.Core.List.{_++_};
+ghost use lib.ListN.{length, take, replicate};
+ghost use Rattle.meaning.specs.Limits.{firstCell};
+ghost use Rattle.meaning.specs.Sound.{Sound};
+ghost use Rattle.meaning.specs.Batch.{runs, callsTest, batchOf, batch};
+ghost use Rattle.calls.specs.Answers.{ranIn};
+ghost use Rattle.calls.specs.Calling.{callAt, Called, ranTo};
+
+pub mod asking;
+pub mod building;
+pub mod operands;
+pub mod room;
+pub mod sharing;
+pub mod step;
+
+// What becomes of a batch: `top` after its last call, or why it is refused.
+pub enum Ran {
+    Ended(usize),
+    BadLength,
+    BadTop,
+    Damaged(usize),
+    BadCalls,
+    ShortAnswers,
+}
+
+fn calls_ok(n: usize) -> bool
+    ensures { λ r. ⌜ r ≡ callsTest n ⌝ }
+{
+    if n <= meaning::CALL_WORDS {
+        n % 4 == 0
+    } else {
+        false
+    }
+}
+
+// Call number i, with its status and value as answers 2i and 2i + 1. `top` after it comes back.
+fn run_call(ws: &mut [u32], top: usize, calls: &[u32], answers: &mut [u32], i: usize) -> usize
+    requires { ⌜ Sound firstCell (now ws) top × (4 * i + 3 < length (now calls))
+        × (2 * i + 1 < length (now answers)) ⌝ }
+    ensures { λ r. ⌜ Called (callAt (now (ws .entry)) top (now (calls .entry)) i) i (now (answers .entry)) r
+        (now (ws .exit)) (now (answers .exit)) ⌝ }
+{
+    let done = step::step(
+        ws,
+        top,
+        calls[4 * i],
+        calls[4 * i + 1],
+        calls[4 * i + 2],
+        calls[4 * i + 3],
+    );
+    answers[2 * i] = done.status;
+    answers[2 * i + 1] = done.value;
+    done.top
+}
+
+// All calls, one after the other.
+fn run_calls(ws: &mut [u32], top: usize, calls: &[u32], answers: &mut [u32]) -> usize
+    requires { ⌜ Sound firstCell (now ws) top × (length (now calls) % 4 ≡ 0)
+        × (2 * (length (now calls) / 4) ≤ length (now answers)) ⌝ }
+    ensures { λ r. ⌜ runs firstCell (now (ws .entry)) top (now (calls .entry))
+        ≡ ranTo r (now (ws .exit)) (take (2 * (length (now (calls .entry)) / 4)) (now (answers .exit))) ⌝ }
+{
+    let n = calls.len() / 4;
+    let mut at = top;
+    let mut i: usize = 0;
+    while i < n {
+        at = run_call(ws, at, calls, answers, i);
+        i += 1;
+    }
+    at
+}
+
+// The words from `from` on become zero.
+fn zero_from(answers: &mut [u32], from: usize)
+    requires { ⌜ from ≤ length (now answers) ⌝ }
+    ensures { λ _. ⌜ now (answers .exit)
+        ≡ take from (now (answers .entry)) ++ replicate (length (now (answers .entry)) - from) 0 ⌝ }
+{
+    let mut i = from;
+    while i < answers.len() {
+        answers[i] = 0;
+        i += 1;
+    }
+}
+
+// A batch on a sound store.
+fn run_sound(ws: &mut [u32], top: usize, calls: &[u32], answers: &mut [u32]) -> Ran
+    requires { ⌜ Sound firstCell (now ws) top ⌝ }
+    ensures { λ r. ⌜ ranIn r (now (ws .exit)) top (now (answers .exit))
+        ≡ batchOf firstCell (now (ws .entry)) top (now (calls .entry)) (now (answers .entry)) ⌝ }
+{
+    if !calls_ok(calls.len()) {
+        return Ran::BadCalls;
+    }
+    let used = 2 * (calls.len() / 4);
+    if answers.len() < used {
+        return Ran::ShortAnswers;
+    }
+    let end = run_calls(ws, top, calls, answers);
+    zero_from(answers, used);
+    Ran::Ended(end)
+}
+
+pub fn run(ws: &mut [u32], top: usize, calls: &[u32], answers: &mut [u32]) -> Ran
+    ensures { λ r. ⌜ ranIn r (now (ws .exit)) top (now (answers .exit))
+        ≡ batch firstCell (now (ws .entry)) top (now (calls .entry)) (now (answers .entry)) ⌝ }
+{
+    match store::check(ws, top) {
+        store::Checked::Sound => run_sound(ws, top, calls, answers),
+        store::Checked::BadLength => Ran::BadLength,
+        store::Checked::BadTop => Ran::BadTop,
+        store::Checked::Damaged(c) => Ran::Damaged(c),
+    }
+}

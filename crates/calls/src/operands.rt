@@ -1,0 +1,97 @@
+// The words of a call: how each of the twelve operations uses d, a and b, and the statuses 10 to 13.
+ghost use mathlib.Core.Path.{_≡_};
+ghost use mathlib.Core.Bool.{_||_};
+ghost use Prim.Native.Nat.{_+_, _*_, _<_};
+ghost use lib.ListN.{getD};
+ghost use Rattle.meaning.specs.Limits.{firstCell};
+ghost use Rattle.meaning.specs.Call.{uses, wrong11, wrong12, wrong13, fault};
+
+// How each operation uses d, a and b: 0 not at all, 1 as a register, 2 as a code.
+const USES: [[u32; 3]; 12] = [
+    [1, 0, 0], // CLEAR d
+    [1, 1, 0], // COPY d a
+    [1, 2, 0], // SYMBOL d a
+    [1, 1, 0], // WRAP d a
+    [1, 1, 1], // JOIN d a b
+    [1, 1, 0], // HEAD d a
+    [1, 1, 0], // REST d a
+    [1, 1, 0], // OPEN d a
+    [0, 1, 0], // LENGTH a
+    [0, 1, 0], // FIRST a
+    [0, 0, 0], // LIVE
+    [0, 0, 0], // COLLECT
+];
+
+fn use_at(o: usize, k: usize) -> u32
+    requires { ⌜ (o < 12) × (k < 3) ⌝ }
+    ensures { λ r. ⌜ r ≡ getD uses (3 * o + k) 0 ⌝ }
+{
+    USES[o][k]
+}
+
+// A register word that names no register: status 11.
+fn is_no_register(u: u32, w: u32) -> bool
+    ensures { λ r. ⌜ r ≡ wrong11 firstCell u w ⌝ }
+{
+    if u == 1 {
+        meaning::FIRST_CELL <= w as usize
+    } else {
+        false
+    }
+}
+
+// A word that the call does not use and that is not 0: status 12.
+fn is_stray(u: u32, w: u32) -> bool
+    ensures { λ r. ⌜ r ≡ wrong12 u w ⌝ }
+{
+    if u == 0 { 0 < w } else { false }
+}
+
+// A code word that is no code: status 13.
+fn is_no_code(u: u32, w: u32) -> bool
+    ensures { λ r. ⌜ r ≡ wrong13 u w ⌝ }
+{
+    if u == 2 { !store::is_code(w) } else { false }
+}
+
+fn any(x: bool, y: bool, z: bool) -> bool
+    ensures { λ r. ⌜ r ≡ (x || y || z) ⌝ }
+{
+    if x {
+        return true;
+    }
+    if y {
+        return true;
+    }
+    z
+}
+
+// What is wrong with a call's own words: 10 to 13, or 0.
+pub fn fault(o: u32, d: u32, a: u32, b: u32) -> u32
+    ensures { λ r. ⌜ r ≡ fault firstCell o d a b ⌝ }
+{
+    if 11 < o {
+        return 10;
+    }
+    let row = o as usize;
+    let u = use_at(row, 0);
+    let v = use_at(row, 1);
+    let w = use_at(row, 2);
+    let no_register = any(
+        is_no_register(u, d),
+        is_no_register(v, a),
+        is_no_register(w, b),
+    );
+    let stray = any(is_stray(u, d), is_stray(v, a), is_stray(w, b));
+    let no_code = any(is_no_code(u, d), is_no_code(v, a), is_no_code(w, b));
+    if no_register {
+        return 11;
+    }
+    if stray {
+        return 12;
+    }
+    if no_code {
+        return 13;
+    }
+    0
+}

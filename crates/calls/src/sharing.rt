@@ -1,0 +1,116 @@
+// The calls that set a register and need no new cells: CLEAR, COPY, HEAD, REST and OPEN. What the register then holds
+// is shared with the one that held it.
+use crate::building::copy_cell;
+use crate::building::put_empty;
+use crate::building::put_ends;
+use crate::step::Stepped;
+ghost use mathlib.Core.Path.{_≡_};
+ghost use Prim.Native.Nat.{_<_};
+ghost use Rattle.meaning.specs.Limits.{firstCell};
+ghost use Rattle.meaning.specs.Sound.{Sound, hollow, at};
+ghost use Rattle.meaning.specs.Check.{done};
+ghost use Rattle.meaning.specs.Call.{put, share, head, rest, openFirst};
+ghost use Rattle.calls.specs.Answers.{steppedIn};
+
+pub fn clear(ws: &mut [u32], top: usize, d: usize) -> Stepped
+    requires { ⌜ Sound firstCell (now ws) top × (d < firstCell) ⌝ }
+    ensures { λ r. ⌜ steppedIn r (now (ws .exit)) ≡ done (put (now (ws .entry)) d hollow) top 0 ⌝ }
+{
+    put_empty(ws, d);
+    Stepped {
+        status: 0,
+        value: 0,
+        top,
+    }
+}
+
+pub fn share(ws: &mut [u32], top: usize, d: usize, a: usize) -> Stepped
+    requires { ⌜ Sound firstCell (now ws) top × (d < firstCell) × (a < firstCell) ⌝ }
+    ensures { λ r. ⌜ steppedIn r (now (ws .exit)) ≡ share d a (now (ws .entry)) top ⌝ }
+{
+    copy_cell(ws, d, a);
+    Stepped {
+        status: 0,
+        value: 0,
+        top,
+    }
+}
+
+pub fn head(ws: &mut [u32], top: usize, d: usize, a: usize) -> Stepped
+    requires { ⌜ Sound firstCell (now ws) top × (d < firstCell) × (a < firstCell) ⌝ }
+    ensures { λ r. ⌜ steppedIn r (now (ws .exit)) ≡ head (now (ws .entry)) top d (at (now (ws .entry)) a) ⌝ }
+{
+    let run = store::run_at(ws, a);
+    if run.size == 0 {
+        return Stepped {
+            status: 14,
+            value: 0,
+            top,
+        };
+    }
+    put_ends(ws, d, run.start, run.start);
+    Stepped {
+        status: 0,
+        value: 0,
+        top,
+    }
+}
+
+pub fn rest(ws: &mut [u32], top: usize, d: usize, a: usize) -> Stepped
+    requires { ⌜ Sound firstCell (now ws) top × (d < firstCell) × (a < firstCell) ⌝ }
+    ensures { λ r. ⌜ steppedIn r (now (ws .exit)) ≡ rest (now (ws .entry)) top d (at (now (ws .entry)) a) ⌝ }
+{
+    let run = store::run_at(ws, a);
+    if run.size == 0 {
+        return Stepped {
+            status: 14,
+            value: 0,
+            top,
+        };
+    }
+    if run.size == 1 {
+        put_empty(ws, d);
+        return Stepped {
+            status: 0,
+            value: 0,
+            top,
+        };
+    }
+    put_ends(ws, d, run.start + 1, run.start + run.size - 1);
+    Stepped {
+        status: 0,
+        value: 0,
+        top,
+    }
+}
+
+// A bracket's cell holds what a register on its contents holds, so it is copied.
+pub fn open_first(ws: &mut [u32], top: usize, d: usize, a: usize) -> Stepped
+    requires { ⌜ Sound firstCell (now ws) top × (d < firstCell) × (a < firstCell) ⌝ }
+    ensures { λ r. ⌜ steppedIn r (now (ws .exit)) ≡ openFirst (now (ws .entry)) top d (at (now (ws .entry)) a) ⌝ }
+{
+    let run = store::run_at(ws, a);
+    if run.size == 0 {
+        return Stepped {
+            status: 14,
+            value: 0,
+            top,
+        };
+    }
+    let first = run.start;
+    match store::term_at(ws, first) {
+        store::Term::Symbol(_) => Stepped {
+            status: 15,
+            value: 0,
+            top,
+        },
+        store::Term::Bracket(_) => {
+            copy_cell(ws, d, first);
+            Stepped {
+                status: 0,
+                value: 0,
+                top,
+            }
+        },
+    }
+}

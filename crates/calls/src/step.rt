@@ -1,0 +1,64 @@
+// One call: its own words are tested first, and then it is carried out.
+use crate::asking::first;
+use crate::asking::length;
+use crate::asking::live;
+use crate::building::join;
+use crate::building::symbol;
+use crate::building::wrap;
+use crate::operands::fault;
+use crate::room::gather;
+use crate::sharing::clear;
+use crate::sharing::head;
+use crate::sharing::open_first;
+use crate::sharing::rest;
+use crate::sharing::share;
+ghost use mathlib.Core.Path.{_≡_};
+ghost use Rattle.meaning.specs.Limits.{firstCell};
+ghost use Rattle.meaning.specs.Sound.{Sound};
+ghost use Rattle.meaning.specs.Call.{fault, opAt, perform, step};
+ghost use Rattle.calls.specs.Answers.{steppedIn};
+
+// What one call answers: its status and value, and `top` after it.
+pub struct Stepped {
+    pub status: u32,
+    pub value: u32,
+    pub top: usize,
+}
+
+// A call whose own words are right.
+fn perform(ws: &mut [u32], top: usize, o: u32, d: u32, a: u32, b: u32) -> Stepped
+    requires { ⌜ Sound firstCell (now ws) top × (fault firstCell o d a b ≡ 0) ⌝ }
+    ensures { λ r. ⌜ steppedIn r (now (ws .exit)) ≡ perform (opAt o) firstCell (now (ws .entry)) top d a b ⌝ }
+{
+    let to = d as usize;
+    let from = a as usize;
+    match o {
+        0 => clear(ws, top, to),
+        1 => share(ws, top, to, from),
+        2 => symbol(ws, top, to, a),
+        3 => wrap(ws, top, to, from),
+        4 => join(ws, top, to, from, b as usize),
+        5 => head(ws, top, to, from),
+        6 => rest(ws, top, to, from),
+        7 => open_first(ws, top, to, from),
+        8 => length(ws, top, from),
+        9 => first(ws, top, from),
+        10 => live(ws, top),
+        _ => gather(ws, top),
+    }
+}
+
+pub fn step(ws: &mut [u32], top: usize, o: u32, d: u32, a: u32, b: u32) -> Stepped
+    requires { ⌜ Sound firstCell (now ws) top ⌝ }
+    ensures { λ r. ⌜ steppedIn r (now (ws .exit)) ≡ step firstCell (now (ws .entry)) top o d a b ⌝ }
+{
+    let wrong = fault(o, d, a, b);
+    if wrong != 0 {
+        return Stepped {
+            status: wrong,
+            value: 0,
+            top,
+        };
+    }
+    perform(ws, top, o, d, a, b)
+}
