@@ -1,7 +1,6 @@
--- The chain of m undone, over any set P of cells that has m and its masters: whatever the order of linking, and whether
--- or not the cells outside P have moved. `unlink-hit` is the step, `chain-head` says where it is taken, `chain-end`
--- when
--- the chain is gone, `undoing-next` that the next cell's chain is then whole. Assumes nothing.
+-- The chain of m undone, over any set P of cells that has m and its masters: whatever the order of linking, and
+-- whether or not the cells outside P have moved. `unlink-hit` is the step, `chain-head` says where it is taken,
+-- `chain-end` when the chain is gone, `undoing-next` that the next cell's chain is then whole. Assumes nothing.
 use mathlib.Core.Path.{_≡_, refl, sym, _∙_, ap, subst}
 use mathlib.Core.Logic.{_≢_}
 use mathlib.Core.Bool.{Bool, true, false, cond, _&&_, true≢false}
@@ -11,8 +10,7 @@ use native.Mathlib.Decide.{ℕ-discrete}
 use lib.Dec.{eqb, leb·suc-suc}
 use borrow.Author.Tests.{eqb-true, eqb-false, le-ltb, le-leb, lt-leb, eq-eqb, ne-eqb}
 use Rattle.collect.specs.Cells.{Cell, val}
-use Rattle.collect.specs.Chain.{Heap, Ordered, Proper, master, addr, base, last, mended, slR, slL, slideCell}
-use Rattle.collect.specs.Chain.{Undoing}
+use Rattle.collect.specs.Chain.{Heap, Ordered, Proper, master, addr, base, last, mended, slR, slL, slideCell, Undoing}
 use Rattle.collect.specs.Step.{Unlinked}
 use Rattle.collect.proofs.Counting.{both-true, leb-suc}
 use Rattle.collect.proofs.Order.{master-low, last-miss}

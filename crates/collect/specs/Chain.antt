@@ -1,8 +1,7 @@
 -- A marked store apart from its words, and its cells in closed form while chains are built and undone (000, 3.2 to
--- 3.5). A master of cell k is a register or marked cell, a bracket with contents, whose right end is k. The chain of k
--- starts in k's left field, runs through the right fields of k's masters, from the last linked to the first, and ends
--- in
--- what stood in k's left field before. Assumes nothing.
+-- 3.5). A master of cell k is a register or marked cell, a bracket with contents, whose right end is k. The chain of
+-- k starts in k's left field, runs through the right fields of k's masters, from the last linked to the first, and ends
+-- in what stood in k's left field before. Assumes nothing.
 use mathlib.Core.Path.{_≡_}
 use mathlib.Core.Bool.{Bool, true, false, cond, not, _&&_, _||_}
 use Prim.Native.Nat.{ℕ, zero, suc, _+_, _-_, _≤_, _<_}
@@ -10,8 +9,7 @@ use lib.Dec.{ltb, leb, eqb}
 use Rattle.collect.specs.Cells.{Link, Cell, val, ptr, mk}
 
 -- The store as it is marked: registers below F, heap cells from F up to T; which cells are brackets, their ends, and
--- which heap cells are marked. And the order in which masters are linked: the place of each cell, the cell at each
--- place.
+-- which heap cells are marked. And the order in which masters are linked: each cell's place, and the cell at each place.
 pub record Heap : Type 0 where
   pub F : ℕ
   pub T : ℕ

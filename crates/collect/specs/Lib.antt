@@ -1,5 +1,12 @@
--- The definitions that the contracts of `collect` cite: a cell's fields as links, the phases of collecting, the cells
--- in closed form while chains stand, what one step makes of them, and what the passes ask for and leave.
+-- The definitions that the contracts of `collect` cite. In order:
+--   Cells    a cell's fields as links
+--   Phases   what the words are in each phase of collecting
+--   Marking  the steps of marking
+--   Chain    the cells in closed form while chains stand
+--   Step     what one step makes of them
+--   Passes   what the passes ask for and leave
+--   Answers  document 01's number and values for each case of the answer
+--   Unique   the claim that collecting's statement leaves no second outcome
 -- Assumes nothing.
 pub mod Cells
 pub mod Phases

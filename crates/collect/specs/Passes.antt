@@ -32,6 +32,7 @@ fullWord w = full (decode w .br) (decode w .ri)
 
 -- ---- threading
 
+-- the first j cells in order are on the chains of their right ends
 pub record Threaded (g : Heap) (s : List ℕ) (j : ℕ) : Type 0 where
   pub frame : Frame g s
   pub at : LinkedTo g j (cell s)
@@ -54,20 +55,21 @@ pub record Turn (g : Heap) (s : List ℕ) (m w : ℕ) : Type 0 where
   pub live : (ltb m (g .F) || g .live m) ≡ true
   pub word : w ≡ secondWord s m
 
+-- asked for and left by the turn
 abbrev pub MyTurn : List ℕ → ℕ → ℕ → Type 0
 MyTurn s m w = (g : Heap) × Turn g s m w
 
 abbrev pub Turned : List ℕ → List ℕ → ℕ → ℕ → Type 0
 Turned s s′ m w = (g : Heap) → Turn g s m w → Threaded g s′ (suc (g .pos m))
 
--- the heap cells below `top`
+-- asked for and left by the pass over the heap cells below `top`
 abbrev pub MarkedHeap : List ℕ → ℕ → Type 0
 MarkedHeap s top = (g : Heap) × Threaded g s 0 × (g .T ≡ top)
 
 abbrev pub ThreadsHeap : List ℕ → List ℕ → ℕ → Type 0
 ThreadsHeap s s′ top = (g : Heap) → Threaded g s 0 → g .T ≡ top → Threaded g s′ (g .T - g .F)
 
--- the registers
+-- and by the pass over the registers
 abbrev pub ThreadedHeap : List ℕ → Type 0
 ThreadedHeap s = (g : Heap) × Threaded g s (g .T - g .F)
 
@@ -76,6 +78,7 @@ ThreadsRegisters s s′ = (g : Heap) → Threaded g s (g .T - g .F) → Threaded
 
 -- ---- sliding
 
+-- the marked cells below m have moved, and the next one goes to `new`
 pub record Sliding (g : Heap) (s : List ℕ) (m new : ℕ) : Type 0 where
   pub frame : Frame g s
   pub place : new ≡ addr g m
@@ -100,9 +103,11 @@ pub record Layable (s : List ℕ) (new a b : ℕ) : Type 0 where
   pub bare : decode b .lc ≡ false
   pub long : fullWord b ≡ true → a ≤ decode b .ri
 
+-- it is laid down there
 abbrev pub Lays : List ℕ → List ℕ → ℕ → ℕ → ℕ → Type 0
 Lays s s′ new a b = Laid (cell s) (cell s′) new (linked a (decode b))
 
+-- asked for and left by the pass over the heap cells below `top`, which gives the new `top`
 abbrev pub Slidable : List ℕ → ℕ → Type 0
 Slidable s top = (g : Heap) × Sliding g s (g .F) (g .F) × (g .T ≡ top)
 
@@ -111,6 +116,7 @@ Slides s s′ top new = (g : Heap) → Sliding g s (g .F) (g .F) → g .T ≡ to
 
 -- ---- the rest
 
+-- the registers are settled where they stand
 abbrev pub Settleable : List ℕ → Type 0
 Settleable s = (r : ℕ) → r < firstCell → Layable s r (firstWord s r) (secondWord s r)
 

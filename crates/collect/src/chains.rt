@@ -1,5 +1,5 @@
 // Chains: a master of cell k is a register or marked bracket whose right end is k. The chain of k starts in its first
-// word, under lc, and runs through the right ends of its masters, under rc; the last of them carries k's own first word.
+// word, under lc, and runs through the right ends of its masters, under rc; the last carries k's own first word.
 ghost use Rattle.words.specs.Second.{decode};
 ghost use Rattle.collect.specs.Cells.{cell};
 ghost use Rattle.collect.specs.Step.{Joined};
@@ -11,8 +11,8 @@ pub struct Pair {
     pub second: u32,
 }
 
-// Puts the length less one of the bracket m, whose second word is w, into its first word, and m at the head of the chain
-// of its right end.
+// Puts the length less one of the bracket m, whose second word is w, into its first word, and m at the head of the
+// chain of its right end.
 pub fn link(ws: &mut [u32], m: usize, w: u32)
     requires { ⌜ Linkable (now ws) m w ⌝ }
     ensures { λ _. ⌜ Joined (cell (now (ws .entry))) (cell (now (ws .exit))) m (decode w .ri) ⌝ }

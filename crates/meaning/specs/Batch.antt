@@ -10,8 +10,7 @@ use Rattle.meaning.specs.Check.{Verdict, only, check, ifSound, Done}
 use Rattle.meaning.specs.Call.{step}
 
 -- the calls one after the other, later ones after a refused one too: the store and `top` after the last, and all
--- answers,
--- a status and a value each
+-- answers, a status and a value each
 pub record Ran : Type 0 where
   pub words : List ℕ
   pub top : ℕ

@@ -1,9 +1,7 @@
 -- One call: the table of operand words, what each operation does to the words, and the rule for room ("Calls",
--- "Numbers that
--- come back"). A call is planned on the store as lent: to act in the store as it is, in the store collected, or where
--- there
--- is room for n new cells. An action says what it does to the words, and `carry` alone has the rule for room.
--- Assumes nothing.
+-- "Numbers that come back"). A call is planned on the store as lent: to act in the store as it is, in the store
+-- collected, or where there is room for n new cells. An action says what it does to the words, and `carry` alone has
+-- the rule for room. Assumes nothing.
 use mathlib.Core.Bool.{Bool, true, false, cond, _&&_, _||_}
 use mathlib.Core.List.{List, [], _∷_}
 use Prim.Native.Nat.{ℕ, zero, suc, _+_, _-_, _*_}
@@ -133,8 +131,7 @@ pub data Plan : Type 0 where
   making : ℕ → List ℕ → (List ℕ → ℕ → Done) → Plan
 
 -- The store in which room is sought, for a call that sets register d and has these operand registers: d's old
--- expression
--- counts, so it is the store itself.
+-- expression counts, so it is the store itself.
 unfoldable pub sought : List ℕ → ℕ → List ℕ → List ℕ
 sought ws d operands = ws
 

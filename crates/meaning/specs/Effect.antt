@@ -1,7 +1,5 @@
 -- What a call does, in expressions: the table of "Calls", and the order of its statuses. `e` has the expression that
--- each
--- register denotes before the call, `lv` is live.
--- Assumes nothing.
+-- each register denotes before the call, `lv` is live. Assumes nothing.
 use mathlib.Core.Bool.{Bool, cond}
 use Prim.Native.Nat.{ℕ, zero, suc}
 use lib.Dec.{eqb}
@@ -12,8 +10,7 @@ use Rattle.meaning.specs.Call.{COLLECT}
 use Rattle.meaning.specs.Call.{opAt, fault, joinNeed}
 
 -- what is wrong with the expression that the call looks at (14, 15 or 0); the registers when it is done; its value;
--- the new
--- cells that it needs
+-- the new cells that it needs
 pub record Effect : Type 0 where
   pub unfit : ℕ
   pub registers : ℕ → Expr

@@ -24,8 +24,7 @@ termOf t hollow = parens nothing nothing
 termOf t (ends l r) = parens (run t l (suc r - l)) nothing
 
 -- The term of a cell, through at most n brackets. References point down, so in a sound store no more than c brackets
--- lie
--- within one another in cell c, and n makes no difference from c + 1 on (`term-depth`).
+-- lie within one another in cell c, and n makes no difference from c + 1 on (`term-depth`).
 abbrev pub term : (ℕ → Cell) → ℕ → ℕ → Expr
 term k zero c = nothing
 term k (suc n) c = termOf (term k n) (k c)

@@ -39,8 +39,7 @@ consIf true c cs = c ∷ cs
 consIf false c cs = cs
 
 -- The reached ones of the n cells below `top`, in order. Only registers and higher cells hold a cell, so one pass
--- downward
--- finds them.
+-- downward finds them.
 abbrev pub reachedOf : ℕ → (ℕ → Cell) → ℕ → ℕ → List ℕ
 reachedOf F k top zero = []
 reachedOf F k top (suc n) =

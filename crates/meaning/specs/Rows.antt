@@ -10,8 +10,7 @@ use Rattle.meaning.specs.Batch.{Ran, runs}
 use Rattle.meaning.specs.Program.{program, decimal, bytesOf}
 
 -- a store and `top`, then: the calls, the answers, the store and `top` after them; or the store and `top` once
--- collected, with
--- live; or the check's status and value. Or what the program reads, and what it writes.
+-- collected, with live; or the check's status and value. Or what the program reads, and what it writes.
 pub data Row : Type 0 where
   runsTo : List ℕ → ℕ → List ℕ → List ℕ → List ℕ → ℕ → Row
   collectsTo : List ℕ → ℕ → ℕ → List ℕ → ℕ → Row

@@ -1,7 +1,5 @@
--- What an action does in a store, it does in the same store collected: it answers the same, and leaves stores with
--- the same
--- canonical words.
--- Assumes nothing.
+-- What an action does in a store, it does in the same store collected: it answers the same, and leaves stores with the
+-- same canonical words. Assumes nothing.
 use mathlib.Core.Path.{_≡_, refl, sym, ap, _∙_}
 use mathlib.Core.Bool.{Bool, true, false, cond}
 use mathlib.Core.List.{List}

@@ -1,7 +1,5 @@
 -- Stores are alike, in document 01's words, exactly when their canonical words are equal, and so exactly when
--- collecting makes
--- them equal.
--- Assumes nothing.
+-- collecting makes them equal. Assumes nothing.
 use mathlib.Core.Path.{_≡_, refl, sym, ap, ap₂, _∙_, subst}
 use mathlib.Core.Logic.{_⊎_, inl, inr}
 use mathlib.Core.List.{List, [], _++_}

@@ -1,7 +1,5 @@
 -- The words of a store's registers and reached cells, once collected: its canonical words. Stores of one length are
--- collected
--- to the same store where these are equal.
--- Assumes nothing.
+-- collected to the same store where these are equal. Assumes nothing.
 use mathlib.Core.Path.{_≡_, refl, sym, ap, ap₂, _∙_}
 use mathlib.Core.List.{List, _++_}
 use Prim.Native.Nat.{ℕ, _-_, _*_}

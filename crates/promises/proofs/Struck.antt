@@ -1,6 +1,5 @@
 -- Lists of calls, cut into batches anywhere: a list answers as the same list without COLLECT does, and leaves a twin
--- of the
--- store that that leaves. Two lists that are equal once struck are compared through their common struck list.
+-- of the store that that leaves. Two lists that are equal once struck are compared through their common struck list.
 -- Assumes nothing.
 use mathlib.Core.Path.{_≡_, refl, sym, ap, ap₂, _∙_}
 use mathlib.Core.Bool.{Bool, true, false}

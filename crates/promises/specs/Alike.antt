@@ -1,8 +1,7 @@
--- Demand 3: collections never show ("What the proofs have to nail"). Two sound stores of equal capacity that are alike,
--- given lists of calls that are equal once COLLECT is struck out, each list cut into batches in its own way, none of
--- them
--- refused: all other answers are equal, and one more collection of each makes the stores equal word for word.
--- Assumes nothing.
+-- Demand 3: collections never show ("What the proofs have to nail"). Two sound stores of equal capacity that are
+-- alike, given lists of calls that are equal once COLLECT is struck out, each list cut into batches in its own way,
+-- none of them refused: all other answers are equal, and one more collection of each makes the stores equal word for
+-- word. Assumes nothing.
 use mathlib.Core.Path.{_≡_}
 use mathlib.Core.Bool.{Bool, cond}
 use mathlib.Core.List.{List, [], _∷_, _++_}

@@ -10,8 +10,7 @@ use native.Mathlib.Decide.{ℕ-discrete}
 use lib.ListN.{length}
 use Rattle.words.specs.Cell.{firstWord, secondWord, putCell, putSecond}
 use Rattle.words.specs.Second.{Second, decode, withRi, withRc, withLc, bit}
-use Rattle.words.proofs.Cells.{putSecond-length, secondWord-same, firstWord-other, secondWord-other}
-use Rattle.words.proofs.Cells.{secondWord-putSecond-same, secondWord-putSecond-other}
+use Rattle.words.proofs.Cells.{putSecond-length, secondWord-same, firstWord-other, secondWord-other, secondWord-putSecond-same, secondWord-putSecond-other}
 use Rattle.meaning.proofs.Cells.{limit-fits}
 use Rattle.collect.specs.Cells.{Link, Cell, linked, cell, val, mk}
 use Rattle.collect.specs.Chain.{Heap, master, count, addr, last, MovedTo}
@@ -135,8 +134,8 @@ module _ {s₀ : List ℕ} {m w new : ℕ} where
       next g ch =
           let t = o .at g ch .1 in
           let tag = sym (ap (λ (l : Link). l .tag) (link-is g ch)) ∙ e in
-          let h = chain-head g (ch .phase .frame .proper .order) (Still g m) m (o .at g ch .0) (back s m a b)
-          (t .ahead) tag in
+          let p = ch .phase .frame .proper in
+          let h = chain-head g (p .order) (Still g m) m (o .at g ch .0) (back s m a b) (t .ahead) tag in
           let q : h .k ≡ a = sym (ap (λ (l : Link). l .num) (link-is g ch) ∙ h .is) in
           subst (λ (k : ℕ). Next g m k (back s m a b)) q
           (record { is = h .master; names = h .names; at = record { ahead = h .at; moved = t .moved } })

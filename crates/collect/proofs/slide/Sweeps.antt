@@ -98,8 +98,8 @@ module _ {s₀ : List ℕ} {top : ℕ} where
                 place = rw (add-one m) (omega (arith, c .phase .place, count-true (g .live) m (c .live)));
                 at = rw (add-one m)
                     (slide-move g p m (cell (putCell s′ m a b)) (cell s″) (c .live) (k g c)
-                    (rw (← c .phase .place) (d .at ∙ ap settle
-                    (sym (cell-put s′ m a b (omega (arith, t .frame .room, w .same))))))
+                    (rw (← c .phase .place)
+                    (d .at ∙ ap settle (sym (cell-put s′ m a b (omega (arith, t .frame .room, w .same))))))
                     (λ x n₁ n₂. d .rest x (λ z. n₁ (z ∙ c .phase .place)) ∙ sym (cell-put-other s′ m a b x n₂)));
               };
         }

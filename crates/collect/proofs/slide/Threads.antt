@@ -15,8 +15,7 @@ use Rattle.meaning.proofs.Cells.{limit-fits}
 use Rattle.collect.specs.Cells.{Link, Cell, cell, val, ptr}
 use Rattle.collect.specs.Chain.{Heap, master, base, last}
 use Rattle.collect.specs.Step.{Joined}
-use Rattle.collect.specs.Passes.{fullWord, Frame, Threaded, Linkable, Turn, MyTurn, Turned, MarkedHeap}
-use Rattle.collect.specs.Passes.{ThreadsHeap, ThreadedHeap, ThreadsRegisters}
+use Rattle.collect.specs.Passes.{fullWord, Frame, Threaded, Linkable, Turn, MyTurn, Turned, MarkedHeap, ThreadsHeap, ThreadedHeap, ThreadsRegisters}
 use Rattle.collect.proofs.Order.{master-full, master-dead, master-low, ri-other, pos-ri}
 use Rattle.collect.proofs.Linking.{thR-ahead, thL-ahead, thL-past, thread-skip, thread-hit}
 
@@ -67,14 +66,14 @@ module _ {g : Heap} {s : List ℕ} {m w : ℕ} (t : Turn g s m w) where
     k-in = omega (arith, f .room, right-is, f .proper .ends m h);
     len = f .len;
     apart = λ q. ri-other g m (f .proper) h (sym (q ∙ right-is));
-    small = rw (right-is, slave)
-        (last-small g (f .small) (λ c e. omega (arith, master-low g c (f .proper) e, f .room, f .len, limit-fits))
-        (g .ri m)
-        (g .pos m));
+    small = rw (right-is, slave) (last-small g (f .small) low (g .ri m) (g .pos m));
     bare = ap (λ (x : ℕ). decode x .lc) (t .word) ∙ ap (λ (x : Link). x .tag) left;
     order = omega (arith, ap (λ (x : Link). x .num) left, right-is, f .proper .ends m h);
   }
     where
+      low : (c : ℕ) → master g c ≡ true → c < 2 ^ 28
+      low c e = omega (arith, master-low g c (f .proper) e, f .room, f .len, limit-fits)
+
       left : cell s m .l ≡ val (g .li m)
       left = ap (λ (c : Cell). c .l) (t .phase .at m) ∙ thL-ahead g (g .pos m) m h (omega arith)
 

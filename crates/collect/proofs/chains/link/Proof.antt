@@ -58,9 +58,9 @@ returns c =
     let r = f .before .before in
     let a = r .before .before in
     link-words (a .pre) (p₁ .before .take-left-link .result) (p₂ .before .set-left-chain .result)
-    (r .right-end .ensures)
-    (f .first-word .ensures) (b .first-word2 .ensures) (v .second-word .ensures) (p₁ .before .take-left-link .ensures)
-    (p₂ .before .set-left-chain .ensures) (p₁ .put-cell .ensures) (p₂ .put-cell2 .ensures)
+    (r .right-end .ensures) (f .first-word .ensures) (b .first-word2 .ensures) (v .second-word .ensures)
+    (p₁ .before .take-left-link .ensures) (p₂ .before .set-left-chain .ensures) (p₁ .put-cell .ensures)
+    (p₂ .put-cell2 .ensures)
 
 pub link-spec : {M : Type 1} → statement M
 link-spec =

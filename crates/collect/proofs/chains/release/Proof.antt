@@ -2,8 +2,7 @@
 use borrow.Author.Needs.{needs}
 use mathlib.Core.Path.{sym, _∙_}
 use native.Mathlib.Omega.{arith}
-use Rattle.collect.proofs.chains.Released.{Releasing, left, release-room, release-start, release-next}
-use Rattle.collect.proofs.chains.Released.{release-again, release-less, release-end}
+use Rattle.collect.proofs.chains.Released.{Releasing, left, release-room, release-start, release-next, release-again, release-less, release-end}
 use Rattle.collect.proofs.chains.release.Statement.{statement}
 use Rattle.collect.proofs.chains.release.Tie as tie
 
@@ -75,7 +74,6 @@ loop-again c =
     let r = p .before .before .before in
     let t = r .before .before .before .before in
     let l = t .before .before in
-    let a = l .before .before .before .before in
     release-again (l .loop .inv) (sym (t .before .has-left-chain .ensures) ∙ t .if1 .taken)
     (r .take-right-link .result) (p .before .with-right-end .result) (r .before .before .second-word .ensures)
     (r .before .right-end .ensures) (r .take-right-link .ensures) (p .before .with-right-end .ensures)
@@ -87,7 +85,6 @@ same-length c = c .before .before .loop .inv .same
 returns : tie.Need-returns Inv-loop μ-loop
 returns c =
     let l = c .before .before in
-    let a = l .before .before .before .before in
     release-end (l .loop .inv) (sym (c .before .has-left-chain .ensures) ∙ c .if1 .left)
 
 pub release-spec : {M : Type 1} → statement M

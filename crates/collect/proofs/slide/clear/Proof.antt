@@ -30,8 +30,7 @@ loop-again c =
     let t = p .before .before in
     let l = t .before in
     let a = l .before .before in
-    clearing-again (l .loop .inv) (a .pre .1)
-    (t .loop-test .taken) (p .put-cell .ensures)
+    clearing-again (l .loop .inv) (a .pre .1) (t .loop-test .taken) (p .put-cell .ensures)
 
 same-length : tie.Need-same-length Inv-loop μ-loop
 same-length c = c .before .loop .inv .same
@@ -39,9 +38,7 @@ same-length c = c .before .loop .inv .same
 returns : tie.Need-returns Inv-loop μ-loop
 returns c =
     let l = c .before in
-    let a = l .before .before in
-    clearing-end (l .loop .inv)
-    (c .loop-test .left)
+    clearing-end (l .loop .inv) (c .loop-test .left)
 
 pub clear-spec : {M : Type 1} → statement M
 clear-spec =

@@ -3,8 +3,7 @@ use borrow.Author.Needs.{needs}
 use Prim.Native.Nat.{_-_}
 use native.Mathlib.Omega.{arith}
 use Rattle.meaning.specs.Limits.{firstCell}
-use Rattle.collect.proofs.slide.Rest.{Settling, settling-start, settling-room, settling-lay, settling-again}
-use Rattle.collect.proofs.slide.Rest.{settling-end}
+use Rattle.collect.proofs.slide.Rest.{Settling, settling-start, settling-room, settling-lay, settling-again, settling-end}
 use Rattle.collect.proofs.slide.settle_registers.Statement.{statement}
 use Rattle.collect.proofs.slide.settle_registers.Tie as tie
 
@@ -37,8 +36,7 @@ lay-requires c κs =
     let t = f .before .before in
     let l = t .before in
     let a = l .before .before in
-    settling-lay (l .loop .inv) (t .loop-test .taken)
-    (f .first-word .ensures) (v .second-word .ensures) (a .pre)
+    settling-lay (l .loop .inv) (t .loop-test .taken) (f .first-word .ensures) (v .second-word .ensures) (a .pre)
 
 add-i : tie.Need-add-i Inv-loop μ-loop
 add-i c = search needs
@@ -53,9 +51,7 @@ loop-again c =
     let f = v .before .before in
     let t = f .before .before in
     let l = t .before in
-    let a = l .before .before in
-    settling-again (l .loop .inv) (t .loop-test .taken)
-    (f .first-word .ensures) (v .second-word .ensures)
+    settling-again (l .loop .inv) (t .loop-test .taken) (f .first-word .ensures) (v .second-word .ensures)
     (k .lay .kept .0) (k .lay .ensures)
 
 same-length : tie.Need-same-length Inv-loop μ-loop
@@ -64,7 +60,6 @@ same-length c = c .before .loop .inv .same
 returns : tie.Need-returns Inv-loop μ-loop
 returns c =
     let l = c .before in
-    let a = l .before .before in
     settling-end (l .loop .inv) (c .loop-test .left)
 
 pub settle-registers-spec : {M : Type 1} → statement M

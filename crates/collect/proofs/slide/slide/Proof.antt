@@ -3,8 +3,7 @@ use borrow.Author.Needs.{needs}
 use mathlib.Core.Logic.{⊎-elim}
 use Prim.Native.Nat.{_-_}
 use native.Mathlib.Omega.{arith}
-use Rattle.collect.proofs.slide.Sweeps.{Swept, swept-start, swept-room, swept-small, swept-release, swept-lay}
-use Rattle.collect.proofs.slide.Sweeps.{swept-hit, swept-miss, swept-end}
+use Rattle.collect.proofs.slide.Sweeps.{Swept, swept-start, swept-room, swept-small, swept-release, swept-lay, swept-hit, swept-miss, swept-end}
 use Rattle.collect.proofs.slide.slide.Statement.{statement}
 use Rattle.collect.proofs.slide.slide.Tie as tie
 
@@ -22,8 +21,7 @@ second-word-requires c κs =
     let t = c .before in
     let l = t .before in
     let a = l .before .before in
-    swept-room (l .loop .inv)
-    (t .loop-test .taken) (a .pre) .0
+    swept-room (l .loop .inv) (t .loop-test .taken) (a .pre) .0
 
 is-used-requires : tie.Need-is-used-requires Inv-loop μ-loop
 is-used-requires c κs = search needs
@@ -33,9 +31,7 @@ cast-release c =
     let t = c .before .before .before .before .before in
     let l = t .before in
     let a = l .before .before in
-    let k =
-    swept-small (l .loop .inv)
-    (t .loop-test .taken) (a .pre) in
+    let k = swept-small (l .loop .inv) (t .loop-test .taken) (a .pre) in
     omega (arith, k)
 
 release-requires : tie.Need-release-requires Inv-loop μ-loop
@@ -45,9 +41,8 @@ release-requires c κs =
     let t = v .before .before in
     let l = t .before in
     let a = l .before .before in
-    swept-release (l .loop .inv)
-    (t .loop-test .taken) (v .second-word .ensures) (u .is-used .ensures)
-    (a .pre) (c .before .if1 .taken)
+    swept-release (l .loop .inv) (t .loop-test .taken) (v .second-word .ensures) (u .is-used .ensures) (a .pre)
+    (c .before .if1 .taken)
 
 lay-requires : tie.Need-lay-requires Inv-loop μ-loop
 lay-requires c κs =
@@ -58,9 +53,8 @@ lay-requires c κs =
     let t = v .before .before in
     let l = t .before in
     let a = l .before .before in
-    swept-lay (l .loop .inv)
-    (t .loop-test .taken) (v .second-word .ensures) (u .is-used .ensures)
-    (i .if1 .taken) (k .release .last .0) (k .release .result .first) (k .release .result .second) (k .release .kept .0)
+    swept-lay (l .loop .inv) (t .loop-test .taken) (v .second-word .ensures) (u .is-used .ensures) (i .if1 .taken)
+    (k .release .last .0) (k .release .result .first) (k .release .result .second) (k .release .kept .0)
     (k .release .ensures) (a .pre)
 
 add-new : tie.Need-add-new Inv-loop μ-loop
@@ -68,9 +62,7 @@ add-new c =
     let t = c .before .before .before .before .before .before .before .before .before .before .before .before in
     let l = t .before in
     let a = l .before .before in
-    let k =
-    swept-small (l .loop .inv)
-    (t .loop-test .taken) (a .pre) in
+    let k = swept-small (l .loop .inv) (t .loop-test .taken) (a .pre) in
     omega (arith, k)
 
 add-m : tie.Need-add-m Inv-loop μ-loop
@@ -85,13 +77,13 @@ loop-again c =
     let v = u .before in
     let t = v .before .before in
     let l = t .before in
-    let a = l .before .before in
     ⊎-elim
-    (λ w. rw (w .9, w .10) (swept-hit (l .loop .inv) (t .loop-test .taken) (v .second-word .ensures)
-    (u .is-used .ensures) (w .0 .taken) (w .2 .last .0) (w .2 .result .first) (w .2 .result .second) (w .2 .kept .0)
-    (w .2 .ensures) (w .6 .kept .0) (w .6 .ensures)))
-    (λ w. rw (w .1, w .2) (swept-miss (l .loop .inv) (t .loop-test .taken) (v .second-word .ensures)
-    (u .is-used .ensures) (w .0 .left)))
+    (λ w. rw (w .9, w .10)
+    (swept-hit (l .loop .inv) (t .loop-test .taken) (v .second-word .ensures) (u .is-used .ensures) (w .0 .taken)
+    (w .2 .last .0) (w .2 .result .first) (w .2 .result .second) (w .2 .kept .0) (w .2 .ensures) (w .6 .kept .0)
+    (w .6 .ensures)))
+    (λ w. rw (w .1, w .2)
+    (swept-miss (l .loop .inv) (t .loop-test .taken) (v .second-word .ensures) (u .is-used .ensures) (w .0 .left)))
     (c .if1 .came)
 
 same-length : tie.Need-same-length Inv-loop μ-loop
@@ -100,9 +92,7 @@ same-length c = c .before .loop .inv .same
 returns : tie.Need-returns Inv-loop μ-loop
 returns c =
     let l = c .before in
-    let a = l .before .before in
-    swept-end (l .loop .inv)
-    (c .loop-test .left)
+    swept-end (l .loop .inv) (c .loop-test .left)
 
 pub slide-spec : {M : Type 1} → statement M
 slide-spec =

@@ -21,13 +21,10 @@ returns : tie.Need-returns
 returns c =
     let k = c .before .before in
     let t = k .before .before in
-    let a = t .before .before .before in
-    turn-hit
-    (sym (t .before .is-full .ensures) ∙ t .if1 .taken) (k .link .kept .0) (k .link .ensures)
+    turn-hit (sym (t .before .is-full .ensures) ∙ t .if1 .taken) (k .link .kept .0) (k .link .ensures)
 
 returns-2 : tie.Need-returns-2
 returns-2 c =
-    let a = c .before .before .before in
     turn-miss (sym (c .before .is-full .ensures) ∙ c .if1 .left)
 
 pub thread-at-spec : {M : Type 1} → statement M

@@ -3,8 +3,7 @@ use borrow.Author.Needs.{needs}
 use mathlib.Core.Logic.{⊎-elim}
 use Prim.Native.Nat.{_-_}
 use native.Mathlib.Omega.{arith}
-use Rattle.collect.proofs.slide.Threads.{Heaping, heaping-start, heaping-room, heaping-turn, heaping-hit}
-use Rattle.collect.proofs.slide.Threads.{heaping-miss, heaping-end}
+use Rattle.collect.proofs.slide.Threads.{Heaping, heaping-start, heaping-room, heaping-turn, heaping-hit, heaping-miss, heaping-end}
 use Rattle.collect.proofs.slide.thread_heap.Statement.{statement}
 use Rattle.collect.proofs.slide.thread_heap.Tie as tie
 
@@ -21,8 +20,7 @@ second-word-requires : tie.Need-second-word-requires Inv-loop μ-loop
 second-word-requires c κs =
     let l = c .before .before in
     let a = l .before .before in
-    heaping-room (l .loop .inv) (c .before .loop-test .taken)
-    (a .pre)
+    heaping-room (l .loop .inv) (c .before .loop-test .taken) (a .pre)
 
 is-used-requires : tie.Need-is-used-requires Inv-loop μ-loop
 is-used-requires c κs = search needs
@@ -33,9 +31,8 @@ thread-at-requires c κs =
     let v = u .before in
     let l = v .before .before .before in
     let a = l .before .before in
-    heaping-turn (l .loop .inv)
-    (v .before .before .loop-test .taken) (v .second-word .ensures) (u .is-used .ensures) (c .before .if1 .taken)
-    (a .pre)
+    heaping-turn (l .loop .inv) (v .before .before .loop-test .taken) (v .second-word .ensures) (u .is-used .ensures)
+    (c .before .if1 .taken) (a .pre)
 
 add-m : tie.Need-add-m Inv-loop μ-loop
 add-m c = search needs
@@ -48,13 +45,13 @@ loop-again c =
     let u = c .before in
     let v = u .before in
     let l = v .before .before .before in
-    let a = l .before .before in
     ⊎-elim
-    (λ w. rw (w .5) (heaping-hit (l .loop .inv)
-    (v .before .before .loop-test .taken) (v .second-word .ensures) (u .is-used .ensures) (w .0 .taken)
-    (w .2 .kept .0) (w .2 .ensures)))
-    (λ w. rw (w .1) (heaping-miss (l .loop .inv)
-    (v .before .before .loop-test .taken) (v .second-word .ensures) (u .is-used .ensures) (w .0 .left)))
+    (λ w. rw (w .5)
+    (heaping-hit (l .loop .inv) (v .before .before .loop-test .taken) (v .second-word .ensures) (u .is-used .ensures)
+    (w .0 .taken) (w .2 .kept .0) (w .2 .ensures)))
+    (λ w. rw (w .1)
+    (heaping-miss (l .loop .inv) (v .before .before .loop-test .taken) (v .second-word .ensures) (u .is-used .ensures)
+    (w .0 .left)))
     (c .if1 .came)
 
 same-length : tie.Need-same-length Inv-loop μ-loop
@@ -63,7 +60,6 @@ same-length c = c .before .loop .inv .same
 returns : tie.Need-returns Inv-loop μ-loop
 returns c =
     let l = c .before in
-    let a = l .before .before in
     heaping-end (l .loop .inv) (c .loop-test .left)
 
 pub thread-heap-spec : {M : Type 1} → statement M

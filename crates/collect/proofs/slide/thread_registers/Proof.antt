@@ -3,8 +3,7 @@ use borrow.Author.Needs.{needs}
 use Prim.Native.Nat.{_-_}
 use native.Mathlib.Omega.{arith}
 use Rattle.meaning.specs.Limits.{firstCell}
-use Rattle.collect.proofs.slide.Threads.{Ringing, ringing-start, ringing-room, ringing-turn, ringing-again}
-use Rattle.collect.proofs.slide.Threads.{ringing-end}
+use Rattle.collect.proofs.slide.Threads.{Ringing, ringing-start, ringing-room, ringing-turn, ringing-again, ringing-end}
 use Rattle.collect.proofs.slide.thread_registers.Statement.{statement}
 use Rattle.collect.proofs.slide.thread_registers.Tie as tie
 
@@ -28,8 +27,7 @@ thread-at-requires c κs =
     let v = c .before in
     let l = v .before .before .before in
     let a = l .before .before in
-    ringing-turn (l .loop .inv) (v .before .before .loop-test .taken)
-    (v .second-word .ensures) (a .pre)
+    ringing-turn (l .loop .inv) (v .before .before .loop-test .taken) (v .second-word .ensures) (a .pre)
 
 add-r : tie.Need-add-r Inv-loop μ-loop
 add-r c = search needs
@@ -42,10 +40,8 @@ loop-again c =
     let k = c .before .before in
     let v = k .before .before in
     let l = v .before .before .before in
-    let a = l .before .before in
-    ringing-again (l .loop .inv) (v .before .before .loop-test .taken)
-    (v .second-word .ensures) (k .thread-at .kept .0)
-    (k .thread-at .ensures)
+    ringing-again (l .loop .inv) (v .before .before .loop-test .taken) (v .second-word .ensures)
+    (k .thread-at .kept .0) (k .thread-at .ensures)
 
 same-length : tie.Need-same-length Inv-loop μ-loop
 same-length c = c .before .loop .inv .same
@@ -53,7 +49,6 @@ same-length c = c .before .loop .inv .same
 returns : tie.Need-returns Inv-loop μ-loop
 returns c =
     let l = c .before in
-    let a = l .before .before in
     ringing-end (l .loop .inv) (c .loop-test .left)
 
 pub thread-registers-spec : {M : Type 1} → statement M
