@@ -1,5 +1,5 @@
 -- A batch by the tests that it passes, as the code makes them. Assumes nothing.
-use mathlib.Core.Path.{_≡_, refl, sym, ap, _∙_, subst}
+use mathlib.Core.Path.{_≡_, refl, sym, ap, _∙_}
 use mathlib.Core.Bool.{Bool, true, false, cond, false≢true}
 use mathlib.Core.List.{List, _++_}
 use Prim.Native.Nat.{ℕ, _-_, _*_, _/_, _%_, _≤_, _<_}
@@ -11,7 +11,7 @@ use borrow.Author.Tests.{le-leb, lt-leb, eqb-true}
 use Rattle.meaning.specs.Limits.{firstCell, callsLimit}
 use Rattle.meaning.specs.Sound.{Sound}
 use Rattle.meaning.specs.Check.{Verdict, only, check, ifSound}
-use Rattle.meaning.specs.Batch.{runs, Outcome, asLent, ended, callsTest, batchOf, batch}
+use Rattle.meaning.specs.Batch.{runs, asLent, ended, callsTest, batchOf, batch}
 use Rattle.meaning.proofs.Checking.{check-sound}
 use Rattle.store.specs.Answers.{verdictOf}
 use Rattle.store.specs.declared.Checked.{Checked}

@@ -1,10 +1,10 @@
 -- A run copied cell by cell: at each turn what is left to copy gives the whole. Assumes nothing.
-use mathlib.Core.Path.{_≡_, refl, sym, ap, _∙_}
+use mathlib.Core.Path.{_≡_, refl, _∙_}
 use mathlib.Core.List.{List}
 use Prim.Native.Nat.{ℕ, suc, _+_, _-_, _≤_, _<_}
 use native.Mathlib.Nat.{add-zero, sub-zero}
 use native.Mathlib.Omega.{arith}
-use lib.ListN.{length, length-set}
+use lib.ListN.{length}
 use Rattle.words.specs.Cell.{firstWord, secondWord}
 use Rattle.words.proofs.Cells.{putCell-length}
 use Rattle.meaning.specs.Call.{copy, copies}

@@ -3,7 +3,6 @@ use mathlib.Core.Path.{_≡_, refl}
 use mathlib.Core.Logic.{_≢_}
 use mathlib.Core.List.{List, [], _∷_}
 use Prim.Native.Nat.{ℕ, zero, suc, _+_}
-use Rattle.meaning.specs.Check.{Done}
 use Rattle.meaning.specs.Call.{share, newRun, sought, withRoom, joinPlan, carry}
 
 module _ (F : ℕ) (ws : List ℕ) (top d a b : ℕ) where

@@ -20,39 +20,23 @@ ranBy (suc (suc (suc (suc (suc s))))) t c = ShortAnswers
 abbrev ranOf : Outcome → Ran
 ranOf o = ranBy (o .verdict .status) (o .top) (o .verdict .value)
 
-module _ (ws : List ℕ) (top : ℕ) (out : List ℕ) where
-  ran-back : (r : Ran) → ranOf (ranIn r ws top out) ≡ r
-  unfolding asLent only
-  ran-back (Ended t) = refl
-  ran-back BadLength = refl
-  ran-back BadTop = refl
-  ran-back (Damaged c) = refl
-  ran-back BadCalls = refl
-  ran-back ShortAnswers = refl
-
-  words-back : (r : Ran) → ranIn r ws top out .words ≡ ws
-  unfolding asLent
-  words-back (Ended t) = refl
-  words-back BadLength = refl
-  words-back BadTop = refl
-  words-back (Damaged c) = refl
-  words-back BadCalls = refl
-  words-back ShortAnswers = refl
-
-  answers-back : (r : Ran) → ranIn r ws top out .answers ≡ out
-  unfolding asLent
-  answers-back (Ended t) = refl
-  answers-back BadLength = refl
-  answers-back BadTop = refl
-  answers-back (Damaged c) = refl
-  answers-back BadCalls = refl
-  answers-back ShortAnswers = refl
+back : (ws : List ℕ) (top : ℕ) (out : List ℕ) (r : Ran)
+    → (ranOf (ranIn r ws top out) ≡ r) × (ranIn r ws top out .words ≡ ws) × (ranIn r ws top out .answers ≡ out)
+unfolding asLent only
+back ws top out (Ended t) = (refl, refl, refl)
+back ws top out BadLength = (refl, refl, refl)
+back ws top out BadTop = (refl, refl, refl)
+back ws top out (Damaged c) = (refl, refl, refl)
+back ws top out BadCalls = (refl, refl, refl)
+back ws top out ShortAnswers = (refl, refl, refl)
 
 -- one outcome is of one answer, one store and one list of answers
 pub ranIn-inj : (top : ℕ) (r r′ : Ran) (v v′ a a′ : List ℕ) → ranIn r v top a ≡ ranIn r′ v′ top a′
     → (r ≡ r′) × (v ≡ v′) × (a ≡ a′)
-ranIn-inj top r r′ v v′ a a′ e = (
-  sym (ran-back v top a r) ∙ (ap ranOf e ∙ ran-back v′ top a′ r′),
-  sym (words-back v top a r) ∙ (ap (λ (o : Outcome). o .words) e ∙ words-back v′ top a′ r′),
-  sym (answers-back v top a r) ∙ (ap (λ (o : Outcome). o .answers) e ∙ answers-back v′ top a′ r′),
-)
+ranIn-inj top r r′ v v′ a a′ e =
+    let x = back v top a r in
+    let y = back v′ top a′ r′ in (
+      sym (x .0) ∙ (ap ranOf e ∙ y .0),
+      sym (x .1) ∙ (ap (λ (o : Outcome). o .words) e ∙ y .1),
+      sym (x .2) ∙ (ap (λ (o : Outcome). o .answers) e ∙ y .2),
+    )

@@ -1,6 +1,6 @@
 -- The calls of a batch one after the other: after i of them the store, `top` and the answers are those of i calls.
 -- Assumes nothing.
-use mathlib.Core.Path.{_≡_, refl, sym, ap, _∙_}
+use mathlib.Core.Path.{_≡_, refl, ap, _∙_}
 use mathlib.Core.List.{List, [], _∷_, _++_, append-assoc}
 use Prim.Native.Nat.{ℕ, zero, suc, _+_, _-_, _*_, _/_, _%_, _≤_, _<_}
 use native.Mathlib.Omega.{arith}
@@ -9,9 +9,8 @@ use lib.Seq.{take-suc-set, take-all, length-take-le}
 use Rattle.meaning.specs.Limits.{firstCell}
 use Rattle.meaning.specs.Sound.{Sound}
 use Rattle.meaning.specs.Check.{Done}
-use Rattle.meaning.specs.Call.{step}
 use Rattle.meaning.specs.Batch.{Ran, then, runs}
-use Rattle.meaning.proofs.Steps.{Fours, step-meets}
+use Rattle.meaning.proofs.Steps.{step-meets}
 use Rattle.meaning.proofs.Batches.{fours, runs-cut}
 use Rattle.store.proofs.Sounds.{firstCell-pos}
 use Rattle.calls.specs.Answers.{steppedIn}

@@ -1,6 +1,5 @@
 -- `calls::run_sound` meets its contract. Assumes nothing.
 use mathlib.Core.Path.{sym, _∙_}
-use native.Mathlib.Omega.{arith}
 use borrow.Author.Tests.{not-true, not-false}
 use borrow.Author.Needs.{needs}
 use Rattle.calls.proofs.Batching.{calls-fours, bad-calls, short-answers, all-run}

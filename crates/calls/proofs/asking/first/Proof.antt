@@ -1,10 +1,10 @@
 -- `calls::asking::first` meets its contract. Assumes nothing.
 use mathlib.Core.Path.{sym}
-use native.Mathlib.Omega.{arith}
 use borrow.Author.Needs.{needs}
 use Rattle.meaning.specs.Check.{done, refused, only}
+use Rattle.meaning.specs.Call.{codeFirst}
 use Rattle.calls.proofs.Registers.{readable}
-use Rattle.calls.proofs.Firsts.{first-readable, code-none, code-on-symbol, code-on-bracket}
+use Rattle.calls.proofs.Firsts.{first-readable, on-empty, code-symbol, code-bracket}
 use Rattle.calls.proofs.asking.first.Statement.{statement}
 use Rattle.calls.proofs.asking.first.Tie as tie
 
@@ -12,11 +12,11 @@ run-at-requires : tie.Need-run-at-requires
 run-at-requires c κs = readable (c .before .pre .0) (c .before .pre .1)
 
 returns : tie.Need-returns
-unfolding refused only
+unfolding codeFirst refused only
 returns c =
     let s = c .before .before .before .before in
     let p = c .before .before .run-at in
-    sym (code-none (s .args .a) (p .result) (s .pre .0) (s .pre .1) (p .ensures) (c .if1 .taken))
+    sym (on-empty (s .args .a) (p .result) (s .pre .0) (s .pre .1) (p .ensures) _ (c .if1 .taken))
 
 term-at-requires : tie.Need-term-at-requires
 term-at-requires c κs =
@@ -32,7 +32,7 @@ returns-2 c =
     let run-at = if1 .before .before in
     let s = run-at .before .before in
     let p = run-at .run-at in
-    sym (code-on-symbol (s .args .a) (p .result) (s .pre .0) (s .pre .1) (p .ensures) (if1 .if1 .left)
+    sym (code-symbol (s .args .a) (p .result) (s .pre .0) (s .pre .1) (p .ensures) (if1 .if1 .left)
     (term-at .term-at .ensures) (c .before .code .given .1))
 
 returns-3 : tie.Need-returns-3
@@ -42,7 +42,7 @@ returns-3 c =
     let run-at = if1 .before .before in
     let s = run-at .before .before in
     let p = run-at .run-at in
-    sym (code-on-bracket (s .args .a) (p .result) (s .pre .0) (s .pre .1) (p .ensures) (if1 .if1 .left)
+    sym (code-bracket (s .args .a) (p .result) (s .pre .0) (s .pre .1) (p .ensures) (if1 .if1 .left)
     (c .before .before .term-at .ensures) (c .enum-told .given .1))
 
 pub first-spec : {M : Type 1} → statement M

@@ -1,6 +1,6 @@
 -- `calls::building::symbol` meets its contract. Assumes nothing.
 use mathlib.Core.Path.{sym, _∙_}
-use mathlib.Core.List.{[], _∷_}
+use mathlib.Core.List.{[]}
 use borrow.Author.Needs.{needs}
 use Rattle.meaning.specs.Check.{refused, only}
 use Rattle.meaning.specs.Call.{newSymbol}

@@ -3,9 +3,9 @@ use mathlib.Core.Path.{sym}
 use native.Mathlib.Omega.{arith}
 use borrow.Author.Needs.{needs}
 use Rattle.meaning.specs.Check.{done, refused, only}
-use Rattle.meaning.proofs.Cells.{limit-fits}
+use Rattle.meaning.specs.Call.{head}
 use Rattle.calls.proofs.Registers.{readable, first-in}
-use Rattle.calls.proofs.Firsts.{head-none, head-some}
+use Rattle.calls.proofs.Firsts.{on-empty, on-full}
 use Rattle.calls.proofs.sharing.head.Statement.{statement}
 use Rattle.calls.proofs.sharing.head.Tie as tie
 
@@ -15,11 +15,11 @@ run-at-requires c κs =
     readable (s .pre .0) (s .pre .2)
 
 returns : tie.Need-returns
-unfolding refused only
+unfolding head refused only
 returns c =
     let s = c .before .before .before .before .before in
     let p = c .before .before .run-at in
-    sym (head-none (s .args .a) (p .result) (s .pre .0) (s .pre .2) (p .ensures) (s .args .d) (c .if1 .taken))
+    sym (on-empty (s .args .a) (p .result) (s .pre .0) (s .pre .2) (p .ensures) _ (c .if1 .taken))
 
 put-ends-requires : tie.Need-put-ends-requires
 put-ends-requires c κs =
@@ -30,14 +30,14 @@ put-ends-requires c κs =
     (omega arith, (omega arith, omega arith))
 
 returns-2 : tie.Need-returns-2
-unfolding done
+unfolding head done
 returns-2 c =
     let if1 = c .before .before .before .before in
     let run-at = if1 .before .before in
     let s = run-at .before .before .before in
     let p = run-at .run-at in
-    simp (c .before .before .put-ends .ensures) (sym (head-some (s .args .a) (p .result) (s .pre .0) (s .pre .2)
-    (p .ensures) (s .args .d) (if1 .if1 .left)))
+    simp (c .before .before .put-ends .ensures) (sym (on-full (s .args .a) (p .result) (s .pre .0) (s .pre .2)
+    (p .ensures) _ (if1 .if1 .left)))
 
 pub head-spec : {M : Type 1} → statement M
 head-spec =

@@ -3,8 +3,9 @@ use mathlib.Core.Path.{sym}
 use native.Mathlib.Omega.{arith}
 use borrow.Author.Needs.{needs}
 use Rattle.meaning.specs.Check.{done, refused, only}
+use Rattle.meaning.specs.Call.{openFirst}
 use Rattle.calls.proofs.Registers.{readable, first-in}
-use Rattle.calls.proofs.Firsts.{first-readable, open-none, open-on-symbol, open-on-bracket}
+use Rattle.calls.proofs.Firsts.{first-readable, on-empty, open-symbol, open-bracket}
 use Rattle.calls.proofs.sharing.open_first.Statement.{statement}
 use Rattle.calls.proofs.sharing.open_first.Tie as tie
 
@@ -14,11 +15,11 @@ run-at-requires c κs =
     readable (s .pre .0) (s .pre .2)
 
 returns : tie.Need-returns
-unfolding refused only
+unfolding openFirst refused only
 returns c =
     let s = c .before .before .before .before .before in
     let p = c .before .before .run-at in
-    sym (open-none (s .args .a) (p .result) (s .pre .0) (s .pre .2) (p .ensures) (s .args .d) (c .if1 .taken))
+    sym (on-empty (s .args .a) (p .result) (s .pre .0) (s .pre .2) (p .ensures) _ (c .if1 .taken))
 
 term-at-requires : tie.Need-term-at-requires
 term-at-requires c κs =
@@ -43,8 +44,7 @@ returns-2 c =
     let run-at = if1 .before .before in
     let s = run-at .before .before .before in
     let p = run-at .run-at in
-    sym (open-on-symbol (s .args .a) (p .result) (s .pre .0) (s .pre .2) (p .ensures) (s .args .d) (if1 .if1 .left)
-    (c .before .before .term-at .ensures) (c .enum-told .given .1))
+    sym (open-symbol (s .args .a) (p .result) (s .pre .0) (s .pre .2) (p .ensures) (if1 .if1 .left) (c .before .before .term-at .ensures) (s .args .d) (c .enum-told .given .1))
 
 returns-3 : tie.Need-returns-3
 unfolding done
@@ -56,8 +56,7 @@ returns-3 c =
     let s = run-at .before .before .before in
     let p = run-at .run-at in
     simp (c .before .before .copy-cell .ensures)
-    (sym (open-on-bracket (s .args .a) (p .result) (s .pre .0) (s .pre .2) (p .ensures) (s .args .d) (if1 .if1 .left)
-    (term-at .term-at .ensures) (enum-told2 .enum-told2 .given .1)))
+    (sym (open-bracket (s .args .a) (p .result) (s .pre .0) (s .pre .2) (p .ensures) (if1 .if1 .left) (term-at .term-at .ensures) (s .args .d) (enum-told2 .enum-told2 .given .1)))
 
 pub open-first-spec : {M : Type 1} → statement M
 open-first-spec =

@@ -3,8 +3,9 @@ use mathlib.Core.Path.{sym}
 use native.Mathlib.Omega.{arith}
 use borrow.Author.Needs.{needs}
 use Rattle.meaning.specs.Check.{done, refused, only}
+use Rattle.meaning.specs.Call.{rest}
 use Rattle.calls.proofs.Registers.{readable, run-below}
-use Rattle.calls.proofs.Firsts.{rest-none, rest-one, rest-more}
+use Rattle.calls.proofs.Firsts.{on-empty, rest-one, rest-more}
 use Rattle.calls.proofs.sharing.rest.Statement.{statement}
 use Rattle.calls.proofs.sharing.rest.Tie as tie
 
@@ -14,11 +15,11 @@ run-at-requires c κs =
     readable (s .pre .0) (s .pre .2)
 
 returns : tie.Need-returns
-unfolding refused only
+unfolding rest refused only
 returns c =
     let s = c .before .before .before .before .before in
     let p = c .before .before .run-at in
-    sym (rest-none (s .args .a) (p .result) (s .pre .0) (s .pre .2) (p .ensures) (s .args .d) (c .if1 .taken))
+    sym (on-empty (s .args .a) (p .result) (s .pre .0) (s .pre .2) (p .ensures) _ (c .if1 .taken))
 
 returns-2 : tie.Need-returns-2
 unfolding done

@@ -1,0 +1,40 @@
+-- The claims of specs/Unique.antt. An answer is got back from what it says.
+-- Assumes nothing.
+use mathlib.Core.Path.{_≡_, sym, ap, _∙_}
+use mathlib.Core.List.{List}
+use Prim.Native.Nat.{ℕ}
+use Rattle.meaning.specs.Check.{Done, Span}
+use Rattle.meaning.specs.Batch.{Outcome}
+use Rattle.store.specs.declared.Extent.{Extent}
+use Rattle.capi.specs.Answers.{answer, verdictIs, doneIs, outcomeIs}
+use Rattle.capi.specs.Unique.{OneCheck, OneFresh, OneCollect, OneRun, OneLook}
+use Rattle.capi.specs.declared.Answer.{Answer}
+
+done-same : (r r′ : Answer) (vs vs′ : List ℕ) → doneIs r vs ≡ doneIs r′ vs′ → (r ≡ r′) × (vs ≡ vs′)
+done-same r r′ vs vs′ e = (
+  ap (λ (d : Done). answer (d .verdict .status) (d .verdict .value) (d .top)) e,
+  ap (λ (d : Done). d .words) e,
+)
+
+pub one-check : OneCheck
+one-check ws top r r′ p q =
+    let e : verdictIs r ≡ verdictIs r′ = p .0 ∙ sym (q .0) in
+    let t : r .top ≡ r′ .top = p .1 ∙ sym (q .1) in
+    λ j. answer (e j .status) (e j .value) (t j)
+
+pub one-fresh : OneFresh
+one-fresh ws vs vs′ r r′ p q = done-same r r′ vs vs′ (p ∙ sym q)
+
+pub one-collect : OneCollect
+one-collect ws top vs vs′ r r′ p q = done-same r r′ vs vs′ (p ∙ sym q)
+
+pub one-run : OneRun
+one-run ws top calls out vs vs′ os os′ r r′ p q =
+    let e : outcomeIs r vs os ≡ outcomeIs r′ vs′ os′ = p ∙ sym q in (
+      ap (λ (o : Outcome). answer (o .verdict .status) (o .verdict .value) (o .top)) e,
+      ap (λ (o : Outcome). o .words) e,
+      ap (λ (o : Outcome). o .answers) e,
+    )
+
+pub one-look : OneLook
+one-look ws top i r r′ p q = ap (λ (s : Span). record { from = s .from; to = s .to }) (p ∙ sym q)

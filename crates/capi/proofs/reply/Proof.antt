@@ -1,0 +1,15 @@
+-- `capi::reply` meets its contract. Assumes nothing.
+use native.Mathlib.Omega.{arith}
+use Rattle.meaning.proofs.Cells.{limit-fits}
+use borrow.Author.Needs.{needs}
+use Rattle.capi.proofs.reply.Statement.{statement}
+use Rattle.capi.proofs.reply.Tie as tie
+
+cast-t4 : tie.Need-cast-t4
+cast-t4 c = omega (arith, limit-fits)
+
+returns : tie.Need-returns
+returns c = search needs
+
+pub reply-spec : {M : Type 1} → statement M
+reply-spec = tie.close (tie.spec cast-t4 returns)

@@ -1,0 +1,101 @@
+// The store for C and Rust. A slice crosses as a pointer and a count of words. No enum and no slice can come back: an
+// answer is a struct of document 01's numbers, and a look is a place. Each exported function is one call of a proved
+// one, and takes whatever it is handed.
+use calls::Ran;
+use collect::Collected;
+use store::Checked;
+use store::Extent;
+use store::Made;
+ghost use mathlib.Core.Path.{_≡_};
+ghost use Prim.Native.Nat.{_≤_};
+ghost use Rattle.meaning.specs.Limits.{firstCell, limit};
+ghost use Rattle.meaning.specs.Check.{check, freshIn, collectIn, lookSpan};
+ghost use Rattle.meaning.specs.Batch.{batch};
+ghost use Rattle.store.specs.Answers.{spanIn};
+ghost use Rattle.capi.specs.Answers.{answer, verdictIs, doneIs, outcomeIs};
+
+// A status, the value that goes with it, and `top` afterwards.
+#[repr(C)]
+pub struct Answer {
+    pub status: u32,
+    pub value: u32,
+    pub top: usize,
+}
+
+// A value is a cell or a number of cells, so it fits a word.
+fn reply(status: u32, value: usize, top: usize) -> Answer
+    requires { ⌜ value ≤ limit ⌝ }
+    ensures { λ r. ⌜ r ≡ answer status value top ⌝ }
+{
+    Answer {
+        status,
+        value: value as u32,
+        top,
+    }
+}
+
+// The check alone. `top` comes back as it came.
+#[no_mangle]
+pub extern "C" fn zelmotar_check(words: &[u32], top: usize) -> Answer
+    ensures { λ r. ⌜ (verdictIs r ≡ check firstCell (now (words .entry)) top) × (r .top ≡ top) ⌝ }
+{
+    match store::check(words, top) {
+        Checked::Sound => reply(0, 0, top),
+        Checked::BadLength => reply(1, 0, top),
+        Checked::BadTop => reply(2, 0, top),
+        Checked::Damaged(cell) => reply(3, cell, top),
+    }
+}
+
+// A fresh store, with its `top`; 0 as `top` where the words are left as they are.
+#[no_mangle]
+pub extern "C" fn zelmotar_fresh(words: &mut [u32]) -> Answer
+    ensures { λ r. ⌜ doneIs r (now (words .exit)) ≡ freshIn firstCell (now (words .entry)) ⌝ }
+{
+    match store::fresh(words) {
+        Made::Ready(top) => reply(0, 0, top),
+        Made::BadLength => reply(1, 0, 0),
+    }
+}
+
+// Collecting alone. The value is live.
+#[no_mangle]
+pub extern "C" fn zelmotar_collect(words: &mut [u32], top: usize) -> Answer
+    ensures { λ r. ⌜ doneIs r (now (words .exit)) ≡ collectIn firstCell (now (words .entry)) top ⌝ }
+{
+    match collect::collect(words, top) {
+        Collected::Done(live, low) => reply(0, live, low),
+        Collected::BadLength => reply(1, 0, top),
+        Collected::BadTop => reply(2, 0, top),
+        Collected::Damaged(cell) => reply(3, cell, top),
+    }
+}
+
+// A batch of calls. The answers of the calls are in the space lent for them.
+#[no_mangle]
+pub extern "C" fn zelmotar_run(
+    words: &mut [u32],
+    top: usize,
+    calls: &[u32],
+    answers: &mut [u32],
+) -> Answer
+    ensures { λ r. ⌜ outcomeIs r (now (words .exit)) (now (answers .exit))
+        ≡ batch firstCell (now (words .entry)) top (now (calls .entry)) (now (answers .entry)) ⌝ }
+{
+    match calls::run(words, top, calls, answers) {
+        Ran::Ended(end) => reply(0, 0, end),
+        Ran::BadLength => reply(1, 0, top),
+        Ran::BadTop => reply(2, 0, top),
+        Ran::Damaged(cell) => reply(3, cell, top),
+        Ran::BadCalls => reply(4, 0, top),
+        Ran::ShortAnswers => reply(5, 0, top),
+    }
+}
+
+// A look at a register: the place of its cells, by which the caller takes the part.
+#[no_mangle]
+pub extern "C" fn zelmotar_look(words: &[u32], top: usize, reg: usize) -> Extent
+    ensures { λ r. ⌜ spanIn r ≡ lookSpan firstCell (now (words .entry)) top reg ⌝ }
+{
+    store::span(words, top, reg)
+}
