@@ -26,6 +26,8 @@
  *     time in different threads; calls on one store may not, unless both only read.
  *   - Wherever the status is 1 to 5, no word is changed.
  *   - A collection uses no memory that grows with the store, neither beside it nor on the stack.
+ *   - The archive asks the linker for memset and nothing else: the compiler puts it in for loops that write
+ *     zeros. Where there is no C library, the caller brings one.
  */
 #ifndef ZELMOTAR_H
 #define ZELMOTAR_H
