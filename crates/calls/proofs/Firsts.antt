@@ -56,12 +56,13 @@ module _ {ws : List ℕ} {top : ℕ} (i : ℕ) (r : Run) (s : Sound firstCell ws
     unfolding openFirst openTerm
     open-symbol d e = on-full _ n ∙ rw (symbol-is (at ws (r .start)) q e) refl
 
-    pub open-bracket : (d : ℕ) {b : Run} → t ≡ Bracket b → openFirst ws top d (at ws i) ≡ done (copy ws d (r .start)) top 0
+    pub open-bracket : (d : ℕ) {b : Run} → t ≡ Bracket b
+        → openFirst ws top d (at ws i) ≡ done (copy ws d (r .start)) top 0
     unfolding openFirst openTerm
     open-bracket d e =
         on-full _ n
-        ∙ bracket-by (λ b. openTerm ws top d (r .start) b ≡ done (copy ws d (r .start)) top 0) (at ws (r .start)) q e refl
-        (λ l u. refl)
+        ∙ bracket-by (λ b. openTerm ws top d (r .start) b ≡ done (copy ws d (r .start)) top 0) (at ws (r .start)) q e
+        refl (λ l u. refl)
 
     pub code-symbol : {a : ℕ} → t ≡ Symbol a → codeFirst ws top (at ws i) ≡ done ws top a
     unfolding codeFirst codeTerm

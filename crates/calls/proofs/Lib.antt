@@ -1,4 +1,18 @@
--- Laws that belong to no one function. Assumes nothing.
+-- Laws that belong to no one function. In order:
+--   Table       the table of operand words, by rows
+--   Copying     a run copied cell by cell
+--   Registers   the contents of a register
+--   Laying      two runs laid one after the other
+--   Firsts      HEAD, REST, OPEN and FIRST by the register's run and its first term
+--   Rooms       the rule for room, and the store in which room is sought
+--   Joining     JOIN by which of its registers are empty
+--   Performing  one call by its operation
+--   Zeroing     the rest of the answers zeroed
+--   Running     the calls of a batch, one by one
+--   Batching    a batch by its tests
+--   Outcomes    what an outcome says
+--   Final       the claims
+-- Assumes nothing.
 mod Table
 mod Copying
 mod Registers

@@ -1,9 +1,13 @@
--- A list of numbers as a table with three to a row. Assumes nothing.
+-- A list of numbers as a table with three to a row; and a test over the three words of a call by its row of the table
+-- of uses. Assumes nothing.
 use mathlib.Core.Path.{_≡_, refl}
+use mathlib.Core.Bool.{Bool, _||_}
 use mathlib.Core.List.{List, [], _∷_}
 use Prim.Native.Nat.{ℕ, zero, suc, _+_, _*_, _<_}
+use native.Mathlib.Nat.{add-zero}
 use native.Mathlib.Omega.{arith}
 use lib.ListN.{length, getD}
+use Rattle.meaning.specs.Call.{uses}
 
 abbrev pub rows : List ℕ → List (List ℕ)
 rows [] = []
@@ -23,3 +27,15 @@ rows-at (x ∷ y ∷ z ∷ xs) zero (suc (suc zero)) h l = refl
 rows-at (x ∷ y ∷ z ∷ xs) zero (suc (suc (suc k))) h l = absurd (omega arith)
 rows-at (x ∷ y ∷ z ∷ xs) (suc o) k h l =
     let e : 3 * suc o + k ≡ suc (suc (suc (3 * o + k))) = omega arith in rw e (rows-at xs o k (omega arith) l)
+
+-- ---- a test over the three words of a call
+
+module _ (o d a b : ℕ) where
+  abbrev pub three : (ℕ → ℕ → Bool) → Bool
+  three wrong = wrong (getD uses (3 * o) 0) d || wrong (getD uses (3 * o + 1) 0) a || wrong (getD uses (3 * o + 2) 0) b
+
+  -- from a row that was read
+  pub three-read : (wrong : ℕ → ℕ → Bool) {u v w : ℕ} {x y z r : Bool} → u ≡ getD uses (3 * o + 0) 0
+      → v ≡ getD uses (3 * o + 1) 0 → w ≡ getD uses (3 * o + 2) 0
+      → x ≡ wrong u d → y ≡ wrong v a → z ≡ wrong w b → r ≡ (x || y || z) → three wrong ≡ r
+  three-read wrong e f g p q t k = simp (k, p, q, t, e, f, g, add-zero)

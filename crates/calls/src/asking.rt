@@ -9,6 +9,7 @@ ghost use Rattle.meaning.specs.Check.{done, size};
 ghost use Rattle.meaning.specs.Call.{codeFirst};
 ghost use Rattle.calls.specs.Answers.{steppedIn};
 
+// The number of top-level terms of register a.
 pub fn length(ws: &[u32], top: usize, a: usize) -> Stepped
     requires { ⌜ Sound firstCell (now ws) top × (a < firstCell) ⌝ }
     ensures { λ r. ⌜ steppedIn r (now (ws .entry)) ≡ done (now (ws .entry)) top (size (at (now (ws .entry)) a)) ⌝ }
@@ -21,6 +22,7 @@ pub fn length(ws: &[u32], top: usize, a: usize) -> Stepped
     }
 }
 
+// The code of the first term of register a.
 pub fn first(ws: &[u32], top: usize, a: usize) -> Stepped
     requires { ⌜ Sound firstCell (now ws) top × (a < firstCell) ⌝ }
     ensures { λ r. ⌜ steppedIn r (now (ws .entry)) ≡ codeFirst (now (ws .entry)) top (at (now (ws .entry)) a) ⌝ }
@@ -47,6 +49,7 @@ pub fn first(ws: &[u32], top: usize, a: usize) -> Stepped
     }
 }
 
+// The number of reached heap cells.
 pub fn live(ws: &mut [u32], top: usize) -> Stepped
     requires { ⌜ Sound firstCell (now ws) top ⌝ }
     ensures { λ r. ⌜ steppedIn r (now (ws .exit))

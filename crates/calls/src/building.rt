@@ -1,4 +1,4 @@
-// Cells written, copied, and laid from `top` upward: the actions of SYMBOL, WRAP and JOIN where there is room.
+// Cells written, copied, and laid from `top` upward; and the calls that lay new cells: SYMBOL, WRAP and JOIN.
 use crate::room::Room;
 use crate::room::make_room;
 use crate::sharing::share;
@@ -108,8 +108,7 @@ pub fn lay_run(ws: &mut [u32], top: usize, d: usize, a: usize, b: usize) -> Step
     }
 }
 
-// SYMBOL, WRAP and JOIN.
-
+// SYMBOL: room for one cell, and the symbol there.
 pub fn symbol(ws: &mut [u32], top: usize, d: usize, a: u32) -> Stepped
     requires { ⌜ Sound firstCell (now ws) top × (d < firstCell) ⌝ }
     ensures { λ r. ⌜ steppedIn r (now (ws .exit))
@@ -125,6 +124,7 @@ pub fn symbol(ws: &mut [u32], top: usize, d: usize, a: u32) -> Stepped
     }
 }
 
+// WRAP: room for one cell, and a copy of register a there.
 pub fn wrap(ws: &mut [u32], top: usize, d: usize, a: usize) -> Stepped
     requires { ⌜ Sound firstCell (now ws) top × (d < firstCell) × (a < firstCell) ⌝ }
     ensures { λ r. ⌜ steppedIn r (now (ws .exit))
@@ -157,6 +157,7 @@ fn join_full(ws: &mut [u32], top: usize, d: usize, a: usize, b: usize, n: usize)
     }
 }
 
+// JOIN: with a empty it shares b, else with b empty it shares a, else it copies the cells of both.
 pub fn join(ws: &mut [u32], top: usize, d: usize, a: usize, b: usize) -> Stepped
     requires { ⌜ Sound firstCell (now ws) top × (d < firstCell) × (a < firstCell) × (b < firstCell) ⌝ }
     ensures { λ r. ⌜ steppedIn r (now (ws .exit))

@@ -28,6 +28,7 @@ pub enum Ran {
     ShortAnswers,
 }
 
+// Whether a call list may have n words.
 fn calls_ok(n: usize) -> bool
     ensures { λ r. ⌜ r ≡ callsTest n ⌝ }
 {
@@ -58,7 +59,7 @@ fn run_call(ws: &mut [u32], top: usize, calls: &[u32], answers: &mut [u32], i: u
     done.top
 }
 
-// All calls, one after the other.
+// All calls, one after the other, those after a refused one too. `top` after the last comes back.
 fn run_calls(ws: &mut [u32], top: usize, calls: &[u32], answers: &mut [u32]) -> usize
     requires { ⌜ Sound firstCell (now ws) top × (length (now calls) % 4 ≡ 0)
         × (2 * (length (now calls) / 4) ≤ length (now answers)) ⌝ }
@@ -106,6 +107,7 @@ fn run_sound(ws: &mut [u32], top: usize, calls: &[u32], answers: &mut [u32]) -> 
     Ran::Ended(end)
 }
 
+// A batch on any words: the store is checked first.
 pub fn run(ws: &mut [u32], top: usize, calls: &[u32], answers: &mut [u32]) -> Ran
     ensures { λ r. ⌜ ranIn r (now (ws .exit)) top (now (answers .exit))
         ≡ batch firstCell (now (ws .entry)) top (now (calls .entry)) (now (answers .entry)) ⌝ }

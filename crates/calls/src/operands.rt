@@ -22,6 +22,7 @@ const USES: [[u32; 3]; 12] = [
     [0, 0, 0], // COLLECT
 ];
 
+// How operation o uses its word k.
 fn use_at(o: usize, k: usize) -> u32
     requires { ⌜ (o < 12) × (k < 3) ⌝ }
     ensures { λ r. ⌜ r ≡ getD uses (3 * o + k) 0 ⌝ }
@@ -54,6 +55,7 @@ fn is_no_code(u: u32, w: u32) -> bool
     if u == 2 { !store::is_code(w) } else { false }
 }
 
+// The same test over the three words of a call.
 fn any(x: bool, y: bool, z: bool) -> bool
     ensures { λ r. ⌜ r ≡ (x || y || z) ⌝ }
 {

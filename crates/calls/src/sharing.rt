@@ -12,6 +12,7 @@ ghost use Rattle.meaning.specs.Check.{done};
 ghost use Rattle.meaning.specs.Call.{put, share, head, rest, openFirst};
 ghost use Rattle.calls.specs.Answers.{steppedIn};
 
+// Register d becomes empty.
 pub fn clear(ws: &mut [u32], top: usize, d: usize) -> Stepped
     requires { ⌜ Sound firstCell (now ws) top × (d < firstCell) ⌝ }
     ensures { λ r. ⌜ steppedIn r (now (ws .exit)) ≡ done (put (now (ws .entry)) d hollow) top 0 ⌝ }
@@ -24,6 +25,7 @@ pub fn clear(ws: &mut [u32], top: usize, d: usize) -> Stepped
     }
 }
 
+// Register d becomes register a.
 pub fn share(ws: &mut [u32], top: usize, d: usize, a: usize) -> Stepped
     requires { ⌜ Sound firstCell (now ws) top × (d < firstCell) × (a < firstCell) ⌝ }
     ensures { λ r. ⌜ steppedIn r (now (ws .exit)) ≡ share d a (now (ws .entry)) top ⌝ }
@@ -36,6 +38,7 @@ pub fn share(ws: &mut [u32], top: usize, d: usize, a: usize) -> Stepped
     }
 }
 
+// Register d becomes the first term of register a: its first cell alone.
 pub fn head(ws: &mut [u32], top: usize, d: usize, a: usize) -> Stepped
     requires { ⌜ Sound firstCell (now ws) top × (d < firstCell) × (a < firstCell) ⌝ }
     ensures { λ r. ⌜ steppedIn r (now (ws .exit)) ≡ head (now (ws .entry)) top d (at (now (ws .entry)) a) ⌝ }
@@ -56,6 +59,7 @@ pub fn head(ws: &mut [u32], top: usize, d: usize, a: usize) -> Stepped
     }
 }
 
+// Register d becomes register a less its first cell, which is empty where there was only one.
 pub fn rest(ws: &mut [u32], top: usize, d: usize, a: usize) -> Stepped
     requires { ⌜ Sound firstCell (now ws) top × (d < firstCell) × (a < firstCell) ⌝ }
     ensures { λ r. ⌜ steppedIn r (now (ws .exit)) ≡ rest (now (ws .entry)) top d (at (now (ws .entry)) a) ⌝ }
@@ -84,7 +88,8 @@ pub fn rest(ws: &mut [u32], top: usize, d: usize, a: usize) -> Stepped
     }
 }
 
-// A bracket's cell holds what a register on its contents holds, so it is copied.
+// Register d becomes the contents of the first term of register a. A bracket's cell is what a register on its contents
+// is, so it is copied.
 pub fn open_first(ws: &mut [u32], top: usize, d: usize, a: usize) -> Stepped
     requires { ⌜ Sound firstCell (now ws) top × (d < firstCell) × (a < firstCell) ⌝ }
     ensures { λ r. ⌜ steppedIn r (now (ws .exit)) ≡ openFirst (now (ws .entry)) top d (at (now (ws .entry)) a) ⌝ }

@@ -48,6 +48,7 @@ fn perform(ws: &mut [u32], top: usize, o: u32, d: u32, a: u32, b: u32) -> Steppe
     }
 }
 
+// One call on a sound store. A call with a wrong word changes nothing.
 pub fn step(ws: &mut [u32], top: usize, o: u32, d: u32, a: u32, b: u32) -> Stepped
     requires { ⌜ Sound firstCell (now ws) top ⌝ }
     ensures { λ r. ⌜ steppedIn r (now (ws .exit)) ≡ step firstCell (now (ws .entry)) top o d a b ⌝ }

@@ -1,22 +1,28 @@
 -- `calls::operands::fault` meets its contract. Assumes nothing.
 use mathlib.Core.Path.{_≡_, _∙_}
 use mathlib.Core.Bool.{Bool, _||_}
-use Prim.Native.Nat.{ℕ, _+_, _*_}
-use native.Mathlib.Nat.{add-zero}
-use lib.ListN.{getD}
+use Prim.Native.Nat.{ℕ}
 use borrow.Author.Tests.{lt-ltb, le-ltb}
 use borrow.Author.Needs.{needs}
 use Rattle.meaning.specs.Limits.{firstCell}
-use Rattle.meaning.specs.Call.{uses, wrong11, wrong12, wrong13, fault}
+use Rattle.meaning.specs.Call.{wrong11, wrong12, wrong13, fault}
+use Rattle.calls.proofs.Table.{three, three-read}
 use Rattle.calls.proofs.operands.fault.Statement.{statement}
 use Rattle.calls.proofs.operands.fault.Tie as tie
 
--- a test over a call's three words
-abbrev three : (ℕ → ℕ → Bool) → tie.Start → Bool
-three wrong s =
-    wrong (getD uses (3 * s .args .o) 0) (s .args .d)
-    || wrong (getD uses (3 * s .args .o + 1) 0) (s .args .a)
-    || wrong (getD uses (3 * s .args .o + 2) 0) (s .args .b)
+-- what a test over the three words finds, by the row that was read
+abbrev found : (ℕ → ℕ → Bool) → tie.Start → Bool
+found wrong s = three (s .args .o) (s .args .d) (s .args .a) (s .args .b) wrong
+
+module _ (u : tie.After-use-at3) (wrong : ℕ → ℕ → Bool) {x y z r : Bool} where
+  read : x ≡ wrong (u .before .before .use-at .result) (u .before .before .before .before .args .d)
+      → y ≡ wrong (u .before .use-at2 .result) (u .before .before .before .before .args .a)
+      → z ≡ wrong (u .use-at3 .result) (u .before .before .before .before .args .b)
+      → r ≡ (x || y || z) → found wrong (u .before .before .before .before) ≡ r
+  read p q t k =
+      let s = u .before .before .before .before in
+      three-read (s .args .o) (s .args .d) (s .args .a) (s .args .b) wrong (u .before .before .use-at .ensures)
+      (u .before .use-at2 .ensures) (u .use-at3 .ensures) p q t k
 
 -- where the function begins, from each test on
 abbrev from-any : tie.After-any → tie.Start
@@ -28,50 +34,26 @@ from-any2 c = from-any (c .before .before .before .before)
 abbrev from-any3 : tie.After-any3 → tie.Start
 from-any3 c = from-any2 (c .before .before .before .before)
 
-eleven : (c : tie.After-any) → three (wrong11 firstCell) (from-any c) ≡ c .any .result
+eleven : (c : tie.After-any) → found (wrong11 firstCell) (from-any c) ≡ c .any .result
 eleven c =
     let x = c .before in
     let u = x .before .before .before in
-    simp (
-      c .any .ensures,
-      x .is-no-register3 .ensures,
-      x .before .is-no-register2 .ensures,
-      x .before .before .is-no-register .ensures,
-      u .use-at3 .ensures,
-      u .before .use-at2 .ensures,
-      u .before .before .use-at .ensures,
-      add-zero,
-    )
+    read u (wrong11 firstCell) (x .before .before .is-no-register .ensures) (x .before .is-no-register2 .ensures)
+    (x .is-no-register3 .ensures) (c .any .ensures)
 
-twelve : (c : tie.After-any2) → three wrong12 (from-any2 c) ≡ c .any2 .result
+twelve : (c : tie.After-any2) → found wrong12 (from-any2 c) ≡ c .any2 .result
 twelve c =
     let x = c .before in
     let u = x .before .before .before .before .before .before .before in
-    simp (
-      c .any2 .ensures,
-      x .is-stray3 .ensures,
-      x .before .is-stray2 .ensures,
-      x .before .before .is-stray .ensures,
-      u .use-at3 .ensures,
-      u .before .use-at2 .ensures,
-      u .before .before .use-at .ensures,
-      add-zero,
-    )
+    read u wrong12 (x .before .before .is-stray .ensures) (x .before .is-stray2 .ensures) (x .is-stray3 .ensures)
+    (c .any2 .ensures)
 
-thirteen : (c : tie.After-any3) → three wrong13 (from-any3 c) ≡ c .any3 .result
+thirteen : (c : tie.After-any3) → found wrong13 (from-any3 c) ≡ c .any3 .result
 thirteen c =
     let x = c .before in
     let u = x .before .before .before .before .before .before .before .before .before .before .before in
-    simp (
-      c .any3 .ensures,
-      x .is-no-code3 .ensures,
-      x .before .is-no-code2 .ensures,
-      x .before .before .is-no-code .ensures,
-      u .use-at3 .ensures,
-      u .before .use-at2 .ensures,
-      u .before .before .use-at .ensures,
-      add-zero,
-    )
+    read u wrong13 (x .before .before .is-no-code .ensures) (x .before .is-no-code2 .ensures) (x .is-no-code3 .ensures)
+    (c .any3 .ensures)
 
 returns : tie.Need-returns
 unfolding fault

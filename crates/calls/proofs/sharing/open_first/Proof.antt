@@ -44,7 +44,8 @@ returns-2 c =
     let run-at = if1 .before .before in
     let s = run-at .before .before .before in
     let p = run-at .run-at in
-    sym (open-symbol (s .args .a) (p .result) (s .pre .0) (s .pre .2) (p .ensures) (if1 .if1 .left) (c .before .before .term-at .ensures) (s .args .d) (c .enum-told .given .1))
+    sym (open-symbol (s .args .a) (p .result) (s .pre .0) (s .pre .2) (p .ensures) (if1 .if1 .left)
+    (c .before .before .term-at .ensures) (s .args .d) (c .enum-told .given .1))
 
 returns-3 : tie.Need-returns-3
 unfolding done
@@ -56,7 +57,8 @@ returns-3 c =
     let s = run-at .before .before .before in
     let p = run-at .run-at in
     simp (c .before .before .copy-cell .ensures)
-    (sym (open-bracket (s .args .a) (p .result) (s .pre .0) (s .pre .2) (p .ensures) (if1 .if1 .left) (term-at .term-at .ensures) (s .args .d) (enum-told2 .enum-told2 .given .1)))
+    (sym (open-bracket (s .args .a) (p .result) (s .pre .0) (s .pre .2) (p .ensures) (if1 .if1 .left)
+    (term-at .term-at .ensures) (s .args .d) (enum-told2 .enum-told2 .given .1)))
 
 pub open-first-spec : {M : Type 1} → statement M
 open-first-spec =

@@ -1,0 +1,135 @@
+-- `serve::serve` meets its contract: the tests are made in the order of the definition. Assumes nothing.
+use native.Mathlib.Omega.{arith}
+use Rattle.meaning.specs.Limits.{programCells, programBytes}
+use Rattle.serve.proofs.Putting.{put-front}
+use Rattle.serve.proofs.Spacing.{refusal-short}
+use Rattle.serve.proofs.Tests.{too-short, too-small, too-large, too-long, broken, right}
+use borrow.Author.Needs.{needs}
+use Rattle.serve.proofs.serve.Statement.{statement}
+use Rattle.serve.proofs.serve.Tie as tie
+
+refuse-requires : tie.Need-refuse-requires
+refuse-requires c κs = omega (arith, refusal-short 1 (omega arith), c .refuse-arg .given .0 .1)
+
+returns : tie.Need-returns
+returns c =
+    let args = c .before .before .before .before .args in
+    let if1 = c .before .before .if1 in
+    put-front _ (too-short (args .input .now) (if1 .taken)) (c .refuse .ensures)
+
+word-at-requires : tie.Need-word-at-requires
+word-at-requires c κs = search needs
+
+cast-cells : tie.Need-cast-cells
+cast-cells c = search needs
+
+refuse-requires-2 : tie.Need-refuse-requires-2
+refuse-requires-2 c κs = omega (arith, refusal-short 1 (omega arith), c .refuse-arg2 .given .0 .1)
+
+returns-2 : tie.Need-returns-2
+returns-2 c =
+    let args = c .before .before .before .before .before .before .args in
+    let if1 = c .before .before .before .before .if1 in
+    let word-at = c .before .before .before .word-at in
+    let if2 = c .before .before .if2 in
+    put-front _ (too-small (args .input .now) (if1 .left) (word-at .result) (word-at .ensures) (if2 .taken))
+    (c .refuse2 .ensures)
+
+refuse-requires-3 : tie.Need-refuse-requires-3
+refuse-requires-3 c κs = omega (arith, refusal-short 1 (omega arith), c .refuse-arg3 .given .0 .1)
+
+returns-3 : tie.Need-returns-3
+unfolding programCells programBytes
+returns-3 c =
+    let args = c .before .before .before .before .before .before .before .args in
+    let if1 = c .before .before .before .before .before .if1 in
+    let word-at = c .before .before .before .before .word-at in
+    let if2 = c .before .before .before .if2 in
+    let if3 = c .before .before .if3 in
+    put-front _
+    (too-large (args .input .now) (if1 .left) (word-at .result) (word-at .ensures) (if2 .left) (if3 .taken))
+    (c .refuse3 .ensures)
+
+refuse-requires-4 : tie.Need-refuse-requires-4
+refuse-requires-4 c κs = omega (arith, refusal-short 4 (omega arith), c .refuse-arg4 .given .0 .1)
+
+returns-4 : tie.Need-returns-4
+unfolding programCells programBytes
+returns-4 c =
+    let args = c .before .before .before .before .before .before .before .before .args in
+    let if1 = c .before .before .before .before .before .before .if1 in
+    let word-at = c .before .before .before .before .before .word-at in
+    let if2 = c .before .before .before .before .if2 in
+    let if3 = c .before .before .before .if3 in
+    let if4 = c .before .before .if4 in
+    put-front _
+    (too-long (args .input .now) (if1 .left) (word-at .result) (word-at .ensures) (if2 .left) (if3 .left)
+    (if4 .taken))
+    (c .refuse4 .ensures)
+
+sub-if5 : tie.Need-sub-if5
+sub-if5 c = search needs
+
+refuse-requires-5 : tie.Need-refuse-requires-5
+refuse-requires-5 c κs = omega (arith, refusal-short 4 (omega arith), c .refuse-arg5 .given .0 .1)
+
+returns-5 : tie.Need-returns-5
+unfolding programCells programBytes
+returns-5 c =
+    let args = c .before .before .before .before .before .before .before .before .before .args in
+    let if1 = c .before .before .before .before .before .before .before .if1 in
+    let word-at = c .before .before .before .before .before .before .word-at in
+    let if2 = c .before .before .before .before .before .if2 in
+    let if3 = c .before .before .before .before .if3 in
+    let if4 = c .before .before .before .if4 in
+    let if5 = c .before .before .if5 in
+    put-front _
+    (broken (args .input .now) (if1 .left) (word-at .result) (word-at .ensures) (if2 .left) (if3 .left) (if4 .left)
+    (omega (arith, if5 .taken)))
+    (c .refuse5 .ensures)
+
+serve-calls-requires : tie.Need-serve-calls-requires
+unfolding programCells programBytes
+serve-calls-requires c κs = record {
+  low = c .before .before .before .before .if2 .left;
+  high = c .before .before .before .if3 .left;
+  some = c .before .before .before .before .before .before .if1 .left;
+  most = c .before .before .if4 .left;
+  whole = c .before .if5 .left;
+  fits = omega (arith, c .serve-calls-arg .given .0 .1);
+}
+
+returns-6 : tie.Need-returns-6
+unfolding programCells programBytes
+returns-6 c =
+    let args = c .before .before .before .before .before .before .before .before .before .args in
+    let if1 = c .before .before .before .before .before .before .before .if1 in
+    let word-at = c .before .before .before .before .before .before .word-at in
+    let if2 = c .before .before .before .before .before .if2 in
+    let if3 = c .before .before .before .before .if3 in
+    let if4 = c .before .before .before .if4 in
+    let if5 = c .before .before .if5 in
+    put-front _
+    (right (args .input .now) (if1 .left) (word-at .result) (word-at .ensures) (if2 .left) (if3 .left) (if4 .left)
+    (omega (arith, if5 .left)))
+    (c .serve-calls .ensures)
+
+pub serve-spec : {M : Type 1} → statement M
+serve-spec =
+    tie.close
+    (tie.spec
+    refuse-requires
+    returns
+    word-at-requires
+    cast-cells
+    refuse-requires-2
+    returns-2
+    refuse-requires-3
+    returns-3
+    refuse-requires-4
+    returns-4
+    sub-if5
+    refuse-requires-5
+    returns-5
+    serve-calls-requires
+    returns-6)

@@ -1,0 +1,33 @@
+-- `serve::writing::refuse` meets its contract. Assumes nothing.
+use native.Mathlib.Omega.{arith}
+use Rattle.meaning.specs.Program.{refusal}
+use Rattle.serve.proofs.Putting.{put-then, put-length}
+use Rattle.serve.proofs.Spacing.{refusal-length}
+use borrow.Author.Needs.{needs}
+use Rattle.serve.proofs.writing.refuse.Statement.{statement}
+use Rattle.serve.proofs.writing.refuse.Tie as tie
+
+slice-aggregate-text : tie.Need-slice-aggregate-text
+slice-aggregate-text c = search needs
+
+text-requires : tie.Need-text-requires
+text-requires c κs = omega (arith, refusal-length (c .before .before .before .args .s) 0)
+
+line-requires : tie.Need-line-requires
+line-requires c κs =
+    let args = c .before .before .before .before .before .before .before .args in
+    let text = c .before .before .before .text in
+    omega (arith, refusal-length (args .s) 0, put-length (text .ensures), text .ensures .next)
+
+same-length : tie.Need-same-length
+same-length c = search needs
+
+returns : tie.Need-returns
+returns c =
+    let text = c .before .before .before .before .before .before .text in
+    let line = c .before .before .line in
+    unfold refusal in put-then (text .ensures) (line .ensures)
+
+pub refuse-spec : {M : Type 1} → statement M
+refuse-spec =
+    tie.close (tie.spec slice-aggregate-text text-requires line-requires same-length returns)

@@ -1,0 +1,71 @@
+// The rule of one cell, in a store of 20 cells that has three symbols of code 0 on its heap.
+use crate::answers;
+use crate::show;
+use meaning::CODE_LIMIT;
+use meaning::FIRST_CELL;
+
+const FIRST: u32 = FIRST_CELL as u32;
+
+const EMPTY: u32 = words::EMPTY;
+
+// The two words of a cell of the slice; nothing where it has no such cell.
+pub fn put(ws: &mut [u32], cell: usize, a: u32, b: u32) {
+    if cell < ws.len() / 2 {
+        ws[2 * cell] = a;
+        ws[2 * cell + 1] = b;
+    }
+}
+
+fn row(cell: usize, a: u32, b: u32) {
+    let mut ws = [0u32; 40];
+    store::fresh(&mut ws);
+    put(&mut ws, cell, a, b);
+    show::text(b"cell");
+    show::number(cell as u64);
+    show::number(a as u64);
+    show::number(b as u64);
+    show::text(b": check");
+    let found = store::check(&ws, FIRST_CELL + 3);
+    show::number(answers::checked_status(found));
+    show::number(answers::checked_value(found));
+    show::end();
+}
+
+// The last heap cell as a bracket: P6, and each end one too far; then with used, the left or the right chain.
+fn brackets() {
+    row(FIRST_CELL + 2, FIRST, EMPTY + FIRST + 1);
+    row(FIRST_CELL + 2, FIRST, EMPTY + FIRST + 2);
+    row(FIRST_CELL + 2, FIRST + 1, EMPTY + FIRST);
+    row(FIRST_CELL + 2, FIRST + 1, EMPTY + FIRST + 1);
+    row(FIRST_CELL + 2, FIRST - 1, EMPTY + FIRST + 1);
+    row(FIRST_CELL + 2, 0, EMPTY);
+    row(FIRST_CELL + 2, 1, EMPTY);
+    row(FIRST_CELL + 2, FIRST, EMPTY + 1073741824 + FIRST);
+    row(FIRST_CELL + 2, FIRST, EMPTY + 536870912 + FIRST);
+    row(FIRST_CELL + 2, FIRST, EMPTY + 268435456 + FIRST);
+}
+
+// The last heap cell as a symbol, and the first free cell.
+fn symbols() {
+    row(FIRST_CELL + 2, CODE_LIMIT, 0);
+    row(FIRST_CELL + 2, CODE_LIMIT + 1, 0);
+    row(FIRST_CELL + 2, 0, 1);
+    row(FIRST_CELL + 3, 1, 0);
+    row(FIRST_CELL + 3, 0, 1);
+    row(FIRST_CELL + 3, 0, EMPTY);
+}
+
+// The first register and the last.
+fn registers() {
+    row(0, 0, 0);
+    row(0, 0, EMPTY);
+    row(FIRST_CELL - 1, FIRST, EMPTY + FIRST + 2);
+    row(FIRST_CELL - 1, FIRST, EMPTY + FIRST + 3);
+    row(FIRST_CELL - 1, FIRST, EMPTY);
+}
+
+pub fn rows() {
+    brackets();
+    symbols();
+    registers();
+}
