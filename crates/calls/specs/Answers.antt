@@ -1,9 +1,10 @@
 -- One call's answer and a batch's, as the definitions have them: document 01's number and values for each case
 -- ("Numbers that come back").
 -- Assumes nothing.
+use mathlib.Core.Path.{_≡_}
 use mathlib.Core.List.{List}
 use Prim.Native.Nat.{ℕ}
-use Rattle.meaning.specs.Check.{Done, only}
+use Rattle.meaning.specs.Check.{Done, done, refused, only}
 use Rattle.meaning.specs.Batch.{Outcome, asLent}
 use Rattle.calls.specs.declared.step.Stepped.{Stepped}
 use Rattle.calls.specs.declared.Ran.{Ran}
@@ -12,6 +13,13 @@ use Rattle.calls.specs.declared.Ran.the-variants as ran
 -- a call's status, value and `top`, with the words that it leaves
 abbrev pub steppedIn : Stepped → List ℕ → Done
 steppedIn r ws = record { verdict = record { status = r .status; value = r .value }; words = ws; top = r .top }
+
+-- a call's answer, whatever words it leaves: done, with a value; or refused, with a status
+abbrev pub IsDone : Stepped → ℕ → ℕ → Type 0
+IsDone r value top = (ws : List ℕ) → steppedIn r ws ≡ done ws top value
+
+abbrev pub IsRefused : Stepped → ℕ → ℕ → Type 0
+IsRefused r status top = (ws : List ℕ) → steppedIn r ws ≡ refused ws top (only status)
 
 -- a batch: run to its end, with the new `top`; or one of 1 to 5, with the words and the answers as they are, and `top`
 -- as it came

@@ -1,5 +1,7 @@
 // The calls that answer with a value and leave every word as it is: LENGTH, FIRST and LIVE.
 use crate::step::Stepped;
+use crate::step::done;
+use crate::step::refused;
 ghost use mathlib.Core.Path.{_≡_};
 ghost use Prim.Native.Nat.{_<_};
 ghost use Rattle.meaning.specs.Limits.{firstCell};
@@ -15,11 +17,7 @@ pub fn length(ws: &[u32], top: usize, a: usize) -> Stepped
     ensures { λ r. ⌜ steppedIn r (now (ws .entry)) ≡ done (now (ws .entry)) top (size (at (now (ws .entry)) a)) ⌝ }
 {
     let run = store::run_at(ws, a);
-    Stepped {
-        status: 0,
-        value: run.size as u32,
-        top,
-    }
+    done(run.size as u32, top)
 }
 
 // The code of the first term of register a.
@@ -29,23 +27,11 @@ pub fn first(ws: &[u32], top: usize, a: usize) -> Stepped
 {
     let run = store::run_at(ws, a);
     if run.size == 0 {
-        return Stepped {
-            status: 14,
-            value: 0,
-            top,
-        };
+        return refused(14, top);
     }
     match store::term_at(ws, run.start) {
-        store::Term::Symbol(code) => Stepped {
-            status: 0,
-            value: code,
-            top,
-        },
-        store::Term::Bracket(_) => Stepped {
-            status: 15,
-            value: 0,
-            top,
-        },
+        store::Term::Symbol(code) => done(code, top),
+        store::Term::Bracket(_) => refused(15, top),
     }
 }
 
@@ -56,9 +42,5 @@ pub fn live(ws: &mut [u32], top: usize) -> Stepped
         ≡ done (now (ws .entry)) top (live firstCell (now (ws .entry)) top) ⌝ }
 {
     let reached = collect::live(ws, top);
-    Stepped {
-        status: 0,
-        value: reached as u32,
-        top,
-    }
+    done(reached as u32, top)
 }

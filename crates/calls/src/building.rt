@@ -3,6 +3,8 @@ use crate::room::Room;
 use crate::room::make_room;
 use crate::sharing::share;
 use crate::step::Stepped;
+use crate::step::done;
+use crate::step::refused;
 ghost use mathlib.Core.Path.{_≡_};
 ghost use mathlib.Core.List.{[], _∷_};
 ghost use Prim.Native.Nat.{_+_, _*_, _≤_, _<_};
@@ -67,11 +69,7 @@ pub fn lay_symbol(ws: &mut [u32], top: usize, d: usize, a: u32) -> Stepped
 {
     put_symbol(ws, top, a);
     put_ends(ws, d, top, top);
-    Stepped {
-        status: 0,
-        value: 0,
-        top: top + 1,
-    }
+    done(0, top + 1)
 }
 
 // Register d becomes one new bracket, a cell equal to register a's.
@@ -81,11 +79,7 @@ pub fn lay_bracket(ws: &mut [u32], top: usize, d: usize, a: usize) -> Stepped
 {
     copy_cell(ws, top, a);
     put_ends(ws, d, top, top);
-    Stepped {
-        status: 0,
-        value: 0,
-        top: top + 1,
-    }
+    done(0, top + 1)
 }
 
 // Register d becomes new cells equal to those of register a, then of register b, of which one at least has some.
@@ -101,11 +95,7 @@ pub fn lay_run(ws: &mut [u32], top: usize, d: usize, a: usize, b: usize) -> Step
     copy_cells(ws, top, p.start, p.size);
     copy_cells(ws, middle, q.start, q.size);
     put_ends(ws, d, top, end - 1);
-    Stepped {
-        status: 0,
-        value: 0,
-        top: end,
-    }
+    done(0, end)
 }
 
 // SYMBOL: room for one cell, and the symbol there.
@@ -116,11 +106,7 @@ pub fn symbol(ws: &mut [u32], top: usize, d: usize, a: u32) -> Stepped
 {
     match make_room(ws, top, 1) {
         Room::Ready(t) => lay_symbol(ws, t, d, a),
-        Room::Lacking(t) => Stepped {
-            status: 16,
-            value: 0,
-            top: t,
-        },
+        Room::Lacking(t) => refused(16, t),
     }
 }
 
@@ -132,11 +118,7 @@ pub fn wrap(ws: &mut [u32], top: usize, d: usize, a: usize) -> Stepped
 {
     match make_room(ws, top, 1) {
         Room::Ready(t) => lay_bracket(ws, t, d, a),
-        Room::Lacking(t) => Stepped {
-            status: 16,
-            value: 0,
-            top: t,
-        },
+        Room::Lacking(t) => refused(16, t),
     }
 }
 
@@ -149,11 +131,7 @@ fn join_full(ws: &mut [u32], top: usize, d: usize, a: usize, b: usize, n: usize)
 {
     match make_room(ws, top, n) {
         Room::Ready(t) => lay_run(ws, t, d, a, b),
-        Room::Lacking(t) => Stepped {
-            status: 16,
-            value: 0,
-            top: t,
-        },
+        Room::Lacking(t) => refused(16, t),
     }
 }
 

@@ -1,5 +1,6 @@
 // Room for new cells: the store is collected where `top` and the need exceed the capacity, and only then. And COLLECT.
 use crate::step::Stepped;
+use crate::step::done;
 ghost use mathlib.Core.Path.{_≡_};
 ghost use Prim.Native.Nat.{_≤_};
 ghost use lib.ListN.{length};
@@ -51,9 +52,5 @@ pub fn gather(ws: &mut [u32], top: usize) -> Stepped
         (live firstCell (now (ws .entry)) top) ⌝ }
 {
     let low = collect::gather(ws, top);
-    Stepped {
-        status: 0,
-        value: (low - meaning::FIRST_CELL) as u32,
-        top: low,
-    }
+    done((low - meaning::FIRST_CELL) as u32, low)
 }

@@ -4,6 +4,8 @@ use crate::building::copy_cell;
 use crate::building::put_empty;
 use crate::building::put_ends;
 use crate::step::Stepped;
+use crate::step::done;
+use crate::step::refused;
 ghost use mathlib.Core.Path.{_≡_};
 ghost use Prim.Native.Nat.{_<_};
 ghost use Rattle.meaning.specs.Limits.{firstCell};
@@ -18,11 +20,7 @@ pub fn clear(ws: &mut [u32], top: usize, d: usize) -> Stepped
     ensures { λ r. ⌜ steppedIn r (now (ws .exit)) ≡ done (put (now (ws .entry)) d hollow) top 0 ⌝ }
 {
     put_empty(ws, d);
-    Stepped {
-        status: 0,
-        value: 0,
-        top,
-    }
+    done(0, top)
 }
 
 // Register d becomes register a.
@@ -31,11 +29,7 @@ pub fn share(ws: &mut [u32], top: usize, d: usize, a: usize) -> Stepped
     ensures { λ r. ⌜ steppedIn r (now (ws .exit)) ≡ share d a (now (ws .entry)) top ⌝ }
 {
     copy_cell(ws, d, a);
-    Stepped {
-        status: 0,
-        value: 0,
-        top,
-    }
+    done(0, top)
 }
 
 // Register d becomes the first term of register a: its first cell alone.
@@ -45,18 +39,10 @@ pub fn head(ws: &mut [u32], top: usize, d: usize, a: usize) -> Stepped
 {
     let run = store::run_at(ws, a);
     if run.size == 0 {
-        return Stepped {
-            status: 14,
-            value: 0,
-            top,
-        };
+        return refused(14, top);
     }
     put_ends(ws, d, run.start, run.start);
-    Stepped {
-        status: 0,
-        value: 0,
-        top,
-    }
+    done(0, top)
 }
 
 // Register d becomes register a less its first cell, which is empty where there was only one.
@@ -66,26 +52,14 @@ pub fn rest(ws: &mut [u32], top: usize, d: usize, a: usize) -> Stepped
 {
     let run = store::run_at(ws, a);
     if run.size == 0 {
-        return Stepped {
-            status: 14,
-            value: 0,
-            top,
-        };
+        return refused(14, top);
     }
     if run.size == 1 {
         put_empty(ws, d);
-        return Stepped {
-            status: 0,
-            value: 0,
-            top,
-        };
+        return done(0, top);
     }
     put_ends(ws, d, run.start + 1, run.start + run.size - 1);
-    Stepped {
-        status: 0,
-        value: 0,
-        top,
-    }
+    done(0, top)
 }
 
 // Register d becomes the contents of the first term of register a. A bracket's cell is what a register on its contents
@@ -96,26 +70,14 @@ pub fn open_first(ws: &mut [u32], top: usize, d: usize, a: usize) -> Stepped
 {
     let run = store::run_at(ws, a);
     if run.size == 0 {
-        return Stepped {
-            status: 14,
-            value: 0,
-            top,
-        };
+        return refused(14, top);
     }
     let first = run.start;
     match store::term_at(ws, first) {
-        store::Term::Symbol(_) => Stepped {
-            status: 15,
-            value: 0,
-            top,
-        },
+        store::Term::Symbol(_) => refused(15, top),
         store::Term::Bracket(_) => {
             copy_cell(ws, d, first);
-            Stepped {
-                status: 0,
-                value: 0,
-                top,
-            }
+            done(0, top)
         },
     }
 }

@@ -1,4 +1,4 @@
-// One call: its own words are tested first, and then it is carried out.
+// One call: its own words are tested first, and then it is carried out. And what a call answers: done, or refused.
 use crate::asking::first;
 use crate::asking::length;
 use crate::asking::live;
@@ -16,13 +16,35 @@ ghost use mathlib.Core.Path.{_≡_};
 ghost use Rattle.meaning.specs.Limits.{firstCell};
 ghost use Rattle.meaning.specs.Sound.{Sound};
 ghost use Rattle.meaning.specs.Call.{fault, opAt, perform, step};
-ghost use Rattle.calls.specs.Answers.{steppedIn};
+ghost use Rattle.calls.specs.Answers.{steppedIn, IsDone, IsRefused};
 
 // What one call answers: its status and value, and `top` after it.
 pub struct Stepped {
     pub status: u32,
     pub value: u32,
     pub top: usize,
+}
+
+// A call that is done, with its value.
+pub fn done(value: u32, top: usize) -> Stepped
+    ensures { λ r. ⌜ IsDone r value top ⌝ }
+{
+    Stepped {
+        status: 0,
+        value,
+        top,
+    }
+}
+
+// A call that is refused, whose value is 0.
+pub fn refused(status: u32, top: usize) -> Stepped
+    ensures { λ r. ⌜ IsRefused r status top ⌝ }
+{
+    Stepped {
+        status,
+        value: 0,
+        top,
+    }
 }
 
 // A call whose own words are right.
@@ -55,11 +77,7 @@ pub fn step(ws: &mut [u32], top: usize, o: u32, d: u32, a: u32, b: u32) -> Stepp
 {
     let wrong = fault(o, d, a, b);
     if wrong != 0 {
-        return Stepped {
-            status: wrong,
-            value: 0,
-            top,
-        };
+        return refused(wrong, top);
     }
     perform(ws, top, o, d, a, b)
 }

@@ -1,7 +1,7 @@
 -- `calls::asking::live` meets its contract. Assumes nothing.
+use mathlib.Core.Path.{_∙_}
 use native.Mathlib.Omega.{arith}
 use borrow.Author.Needs.{needs}
-use Rattle.meaning.specs.Check.{done}
 use Rattle.meaning.specs.Limits.{firstCell}
 use Rattle.meaning.proofs.Cells.{limit-fits}
 use Rattle.meaning.proofs.Reaching.{live-le}
@@ -9,19 +9,18 @@ use Rattle.store.proofs.Sounds.{firstCell-pos}
 use Rattle.calls.proofs.asking.live.Statement.{statement}
 use Rattle.calls.proofs.asking.live.Tie as tie
 
-cast-t6 : tie.Need-cast-t6
-cast-t6 c =
+cast-done : tie.Need-cast-done
+cast-done c =
     let s = c .before .before .before .before .before in
     omega (arith, limit-fits, live-le firstCell (s .args .ws .now) (s .args .top) firstCell-pos (s .pre))
 
 returns : tie.Need-returns
-unfolding done
 returns c =
-    let live = c .before .before in
-    simp (live .live .ensures .0, live .live .ensures .1)
+    let live = c .before .before .before in
+    c .done .ensures _ ∙ simp (live .live .ensures .0, live .live .ensures .1)
 
 pub live-spec : {M : Type 1} → statement M
 live-spec =
     tie.close
     (tie.spec
-    (λ c κs. search needs) cast-t6 (λ c. search needs) returns)
+    (λ c κs. search needs) cast-done (λ c κs. search needs) (λ c. search needs) returns)

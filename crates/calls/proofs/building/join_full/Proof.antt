@@ -3,7 +3,6 @@ use mathlib.Core.Path.{sym, _∙_}
 use mathlib.Core.List.{[], _∷_}
 use native.Mathlib.Omega.{arith}
 use borrow.Author.Needs.{needs}
-use Rattle.meaning.specs.Check.{refused, only}
 use Rattle.meaning.specs.Call.{newRun}
 use Rattle.calls.proofs.Registers.{run-below}
 use Rattle.calls.proofs.Rooms.{room-roomy, room-does, room-refuses, room-size}
@@ -46,16 +45,16 @@ returns c =
     (newRun (s .args .d) (s .args .a) (s .args .b)))
 
 returns-2 : tie.Need-returns-2
-unfolding refused only
 returns-2 c =
-    let make-room = c .before .before .before .before .before in
+    let make-room = c .before .before .before .before .before .before in
     let s = make-room .before .before .before in
-    sym (room-refuses (make-room .make-room .ensures) (c .before .t2 .given .1) (s .args .d)
+    c .refused .ensures _
+    ∙ sym (room-refuses (make-room .make-room .ensures) (c .before .before .t2 .given .1) (s .args .d)
     (s .args .a ∷ s .args .b ∷ []) (newRun (s .args .d) (s .args .a) (s .args .b)))
 
 pub join-full-spec : {M : Type 1} → statement M
 join-full-spec =
     tie.close
     (tie.spec
-    make-room-requires (λ c. search needs) lay-run-requires (λ c. search needs) (λ c. search needs) returns
-    (λ c. search needs) returns-2)
+    make-room-requires (λ c. search needs) lay-run-requires (λ c. search needs) (λ c κs. search needs)
+    (λ c. search needs) returns (λ c. search needs) returns-2)

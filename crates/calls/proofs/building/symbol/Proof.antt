@@ -2,7 +2,6 @@
 use mathlib.Core.Path.{sym, _∙_}
 use mathlib.Core.List.{[]}
 use borrow.Author.Needs.{needs}
-use Rattle.meaning.specs.Check.{refused, only}
 use Rattle.meaning.specs.Call.{newSymbol}
 use Rattle.calls.proofs.Rooms.{room-roomy, room-does, room-refuses}
 use Rattle.calls.proofs.building.symbol.Statement.{statement}
@@ -24,16 +23,16 @@ returns c =
     (newSymbol (s .args .d) (s .args .a)))
 
 returns-2 : tie.Need-returns-2
-unfolding refused only
 returns-2 c =
-    let make-room = c .before .before .before .before .before in
+    let make-room = c .before .before .before .before .before .before in
     let s = make-room .before .before .before in
-    sym (room-refuses (make-room .make-room .ensures) (c .before .t2 .given .1) (s .args .d) []
+    c .refused .ensures _
+    ∙ sym (room-refuses (make-room .make-room .ensures) (c .before .before .t2 .given .1) (s .args .d) []
     (newSymbol (s .args .d) (s .args .a)))
 
 pub symbol-spec : {M : Type 1} → statement M
 symbol-spec =
     tie.close
     (tie.spec
-    (λ c κs. search needs) (λ c. search needs) lay-symbol-requires (λ c. search needs) (λ c. search needs) returns
-    (λ c. search needs) returns-2)
+    (λ c κs. search needs) (λ c. search needs) lay-symbol-requires (λ c. search needs) (λ c κs. search needs)
+    (λ c. search needs) returns (λ c. search needs) returns-2)

@@ -2,7 +2,6 @@
 use mathlib.Core.Path.{sym, _∙_}
 use mathlib.Core.List.{[], _∷_}
 use borrow.Author.Needs.{needs}
-use Rattle.meaning.specs.Check.{refused, only}
 use Rattle.meaning.specs.Call.{newBracket}
 use Rattle.calls.proofs.Rooms.{room-roomy, room-does, room-refuses}
 use Rattle.calls.proofs.building.wrap.Statement.{statement}
@@ -24,16 +23,16 @@ returns c =
     (newBracket (s .args .d) (s .args .a)))
 
 returns-2 : tie.Need-returns-2
-unfolding refused only
 returns-2 c =
-    let make-room = c .before .before .before .before .before in
+    let make-room = c .before .before .before .before .before .before in
     let s = make-room .before .before .before in
-    sym (room-refuses (make-room .make-room .ensures) (c .before .t2 .given .1) (s .args .d) (s .args .a ∷ [])
+    c .refused .ensures _
+    ∙ sym (room-refuses (make-room .make-room .ensures) (c .before .before .t2 .given .1) (s .args .d) (s .args .a ∷ [])
     (newBracket (s .args .d) (s .args .a)))
 
 pub wrap-spec : {M : Type 1} → statement M
 wrap-spec =
     tie.close
     (tie.spec
-    (λ c κs. search needs) (λ c. search needs) lay-bracket-requires (λ c. search needs) (λ c. search needs) returns
-    (λ c. search needs) returns-2)
+    (λ c κs. search needs) (λ c. search needs) lay-bracket-requires (λ c. search needs) (λ c κs. search needs)
+    (λ c. search needs) returns (λ c. search needs) returns-2)

@@ -1,8 +1,7 @@
 -- `calls::sharing::open_first` meets its contract. Assumes nothing.
-use mathlib.Core.Path.{sym}
+use mathlib.Core.Path.{sym, _∙_}
 use native.Mathlib.Omega.{arith}
 use borrow.Author.Needs.{needs}
-use Rattle.meaning.specs.Check.{done, refused, only}
 use Rattle.meaning.specs.Call.{openFirst}
 use Rattle.calls.proofs.Registers.{readable, first-in}
 use Rattle.calls.proofs.Firsts.{first-readable, on-empty, open-symbol, open-bracket}
@@ -10,16 +9,15 @@ use Rattle.calls.proofs.sharing.open_first.Statement.{statement}
 use Rattle.calls.proofs.sharing.open_first.Tie as tie
 
 run-at-requires : tie.Need-run-at-requires
-run-at-requires c κs =
-    let s = c .before .before in
-    readable (s .pre .0) (s .pre .2)
+run-at-requires c κs = readable (c .before .before .pre .0) (c .before .before .pre .2)
 
 returns : tie.Need-returns
-unfolding openFirst refused only
+unfolding openFirst
 returns c =
-    let s = c .before .before .before .before .before in
-    let p = c .before .before .run-at in
-    sym (on-empty (s .args .a) (p .result) (s .pre .0) (s .pre .2) (p .ensures) _ (c .if1 .taken))
+    let s = c .before .before .before .before .before .before in
+    let p = c .before .before .before .run-at in
+    c .refused .ensures _
+    ∙ sym (on-empty (s .args .a) (p .result) (s .pre .0) (s .pre .2) (p .ensures) _ (c .before .if1 .taken))
 
 term-at-requires : tie.Need-term-at-requires
 term-at-requires c κs =
@@ -38,31 +36,32 @@ copy-cell-requires c κs =
     (omega arith, omega arith)
 
 returns-2 : tie.Need-returns-2
-unfolding refused only
 returns-2 c =
-    let if1 = c .before .before .before .before in
+    let if1 = c .before .before .before .before .before in
     let run-at = if1 .before .before in
     let s = run-at .before .before .before in
     let p = run-at .run-at in
-    sym (open-symbol (s .args .a) (p .result) (s .pre .0) (s .pre .2) (p .ensures) (if1 .if1 .left)
-    (c .before .before .term-at .ensures) (s .args .d) (c .enum-told .given .1))
+    c .refused2 .ensures _
+    ∙ sym (open-symbol (s .args .a) (p .result) (s .pre .0) (s .pre .2) (p .ensures) (if1 .if1 .left)
+    (c .before .before .before .term-at .ensures) (s .args .d) (c .before .enum-told .given .1))
 
 returns-3 : tie.Need-returns-3
-unfolding done
 returns-3 c =
-    let enum-told2 = c .before .before .before .before in
+    let enum-told2 = c .before .before .before .before .before in
     let term-at = enum-told2 .before .before in
     let if1 = term-at .before .before in
     let run-at = if1 .before .before in
     let s = run-at .before .before .before in
     let p = run-at .run-at in
-    simp (c .before .before .copy-cell .ensures)
-    (sym (open-bracket (s .args .a) (p .result) (s .pre .0) (s .pre .2) (p .ensures) (if1 .if1 .left)
+    simp (c .before .before .before .copy-cell .ensures)
+    (c .done .ensures _
+    ∙ sym (open-bracket (s .args .a) (p .result) (s .pre .0) (s .pre .2) (p .ensures) (if1 .if1 .left)
     (term-at .term-at .ensures) (s .args .d) (enum-told2 .enum-told2 .given .1)))
 
 pub open-first-spec : {M : Type 1} → statement M
 open-first-spec =
     tie.close
     (tie.spec
-    run-at-requires (λ c. search needs) returns term-at-requires (λ c. search needs) (λ c. search needs)
-    copy-cell-requires (λ c. search needs) returns-2 (λ c. search needs) returns-3)
+    run-at-requires (λ c κs. search needs) (λ c. search needs) returns term-at-requires (λ c. search needs)
+    (λ c κs. search needs) (λ c. search needs) copy-cell-requires (λ c κs. search needs) (λ c. search needs) returns-2
+    (λ c. search needs) returns-3)

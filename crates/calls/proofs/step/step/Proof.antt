@@ -1,17 +1,16 @@
 -- `calls::step::step` meets its contract. Assumes nothing.
 use mathlib.Core.Path.{sym, _∙_}
 use borrow.Author.Needs.{needs}
-use Rattle.meaning.specs.Check.{refused, only}
 use Rattle.calls.proofs.Performing.{step-refused, step-performed}
 use Rattle.calls.proofs.step.step.Statement.{statement}
 use Rattle.calls.proofs.step.step.Tie as tie
 
 returns : tie.Need-returns
-unfolding refused only
 returns c =
-    let s = c .before .before .before in
-    sym (step-refused (s .args .ws .now) (s .args .top) (s .args .o) (s .args .d) (s .args .a) (s .args .b)
-    (c .before .fault .ensures) (c .if1 .taken))
+    let s = c .before .before .before .before in
+    c .refused .ensures _
+    ∙ sym (step-refused (s .args .ws .now) (s .args .top) (s .args .o) (s .args .d) (s .args .a) (s .args .b)
+    (c .before .before .fault .ensures) (c .before .if1 .taken))
 
 returns-2 : tie.Need-returns-2
 returns-2 c =
@@ -25,4 +24,4 @@ pub step-spec : {M : Type 1} → statement M
 step-spec =
     tie.close
     (tie.spec
-    (λ c κs. search needs) returns (λ c κs. search needs) (λ c. search needs) returns-2)
+    (λ c κs. search needs) (λ c κs. search needs) returns (λ c κs. search needs) (λ c. search needs) returns-2)

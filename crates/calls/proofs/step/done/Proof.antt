@@ -1,0 +1,12 @@
+-- `calls::step::done` meets its contract. Assumes nothing.
+use mathlib.Core.Path.{refl}
+use Rattle.meaning.specs.Check.{done}
+use Rattle.calls.proofs.step.done.Statement.{statement}
+use Rattle.calls.proofs.step.done.Tie as tie
+
+returns : tie.Need-returns
+unfolding done
+returns c ws = refl
+
+pub done-spec : {M : Type 1} → statement M
+done-spec = tie.close (tie.spec returns)

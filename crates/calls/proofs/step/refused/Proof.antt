@@ -1,0 +1,12 @@
+-- `calls::step::refused` meets its contract. Assumes nothing.
+use mathlib.Core.Path.{refl}
+use Rattle.meaning.specs.Check.{refused, only}
+use Rattle.calls.proofs.step.refused.Statement.{statement}
+use Rattle.calls.proofs.step.refused.Tie as tie
+
+returns : tie.Need-returns
+unfolding refused only
+returns c ws = refl
+
+pub refused-spec : {M : Type 1} → statement M
+refused-spec = tie.close (tie.spec returns)
