@@ -22,7 +22,8 @@ use Rattle.collect.specs.Cells.{Cell, cell, val, mk}
 use Rattle.collect.specs.Chain.{Heap, full, Proper, master, addr, finalCell}
 use Rattle.collect.specs.Step.{settle}
 use Rattle.collect.specs.Phases.{Marked}
-use Rattle.collect.specs.Passes.{Threaded, ThreadsHeap, ThreadsRegisters, Sliding, Slides, Settleable, Settles, Cleared}
+use Rattle.collect.specs.Passes.{Threaded, ThreadsHeap, ThreadsRegisters, Sliding, Slides, Settleable, Settles}
+use Rattle.collect.specs.Passes.{Cleared}
 use Rattle.collect.proofs.Fields.{Fields, cell-fields, ends-in}
 use Rattle.collect.proofs.Counting.{count-le, count-less}
 use Rattle.collect.proofs.Order.{master-full}

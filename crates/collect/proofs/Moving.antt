@@ -9,7 +9,8 @@ use native.Mathlib.Decide.{ℕ-discrete}
 use lib.Dec.{ltb}
 use borrow.Author.Tests.{lt-ltb, le-ltb, le-leb, lt-leb, ne-eqb}
 use Rattle.collect.specs.Cells.{Cell, val, mk}
-use Rattle.collect.specs.Chain.{Heap, full, Proper, master, addr, base, last, thL, thR, mended, slR, slideCell, finalCell, LinkedTo, MovedTo}
+use Rattle.collect.specs.Chain.{Heap, full, Proper, master, addr, base, last, thL, thR, mended, slR, slideCell}
+use Rattle.collect.specs.Chain.{finalCell, LinkedTo, MovedTo}
 use Rattle.collect.specs.Step.{Unlinked, settle}
 use Rattle.collect.proofs.Counting.{count-run, count-le, count-less}
 use Rattle.collect.proofs.Order.{master-low, master-br, master-full, ri-other, last-base, last-reg}

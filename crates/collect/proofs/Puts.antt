@@ -7,7 +7,8 @@ use native.Mathlib.Decide.{ℕ-discrete}
 use lib.ListN.{length}
 use Rattle.words.specs.Cell.{firstWord, secondWord, putCell, putSecond}
 use Rattle.words.specs.Second.{decode}
-use Rattle.words.proofs.Cells.{firstWord-same, secondWord-same, firstWord-other, secondWord-other, secondWord-putSecond-same, secondWord-putSecond-other, firstWord-putSecond}
+use Rattle.words.proofs.Cells.{firstWord-same, secondWord-same, firstWord-other, secondWord-other}
+use Rattle.words.proofs.Cells.{secondWord-putSecond-same, secondWord-putSecond-other, firstWord-putSecond}
 use Rattle.collect.specs.Cells.{linked, cell}
 
 module _ (s : List ℕ) (m a b : ℕ) where

@@ -10,7 +10,8 @@ use native.Mathlib.Decide.{ℕ-discrete}
 use lib.Dec.{eqb, leb·suc-suc}
 use borrow.Author.Tests.{eqb-true, eqb-false, le-ltb, le-leb, lt-leb, eq-eqb, ne-eqb}
 use Rattle.collect.specs.Cells.{Cell, val}
-use Rattle.collect.specs.Chain.{Heap, Ordered, Proper, master, addr, base, last, mended, slR, slL, slideCell, Undoing}
+use Rattle.collect.specs.Chain.{Heap, Ordered, Proper, master, addr, base, last, mended, slR, slL, slideCell}
+use Rattle.collect.specs.Chain.{Undoing}
 use Rattle.collect.specs.Step.{Unlinked}
 use Rattle.collect.proofs.Counting.{both-true, leb-suc}
 use Rattle.collect.proofs.Order.{master-low, last-miss}

@@ -9,7 +9,7 @@ use lib.Dec.{ltb, leb, eqb}
 use Rattle.collect.specs.Cells.{Link, Cell, val, ptr, mk}
 
 -- The store as it is marked: registers below F, heap cells from F up to T; which cells are brackets, their ends, and
--- which heap cells are marked. And the order in which masters are linked: each cell's place, and the cell at each place.
+-- which heap cells are marked. And the order in which masters are linked: each cell's place, and each place's cell.
 pub record Heap : Type 0 where
   pub F : ℕ
   pub T : ℕ

@@ -1,7 +1,8 @@
 // The passes of compacting: threading upward, sliding upward, then the registers and the cells that have come free.
 ghost use Prim.Native.Nat.{_*_, _≤_};
 ghost use lib.ListN.{length};
-ghost use Rattle.collect.specs.Passes.{MyTurn, Turned, MarkedHeap, ThreadsHeap, ThreadedHeap, ThreadsRegisters, Layable, Lays, Slidable, Slides, Settleable, Settles, Cleared};
+ghost use Rattle.collect.specs.Passes.{MyTurn, Turned, MarkedHeap, ThreadsHeap, ThreadedHeap, ThreadsRegisters};
+ghost use Rattle.collect.specs.Passes.{Layable, Lays, Slidable, Slides, Settleable, Settles, Cleared};
 use crate::chains::Pair;
 
 // Links m, a register or marked cell with the second word w, if it is a bracket with contents.

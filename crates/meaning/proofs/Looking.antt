@@ -1,6 +1,7 @@
 -- The look: the words from a register's left end to its right end, and no word where there is nothing to look at.
 -- Assumes nothing.
-use mathlib.Core.Path.{_≡_, refl}
+use mathlib.Core.Path.{_≡_, refl, ap, _∙_}
+use mathlib.Core.Logic.{_⊎_, inl, inr}
 use mathlib.Core.List.{List, []}
 use Prim.Native.Nat.{ℕ, suc, _+_, _-_, _*_, _≤_, _<_}
 use native.Mathlib.Omega.{arith}
@@ -12,6 +13,7 @@ use Rattle.meaning.specs.Sound.{Cell, code, hollow, ends, at, Sound}
 use Rattle.meaning.specs.Meaning.{meaning}
 use Rattle.meaning.specs.Check.{only, check, size, start, spanOf, lookSpan, look}
 use Rattle.meaning.proofs.Cells.{BracketIn, good}
+use Rattle.meaning.proofs.Lists.{lt-or-ge}
 use Rattle.meaning.proofs.Checking.{sound-check}
 use Rattle.meaning.proofs.Stepping.{size-terms}
 
@@ -34,16 +36,26 @@ module _ (F : ℕ) (ws : List ℕ) (top : ℕ) (s : Sound F ws top) (i : ℕ) wh
   unfolding look spanOf
   look-none h = rw (span-none h) refl
 
+  -- an empty register, and a cell that is none
+  pub look-empty : at ws i ≡ hollow → look F ws top i ≡ []
+  unfolding look spanOf
+  look-empty e = go (lt-or-ge i F)
+    where
+      go : (i < F) ⊎ (F ≤ i) → look F ws top i ≡ []
+      go (inl h) = rw (span-register h, e) refl
+      go (inr h) = look-none h
+
 module _ (F : ℕ) (ws : List ℕ) (top : ℕ) (p : 0 < F) (s : Sound F ws top) (i : ℕ) where
   pub run-fits : i < F → 2 * start (at ws i) + 2 * size (at ws i) ≤ length ws
   run-fits h = omega (arith, run-in F top (at ws i) (good F ws top p s .regs i h), s .high)
 
-  -- two words a term
-  pub look-length : i < F → length (look F ws top i) ≡ 2 * terms (meaning ws i)
+  -- two words a cell, and so two words a term
+  pub look-size : i < F → length (look F ws top i) ≡ 2 * size (at ws i)
   unfolding look spanOf
-  look-length h =
-      rw (span-register F ws top s i h, ← size-terms F ws top p s i h)
-      (simp (length-take, length-drop) (omega (arith, run-fits h)))
+  look-size h = rw (span-register F ws top s i h) (simp (length-take, length-drop) (omega (arith, run-fits h)))
+
+  pub look-length : i < F → length (look F ws top i) ≡ 2 * terms (meaning ws i)
+  look-length h = look-size h ∙ ap (λ (n : ℕ). 2 * n) (size-terms F ws top p s i h)
 
   -- the words from the left end on
   pub look-word : i < F → (k : ℕ) → k < 2 * size (at ws i)

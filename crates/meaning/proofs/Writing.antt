@@ -65,11 +65,6 @@ pub bracket-wider : (F : ℕ) {lim lim′ a b : ℕ} → lim ≤ lim′ → IsBr
 bracket-wider F h isEmpty = isEmpty
 bracket-wider F h (isFull x y z) = isFull x y (le-trans z h)
 
-pub bracketIn-wider : (F lim lim′ : ℕ) (b : Cell) → lim ≤ lim′ → BracketIn F lim b → BracketIn F lim′ b
-bracketIn-wider F lim lim′ (code a) h t = t
-bracketIn-wider F lim lim′ hollow h t = t
-bracketIn-wider F lim lim′ (ends l r) h t = (t .0, t .1, le-trans (t .2) h)
-
 pub termIn-wider : (F lim lim′ : ℕ) (b : Cell) → lim ≤ lim′ → TermIn F lim b → TermIn F lim′ b
 termIn-wider F lim lim′ (code a) h t = t
 termIn-wider F lim lim′ hollow h t = t

@@ -14,6 +14,7 @@
 -- Everything is over the first heap cell F as a parameter. In a signature `ws` are the store's words and `c` is a cell.
 -- Names of laws end in -same, -other (after a cell is put), -length, -kept (unchanged), -mono, -step (one turn),
 -- -unique, -iff.
+-- Assumes nothing.
 pub mod Limits
 pub mod Expr
 pub mod Sound

@@ -11,6 +11,7 @@
 --   Gathering  demand 2, collecting
 --   Rules, Numbers, Tables   demand 1
 --   Once       one outcome
+-- Assumes nothing.
 pub mod Canons
 pub mod Follow
 pub mod Pairs

@@ -1,28 +1,26 @@
 -- Demand 1: the tables of the public functions.
 -- Assumes nothing.
 use mathlib.Core.Path.{_≡_, refl, ap, _∙_}
-use mathlib.Core.Logic.{_⊎_, inl, inr, _≢_}
+use mathlib.Core.Logic.{inl, inr, _≢_}
 use mathlib.Core.Bool.{Bool, true, false, cond}
 use mathlib.Core.List.{List, [], _∷_}
-use Prim.Native.Nat.{ℕ, zero, suc, _+_, _-_, _*_, _/_, _≤_, _<_}
+use Prim.Native.Nat.{ℕ, zero, suc, _+_, _-_, _*_, _/_, _≤_}
 use native.Mathlib.Omega.{arith}
-use lib.Dec.{ltb, leb}
-use lib.ListN.{length, getD, take, drop, length-take, length-drop}
-use lib.Seq.{getD-take, getD-drop}
-use borrow.Author.Tests.{lt-ltb, le-ltb, leb-true, le-leb}
+use lib.Dec.{leb}
+use lib.ListN.{length}
+use borrow.Author.Tests.{leb-true, le-leb}
 use Rattle.meaning.specs.Limits.{limit, callsLimit}
 use Rattle.meaning.specs.Expr.{Expr}
-use Rattle.meaning.specs.Sound.{hollow, ends, at, capacity, Sound}
+use Rattle.meaning.specs.Sound.{at, capacity, Sound}
 use Rattle.meaning.specs.Meaning.{meaning}
 use Rattle.meaning.specs.Reach.{live}
 use Rattle.meaning.specs.Collected.{collected, collectedTop}
 use Rattle.meaning.specs.Check.{Verdict, only, done, refused, lengthTest, check, onZero, fresh, freshIn, collectIn}
-use Rattle.meaning.specs.Check.{spanOf, lookSpan, look}
+use Rattle.meaning.specs.Check.{look}
 use Rattle.meaning.specs.Call.{fault, opAt, step}
 use Rattle.meaning.specs.Effect.{Effect, after, answer, callStatus}
 use Rattle.meaning.specs.Batch.{Outcome, asLent, ended, batchOf, callsTest, batch, runs as calling}
-use Rattle.meaning.proofs.Lists.{lt-or-ge}
-use Rattle.meaning.proofs.Cells.{good, BracketIn}
+use Rattle.meaning.proofs.Looking.{look-none, look-empty, look-size, look-word, look-unsound}
 use Rattle.meaning.proofs.Checking.{sound, check-sound, sound-check}
 use Rattle.meaning.proofs.Fresh.{fresh-sound, fresh-empty}
 use Rattle.promises.specs.Calls.{effect, lacking}
@@ -104,57 +102,30 @@ collect-answers F ws top = go (check F ws top .status) refl
 
 -- ---- the look
 
-module _ (ws : List ℕ) (l r : ℕ) (h : 2 * suc r ≤ length ws) (k : l ≤ r) where
-  part : List ℕ
-  part = take (2 * l + 2 * (suc r - l) - 2 * l) (drop (2 * l) ws)
-
-  part-length : length part ≡ 2 * (suc r - l)
-  unfolding part
-  part-length = simp (length-take, length-drop) (omega arith)
-
-  part-at : (j : ℕ) → j < length part → getD part j 0 ≡ getD ws (2 * l + j) 0
-  unfolding part
-  part-at j g = let m : j < 2 * l + 2 * (suc r - l) - 2 * l = omega (arith, part-length) in rw (getD-take, getD-drop)
-
 pub look-answers : LookAnswers
-unfolding look lookSpan spanOf only part
-look-answers F p ws top i = go (check F ws top .status) refl (lt-or-ge i F)
+unfolding only
+look-answers F p ws top i = go (check F ws top .status) refl
   where
-    go : (n : ℕ) → check F ws top .status ≡ n → (i < F) ⊎ (F ≤ i)
-        → LookTable F ws top i
-        (let s = onZero n (cond (ltb i F) (spanOf (at ws i)) (spanOf hollow)) (spanOf hollow) in take
-        (s .to - s .from) (drop (s .from) ws))
-    go zero e (inl l) =
+    go : (n : ℕ) → check F ws top .status ≡ n → LookTable F ws top i (look F ws top i)
+    go zero e =
         let s = check-sound F ws top e in
-        rw (lt-ltb i F l)
-        (record {
+        record {
           unsound = λ n. absurd (n s);
-          none = λ m. absurd (omega arith);
-          empty = λ z. rw z refl;
-          cells = λ x y q m z.
-              let t : BracketIn F top (ends x y) = rw z at (good F ws top p s .regs i l) in
-              rw z (
-                part-length ws x y (omega (arith, t .2, s .high)) (t .1),
-                part-at ws x y
-                    (omega (arith, t .2, s .high)) (t .1),
-              );
-        })
-    go zero e (inr l) =
-        rw (le-ltb i F l) (record {
-          unsound = λ n. refl;
-          none = λ m. refl;
-          empty = λ z. refl;
-          cells = λ x y q m
-              z. absurd (omega arith);
-        })
-    go (suc n) e l = record {
-      unsound = λ m. refl;
-      none = λ m. refl;
-      empty = λ z. refl;
-      cells = λ x y q m z. absurd
-          (let c : check F ws top .status ≡ 0 = ap (λ (v : Verdict). v .status) (sound-check F ws top q) in omega
-          arith);
-    }
+          none = λ m. look-none F ws top s i m;
+          empty = λ z. look-empty F ws top s i z;
+          cells = λ x y q m z. (
+            rw z at (look-size F ws top p s i m),
+            λ j h. rw z at (look-word F ws top p s i m j (rw (look-size F ws top p s i m) at h)),
+          );
+        }
+    go (suc n) e =
+        let z = look-unsound F ws top i n e in
+        record {
+          unsound = λ _. z;
+          none = λ _. z;
+          empty = λ _. z;
+          cells = λ x y s m w. absurd (let q = ap (λ (v : Verdict). v .status) (sound-check F ws top s) in omega arith);
+        }
 
 -- ---- a batch
 

@@ -5,6 +5,7 @@
 --   Alike       demand 3: collections never show
 --   Unique      no claim leaves a second outcome
 -- Everything is over the first heap cell F, which is more than 0.
+-- Assumes nothing.
 pub mod Table
 pub mod Collecting
 pub mod Calls

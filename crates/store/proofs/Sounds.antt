@@ -20,9 +20,6 @@ use Rattle.store.specs.declared.Checked.{Checked}
 pub firstCell-pos : 0 < firstCell
 firstCell-pos = lit< tt
 
-onZero-yes : {A : Type 0} (s : ℕ) (x y : A) → s ≡ 0 → onZero s x y ≡ x
-onZero-yes s x y e = rw e refl
-
 onZero-no : {A : Type 0} (s : ℕ) (x y : A) → s ≢ 0 → onZero s x y ≡ y
 onZero-no zero x y n = absurd (n refl)
 onZero-no (suc s) x y n = refl
@@ -47,9 +44,6 @@ module _ (F : ℕ) (ws : List ℕ) (top : ℕ) (found : Checked) (q : verdictOf 
     λ e. check-sound F ws top (status-zero e),
     λ s. eq-eqb (verdictOf found .status) 0 (status ∙ ap (λ (v : Verdict). v .status) (sound-check F ws top s)),
   )
-
-  pub ifSound-yes : {A : Type 0} (x y : A) → zero? ≡ true → ifSound (check F ws top) x y ≡ x
-  ifSound-yes x y e = onZero-yes (check F ws top .status) x y (status-zero e)
 
   pub ifSound-no : {A : Type 0} (x y : A) → zero? ≡ false → ifSound (check F ws top) x y ≡ y
   ifSound-no x y e = onZero-no (check F ws top .status) x y (sound-no e)

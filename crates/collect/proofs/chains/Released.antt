@@ -10,7 +10,8 @@ use native.Mathlib.Decide.{ℕ-discrete}
 use lib.ListN.{length}
 use Rattle.words.specs.Cell.{firstWord, secondWord, putCell, putSecond}
 use Rattle.words.specs.Second.{Second, decode, withRi, withRc, withLc, bit}
-use Rattle.words.proofs.Cells.{putSecond-length, secondWord-same, firstWord-other, secondWord-other, secondWord-putSecond-same, secondWord-putSecond-other}
+use Rattle.words.proofs.Cells.{putSecond-length, secondWord-same, firstWord-other, secondWord-other}
+use Rattle.words.proofs.Cells.{secondWord-putSecond-same, secondWord-putSecond-other}
 use Rattle.meaning.proofs.Cells.{limit-fits}
 use Rattle.collect.specs.Cells.{Link, Cell, linked, cell, val, mk}
 use Rattle.collect.specs.Chain.{Heap, master, count, addr, last, MovedTo}

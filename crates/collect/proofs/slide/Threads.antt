@@ -15,7 +15,8 @@ use Rattle.meaning.proofs.Cells.{limit-fits}
 use Rattle.collect.specs.Cells.{Link, Cell, cell, val, ptr}
 use Rattle.collect.specs.Chain.{Heap, master, base, last}
 use Rattle.collect.specs.Step.{Joined}
-use Rattle.collect.specs.Passes.{fullWord, Frame, Threaded, Linkable, Turn, MyTurn, Turned, MarkedHeap, ThreadsHeap, ThreadedHeap, ThreadsRegisters}
+use Rattle.collect.specs.Passes.{fullWord, Frame, Threaded, Linkable, Turn, MyTurn, Turned, MarkedHeap}
+use Rattle.collect.specs.Passes.{ThreadsHeap, ThreadedHeap, ThreadsRegisters}
 use Rattle.collect.proofs.Order.{master-full, master-dead, master-low, ri-other, pos-ri}
 use Rattle.collect.proofs.Linking.{thR-ahead, thL-ahead, thL-past, thread-skip, thread-hit}
 

@@ -2,7 +2,8 @@
 use borrow.Author.Needs.{needs}
 use mathlib.Core.Path.{sym, _∙_}
 use native.Mathlib.Omega.{arith}
-use Rattle.collect.proofs.chains.Released.{Releasing, left, release-room, release-start, release-next, release-again, release-less, release-end}
+use Rattle.collect.proofs.chains.Released.{Releasing, left, release-room, release-start, release-next}
+use Rattle.collect.proofs.chains.Released.{release-again, release-less, release-end}
 use Rattle.collect.proofs.chains.release.Statement.{statement}
 use Rattle.collect.proofs.chains.release.Tie as tie
 

@@ -3,7 +3,8 @@ use borrow.Author.Needs.{needs}
 use Prim.Native.Nat.{_-_}
 use native.Mathlib.Omega.{arith}
 use Rattle.meaning.specs.Limits.{firstCell}
-use Rattle.collect.proofs.slide.Rest.{Settling, settling-start, settling-room, settling-lay, settling-again, settling-end}
+use Rattle.collect.proofs.slide.Rest.{Settling, settling-start, settling-room, settling-lay, settling-again}
+use Rattle.collect.proofs.slide.Rest.{settling-end}
 use Rattle.collect.proofs.slide.settle_registers.Statement.{statement}
 use Rattle.collect.proofs.slide.settle_registers.Tie as tie
 

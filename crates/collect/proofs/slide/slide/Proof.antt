@@ -3,7 +3,8 @@ use borrow.Author.Needs.{needs}
 use mathlib.Core.Logic.{⊎-elim}
 use Prim.Native.Nat.{_-_}
 use native.Mathlib.Omega.{arith}
-use Rattle.collect.proofs.slide.Sweeps.{Swept, swept-start, swept-room, swept-small, swept-release, swept-lay, swept-hit, swept-miss, swept-end}
+use Rattle.collect.proofs.slide.Sweeps.{Swept, swept-start, swept-room, swept-small, swept-release, swept-lay}
+use Rattle.collect.proofs.slide.Sweeps.{swept-hit, swept-miss, swept-end}
 use Rattle.collect.proofs.slide.slide.Statement.{statement}
 use Rattle.collect.proofs.slide.slide.Tie as tie
 

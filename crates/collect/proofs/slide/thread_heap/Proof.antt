@@ -3,7 +3,8 @@ use borrow.Author.Needs.{needs}
 use mathlib.Core.Logic.{⊎-elim}
 use Prim.Native.Nat.{_-_}
 use native.Mathlib.Omega.{arith}
-use Rattle.collect.proofs.slide.Threads.{Heaping, heaping-start, heaping-room, heaping-turn, heaping-hit, heaping-miss, heaping-end}
+use Rattle.collect.proofs.slide.Threads.{Heaping, heaping-start, heaping-room, heaping-turn, heaping-hit}
+use Rattle.collect.proofs.slide.Threads.{heaping-miss, heaping-end}
 use Rattle.collect.proofs.slide.thread_heap.Statement.{statement}
 use Rattle.collect.proofs.slide.thread_heap.Tie as tie
 

@@ -3,7 +3,8 @@ use borrow.Author.Needs.{needs}
 use Prim.Native.Nat.{_-_}
 use native.Mathlib.Omega.{arith}
 use Rattle.meaning.specs.Limits.{firstCell}
-use Rattle.collect.proofs.slide.Threads.{Ringing, ringing-start, ringing-room, ringing-turn, ringing-again, ringing-end}
+use Rattle.collect.proofs.slide.Threads.{Ringing, ringing-start, ringing-room, ringing-turn, ringing-again}
+use Rattle.collect.proofs.slide.Threads.{ringing-end}
 use Rattle.collect.proofs.slide.thread_registers.Statement.{statement}
 use Rattle.collect.proofs.slide.thread_registers.Tie as tie
 
