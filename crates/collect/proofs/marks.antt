@@ -1,5 +1,7 @@
--- Lemmas of marking, on plain lists: marks that are added, the closure under holding, and marks that are taken off.
+-- Lemmas of marking, on plain lists: marks and notes in words, the sweep, and marks that are taken off.
 -- Assumes nothing.
-mod Adding
-mod Closure
+mod Noting
+mod Sweeping
+mod Holding
+mod Turns
 mod Clearing

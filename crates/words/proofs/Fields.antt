@@ -4,8 +4,8 @@ use mathlib.Core.Bool.{Bool, true, false}
 use Prim.Native.Nat.{ℕ, _+_, _*_, _/_, _%_, _^_, _<_}
 use native.Mathlib.Omega.{arith}
 use native.Mathlib.Nat.{lt-of-le-of-lt}
-use lib.Bits.{bitAnd, bitOr, or-zero-r, and-le-l}
-use Rattle.words.specs.Second.{bit, flag, decode, withRi, withUsed, withLc, withRc}
+use lib.Bits.{bitAnd, bitOr, or-zero-r, or-shifted, and-le-l}
+use Rattle.words.specs.Second.{bit, flag, decode, withRi, withUsed, withLc, withRc, plain}
 use Rattle.words.proofs.Laws.{ri-lt, encode-decode, decodes, bit-le}
 use Rattle.words.proofs.Masks.{read, or-bit, and-not-bit, and-not-low, low-bits, or-low}
 
@@ -64,3 +64,7 @@ module _ {w : ℕ} (h : w < 2 ^ 32) where
       let x : ℕ = bitAnd w 0xe000_0000 in
       let free : x % 2 ^ 28 ≡ 0 = omega (arith, and-not-low 3 29 h) in
       right-put h false (omega (arith, or-low 28 x free l)) l
+
+-- a number under the mark, and no other flag
+pub marked-put : (n : ℕ) → n < 2 ^ 28 → decode (bitOr (2 ^ 30) n) ≡ withUsed true (plain false n)
+marked-put n l = decodes {s = withUsed true (plain false n)} (or-shifted 1 30 n (omega arith)) l

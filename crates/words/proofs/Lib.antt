@@ -2,5 +2,6 @@
 pub mod Laws
 pub mod Masks
 pub mod Plain
+pub mod Notes
 pub mod Cells
 mod Fields

@@ -6,7 +6,9 @@ ghost use Prim.Native.Nat.{_+_, _*_, _<_, _^_};
 ghost use lib.Dec.{eqb};
 ghost use lib.ListN.{length};
 ghost use Rattle.words.specs.Cell.{firstWord, secondWord, putCell, putFirst, putSecond};
-ghost use Rattle.words.specs.Second.{Second, decode, withRi, withUsed, withLc, withRc, bracketTo};
+ghost use Rattle.words.specs.Second.{Second, bit, decode, withRi, withUsed, withLc, withRc};
+ghost use Rattle.words.specs.Second.{plain, bracketTo};
+ghost use Rattle.words.specs.First.{noteOf, leftOf, withNote};
 
 const BRACKET: u32 = 1 << 31;
 
@@ -17,6 +19,9 @@ const LEFT_CHAIN: u32 = 1 << 29;
 const RIGHT_CHAIN: u32 = 1 << 28;
 
 const RIGHT_END: u32 = 0x0fff_ffff;
+
+// What a left end takes of a bracket's first word; the bits above it are spare.
+const LEFT_END: u32 = 0xffff;
 
 // The second word of an empty bracket.
 pub const EMPTY: u32 = 1 << 31;
@@ -31,6 +36,13 @@ pub fn is_used(w: u32) -> bool
     ensures { λ r. ⌜ r ≡ decode w .used ⌝ }
 {
     w & USED != 0
+}
+
+// 1 where w has the mark, else 0.
+pub fn used_bit(w: u32) -> u32
+    ensures { λ r. ⌜ r ≡ bit (decode w .used) ⌝ }
+{
+    (w & USED) >> 30
 }
 
 pub fn has_left_chain(w: u32) -> bool
@@ -105,6 +117,37 @@ pub fn with_right_end(w: u32, r: u32) -> u32
     ensures { λ v. ⌜ decode v ≡ withRi r (withRc false (decode w)) ⌝ }
 {
     (w & !(RIGHT_CHAIN | RIGHT_END)) | r
+}
+
+// While cells are being marked, a bracket's first word has a note above its left end, and a symbol's second word has one
+// where a bracket has its right end.
+
+pub fn note(a: u32) -> u32
+    ensures { λ r. ⌜ r ≡ noteOf a ⌝ }
+{
+    a >> 16
+}
+
+pub fn left_end(a: u32) -> u32
+    ensures { λ r. ⌜ r ≡ leftOf a ⌝ }
+{
+    a & LEFT_END
+}
+
+// The first word a with the note n, whatever note it had.
+pub fn with_note(a: u32, n: u32) -> u32
+    requires { ⌜ n < 2 ^ 16 ⌝ }
+    ensures { λ v. ⌜ v ≡ withNote n (leftOf a) ⌝ }
+{
+    (a & LEFT_END) | (n << 16)
+}
+
+// The second word of a marked symbol with the note n.
+pub fn marked_symbol(n: u32) -> u32
+    requires { ⌜ n < 2 ^ 28 ⌝ }
+    ensures { λ v. ⌜ decode v ≡ withUsed true (plain false n) ⌝ }
+{
+    USED | n
 }
 
 // The words of cell c.

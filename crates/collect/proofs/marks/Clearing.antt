@@ -4,14 +4,14 @@ use mathlib.Core.Path.{_≡_, refl, sym, ap, _∙_}
 use mathlib.Core.Logic.{_⊎_, inl, inr}
 use mathlib.Core.Bool.{Bool, true, false, false≢true}
 use mathlib.Core.List.{List}
-use Prim.Native.Nat.{ℕ, _+_, _*_, _^_, _≤_, _<_}
+use Prim.Native.Nat.{ℕ, suc, _+_, _*_, _^_, _≤_, _<_}
 use native.Mathlib.Numerals.{add-one}
 use native.Mathlib.Omega.{arith}
 use native.Mathlib.Decide.{ℕ-discrete}
 use lib.ListN.{length}
 use Rattle.words.specs.Cell.{firstWord, secondWord, putSecond}
-use Rattle.words.specs.Second.{Second, decode, encode, withUsed}
-use Rattle.words.proofs.Laws.{encode-decode}
+use Rattle.words.specs.Second.{Second, bit, decode, encode, withUsed}
+use Rattle.words.proofs.Laws.{bit-le, encode-decode}
 use Rattle.words.proofs.Cells.{putSecond-length, firstWord-putSecond, words-ext}
 use Rattle.words.proofs.Cells.{secondWord-putSecond-same, secondWord-putSecond-other}
 use Rattle.meaning.specs.Sound.{at, Sound}
@@ -69,50 +69,41 @@ module _ (F : ℕ) (ms : List ℕ) (top : ℕ) (p : 0 < F) where
     own : secondWord ns c ≡ secondWord ms c
     own = t .rest c (λ l. omega arith)
 
-    pub clear-miss : secondWord ns c < 2 ^ 32 → usedAt ns c ≡ false → Clearing F ms top ns n (c + 1)
-    clear-miss w u = record {
+    -- one cell more, whatever its mark
+    pub clear-step : (v k : ℕ) → v < 2 ^ 32 → decode v ≡ withUsed false (decode (secondWord ns c))
+        → k ≡ bit (usedAt ns c) → 2 * c + 1 < length ns → Clearing F ms top (putSecond ns c v) (n + k) (c + 1)
+    clear-step v k w e b h = record {
       low = omega (arith, t .low);
       high = omega arith;
-      few = omega (arith, t .few);
-      len = t .len;
-      first = t .first;
-      done = λ x l h. go x l h (ℕ-discrete x c);
-      rest = λ x q. t .rest x (λ l. omega (arith, q l));
-      count = λ ws s m. rw add-one (t .count ws s m ∙ sym (new-skip F ws top p s c (λ r. bare ws m r)));
-    }
-      where
-        bare : (ws : List ℕ) → Marked F ws top ms → Reached F (at ws) c → ⊥
-        bare ws m r = false≢true (sym u ∙ ap (λ (x : ℕ). decode x .used) own ∙ m .all c r)
-
-        go : (x : ℕ) → F ≤ x → x < c + 1 → Dec (x ≡ c) → secondWord ns x ≡ cleared (secondWord ms x)
-        go x l h (yes e) = rw e (cleared-none (secondWord ns c) w u ∙ ap cleared own)
-        go x l h (no d) = t .done x l (omega arith)
-
-    pub clear-hit : (v : ℕ) → v < 2 ^ 32 → decode v ≡ withUsed false (decode (secondWord ns c)) → usedAt ns c ≡ true
-        → 2 * c + 1 < length ns → Clearing F ms top (putSecond ns c v) (n + 1) (c + 1)
-    clear-hit v w e u k = record {
-      low = omega (arith, t .low);
-      high = omega arith;
-      few = omega (arith, t .few);
+      few = omega (arith, t .few, b, bit-le (usedAt ns c));
       len = putSecond-length ns c v ∙ t .len;
       first = λ x. firstWord-putSecond ns c v x ∙ t .first x;
-      done = λ x l h. go x l h (ℕ-discrete x c);
+      done = λ x l u. done x l u (ℕ-discrete x c);
       rest = λ x q. kept x q;
-      count = λ ws s m. rw (add-one c) (omega (arith, t .count ws s m, new-after F ws top p s c (m .only c marked)));
+      count = λ ws s m. rw (add-one c) (count ws s m (usedAt ns c) refl);
     }
       where
-        marked : usedAt ms c ≡ true
-        marked = ap (λ (x : ℕ). decode x .used) (sym own) ∙ u
+        count : (ws : List ℕ) → Sound F ws top → Marked F ws top ms → (u : Bool) → usedAt ns c ≡ u
+            → F + (n + k) ≡ newAddress F (reached F ws top) (suc c)
+        count ws s m true u =
+            let marked : usedAt ms c ≡ true = ap (λ (x : ℕ). decode x .used) (sym own) ∙ u in
+            let one : k ≡ 1 = b ∙ ap bit u in
+            omega (arith, t .count ws s m, new-after F ws top p s c (m .only c marked))
+        count ws s m false u =
+            let bare : Reached F (at ws) c → ⊥ =
+            λ r. false≢true (sym u ∙ ap (λ (x : ℕ). decode x .used) own ∙ m .all c r) in
+            let none : k ≡ 0 = b ∙ ap bit u in
+            omega (arith, t .count ws s m, new-skip F ws top p s c bare)
 
         kept : (x : ℕ) → (F ≤ x → c + 1 ≤ x) → secondWord (putSecond ns c v) x ≡ secondWord ms x
         kept x q =
             secondWord-putSecond-other ns c v x (λ f. omega (arith, t .low, q (omega (arith, t .low))))
             ∙ t .rest x (λ l. omega (arith, q l))
 
-        go : (x : ℕ) → F ≤ x → x < c + 1 → Dec (x ≡ c) → secondWord (putSecond ns c v) x ≡ cleared (secondWord ms x)
-        go x l h (yes f) =
-            rw f (secondWord-putSecond-same ns c v k ∙ cleared-set v (secondWord ns c) w e ∙ ap cleared own)
-        go x l h (no d) = secondWord-putSecond-other ns c v x d ∙ t .done x l (omega arith)
+        done : (x : ℕ) → F ≤ x → x < c + 1 → Dec (x ≡ c) → secondWord (putSecond ns c v) x ≡ cleared (secondWord ms x)
+        done x l u (yes f) =
+            rw f (secondWord-putSecond-same ns c v h ∙ cleared-set v (secondWord ns c) w e ∙ ap cleared own)
+        done x l u (no d) = secondWord-putSecond-other ns c v x d ∙ t .done x l (omega arith)
 
   -- ---- when all are done
 

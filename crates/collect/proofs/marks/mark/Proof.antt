@@ -3,20 +3,20 @@ use borrow.Author.Needs.{needs}
 use Rattle.collect.proofs.marks.mark.Statement.{statement}
 use Rattle.collect.proofs.marks.mark.Tie as tie
 
-mark-registers-requires : tie.Need-mark-registers-requires
-mark-registers-requires c κs = search needs
+note-registers-requires : tie.Need-note-registers-requires
+note-registers-requires c κs = let start = c .before .before in (start .args .top, start .pre)
 
-mark-heap-requires : tie.Need-mark-heap-requires
-mark-heap-requires c κs = search needs
-
-same-length : tie.Need-same-length
-same-length c = search needs
+sweep-requires : tie.Need-sweep-requires
+sweep-requires c κs =
+    let first = c .before .before .before in
+    let start = first .before .before .before in
+    (start .args .ws .now, first .note-registers .ensures (start .args .top) (start .pre))
 
 returns : tie.Need-returns
 returns c =
     let first = c .before .before .before .before .before .before in
     let start = first .before .before .before in
-    c .before .before .mark-heap .ensures (start .args .ws .now) (start .pre) (first .mark-registers .ensures)
+    c .before .before .sweep .ensures (start .args .ws .now) (first .note-registers .ensures (start .args .top) (start .pre))
 
 pub mark-spec : {M : Type 1} → statement M
-mark-spec = tie.close (tie.spec mark-registers-requires mark-heap-requires same-length returns)
+mark-spec = tie.close (tie.spec note-registers-requires sweep-requires (λ c. search needs) returns)
