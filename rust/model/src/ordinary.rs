@@ -1,35 +1,47 @@
 //! The same store written for speed, the measure of the benchmarks.
 //!
-//! It is what one writes who may use memory beside the store: marks in a side table, runs on an
-//! explicit stack and a table of new addresses, all kept from call to call so that nothing is
-//! allocated twice. Marks are either one byte a cell ([`Bytes`]), the usual way, or one bit a cell
-//! ([`Bits`]), which passes over what is marked 64 cells at a time where runs overlap.
+//! It is what one writes who may use memory beside the store: marks in a side table and a table of
+//! new addresses, all kept from call to call so that nothing is allocated twice. There are three
+//! ways of marking, and nothing else differs:
+//!
+//! - [`Bytes`], the usual way: a byte a cell, and runs on an explicit stack.
+//! - [`Bits`]: a bit a cell and the same stack. It passes over what is marked 64 cells at a time
+//!   where runs overlap.
+//! - [`Linear`]: an address a cell and no stack. It looks at every cell once, however runs overlap.
 //!
 //! Statuses, values and words are those of [`plain`](crate::plain); a test holds them equal.
 
 use crate::plain::{Reply, BRACKET, HEAP, MOST_CALL_WORDS, MOST_CELLS, MOST_CODE};
 
-/// A set of marked cells.
+/// A way of marking.
 pub trait Marks: Default {
-    /// Unmarks everything and makes room for `cells` cells.
+    /// Marks what is reached in a sound store, nothing else, and gives its number.
+    fn mark(&mut self, words: &[u32], top: usize) -> usize;
+    /// Whether heap cell `c` is marked.
+    fn has(&self, c: usize) -> bool;
+}
+
+/// A set of cells.
+pub trait Set: Default {
+    /// Empties the set and makes room for `cells` cells.
     fn reset(&mut self, cells: usize);
-    /// Marks cells `l` to `r` and hands those that were not marked to `fresh`.
-    fn mark(&mut self, l: usize, r: usize, fresh: impl FnMut(usize));
-    /// Whether cell `c` is marked.
+    /// Adds cells `l` to `r` and hands those that were not in it to `fresh`.
+    fn add(&mut self, l: usize, r: usize, fresh: impl FnMut(usize));
+    /// Whether cell `c` is in it.
     fn has(&self, c: usize) -> bool;
 }
 
 /// A byte for each cell.
 #[derive(Debug, Default)]
-pub struct Bytes(Vec<bool>);
+pub struct ByteSet(Vec<bool>);
 
-impl Marks for Bytes {
+impl Set for ByteSet {
     fn reset(&mut self, cells: usize) {
         self.0.clear();
         self.0.resize(cells, false);
     }
 
-    fn mark(&mut self, l: usize, r: usize, mut fresh: impl FnMut(usize)) {
+    fn add(&mut self, l: usize, r: usize, mut fresh: impl FnMut(usize)) {
         for (i, mark) in self.0[l..=r].iter_mut().enumerate() {
             if !*mark {
                 *mark = true;
@@ -45,15 +57,15 @@ impl Marks for Bytes {
 
 /// A bit for each cell.
 #[derive(Debug, Default)]
-pub struct Bits(Vec<u64>);
+pub struct BitSet(Vec<u64>);
 
-impl Marks for Bits {
+impl Set for BitSet {
     fn reset(&mut self, cells: usize) {
         self.0.clear();
         self.0.resize(cells.div_ceil(64), 0);
     }
 
-    fn mark(&mut self, l: usize, r: usize, mut fresh: impl FnMut(usize)) {
+    fn add(&mut self, l: usize, r: usize, mut fresh: impl FnMut(usize)) {
         for block in l / 64..=r / 64 {
             let from = if block == l / 64 { !0 << (l % 64) } else { !0 };
             let upto = if block == r / 64 { !0 >> (63 - r % 64) } else { !0 };
@@ -71,11 +83,83 @@ impl Marks for Bits {
     }
 }
 
+/// Marking run by run: the cells met are in a set, the runs still to go through on a stack.
+#[derive(Debug, Default)]
+pub struct Walk<S> {
+    met: S,
+    runs: Vec<(usize, usize)>,
+}
+
+/// The walk with a byte for each cell.
+pub type Bytes = Walk<ByteSet>;
+/// The walk with a bit for each cell.
+pub type Bits = Walk<BitSet>;
+
+impl<S: Set> Marks for Walk<S> {
+    fn mark(&mut self, words: &[u32], top: usize) -> usize {
+        self.met.reset(top);
+        self.runs.clear();
+        self.runs.extend((0..HEAP).filter_map(|register| ends(words, register)));
+        let mut live = 0;
+        while let Some((l, r)) = self.runs.pop() {
+            let runs = &mut self.runs;
+            self.met.add(l, r, |c| {
+                live += 1;
+                runs.extend(ends(words, c));
+            });
+        }
+        live
+    }
+
+    fn has(&self, c: usize) -> bool {
+        self.met.has(c)
+    }
+}
+
+/// Marking in one sweep down.
+///
+/// The table has, for each cell, the lowest left end of the reached runs that end there, and after
+/// the sweep that of those that end there or above.
+#[derive(Debug, Default)]
+pub struct Linear(Vec<u32>);
+
+impl Linear {
+    /// Enters the run of the reached holder at `c`.
+    #[inline]
+    fn enter(&mut self, words: &[u32], c: usize) {
+        if let Some((l, r)) = ends(words, c) {
+            self.0[r] = self.0[r].min(l as u32);
+        }
+    }
+}
+
+impl Marks for Linear {
+    fn mark(&mut self, words: &[u32], top: usize) -> usize {
+        self.0.clear();
+        self.0.resize(top, u32::MAX);
+        (0..HEAP).for_each(|register| self.enter(words, register));
+        let (mut lowest, mut live) = (u32::MAX, 0);
+        // Contents lie below their bracket, so all runs over a cell are entered when it is met.
+        for c in (HEAP..top).rev() {
+            lowest = lowest.min(self.0[c]);
+            self.0[c] = lowest;
+            if self.has(c) {
+                live += 1;
+                self.enter(words, c);
+            }
+        }
+        live
+    }
+
+    fn has(&self, c: usize) -> bool {
+        self.0[c] as usize <= c
+    }
+}
+
 /// Side tables of the collector.
 #[derive(Debug, Default)]
 pub struct Ordinary<M> {
     marks: M,
-    runs: Vec<(usize, usize)>,
     place: Vec<u32>,
 }
 
@@ -183,28 +267,12 @@ fn misspelt(call: &[u32]) -> u32 {
 impl<M: Marks> Ordinary<M> {
     /// No tables yet.
     pub fn new() -> Self {
-        Ordinary { marks: M::default(), runs: Vec::new(), place: Vec::new() }
-    }
-
-    /// Marks what is reached and gives its number.
-    fn mark(&mut self, words: &[u32], top: usize) -> usize {
-        self.marks.reset(top);
-        self.runs.clear();
-        self.runs.extend((0..HEAP).filter_map(|register| ends(words, register)));
-        let mut live = 0;
-        while let Some((l, r)) = self.runs.pop() {
-            let runs = &mut self.runs;
-            self.marks.mark(l, r, |c| {
-                live += 1;
-                runs.extend(ends(words, c));
-            });
-        }
-        live
+        Ordinary { marks: M::default(), place: Vec::new() }
     }
 
     /// Collects a sound store and gives the new `top`.
     fn compact(&mut self, words: &mut [u32], top: usize) -> usize {
-        self.mark(words, top);
+        self.marks.mark(words, top);
         self.place.clear();
         self.place.resize(top, 0);
         let mut next = HEAP;
@@ -312,7 +380,7 @@ impl<M: Marks> Ordinary<M> {
             3 => self.lay(words, top, d, |words| pair(words, a))?,
             4 => self.join(words, top, d, a, b)?,
             8 => return Ok(ends(words, a).map_or(0, |(l, r)| r - l + 1)),
-            10 => return Ok(self.mark(words, *top)),
+            10 => return Ok(self.marks.mark(words, *top)),
             11 => {
                 *top = self.compact(words, *top);
                 return Ok(*top - HEAP);

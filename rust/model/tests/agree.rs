@@ -1,6 +1,6 @@
 //! The three parts of the model, held against each other and against the rules said word for word.
 
-use zelmotar_model::ordinary::{self, Bits, Bytes, Marks, Ordinary};
+use zelmotar_model::ordinary::{self, Bits, Bytes, Linear, Marks, Ordinary};
 use zelmotar_model::plain::{self, HEAP};
 use zelmotar_model::random::Random;
 use zelmotar_model::trees::Trees;
@@ -128,6 +128,7 @@ fn same_as_plain<M: Marks>(
 fn the_quick_store_is_the_plain_store() {
     let mut random = Random::of("quick");
     let (mut bytes, mut bits) = (Ordinary::<Bytes>::new(), Ordinary::<Bits>::new());
+    let mut linear = Ordinary::<Linear>::new();
     for _ in 0..20_000 {
         let capacity = make::capacity(&mut random);
         let runs = random.pick(&[Runs::Short, Runs::Any]);
@@ -140,5 +141,6 @@ fn the_quick_store_is_the_plain_store() {
         let answers = make::answers(&mut random, calls.len());
         same_as_plain(&mut bytes, &words, top, &calls, &answers);
         same_as_plain(&mut bits, &words, top, &calls, &answers);
+        same_as_plain(&mut linear, &words, top, &calls, &answers);
     }
 }
