@@ -1,25 +1,28 @@
 //! How long the library takes, measured against the ordinary store of the model in the same run.
 //!
-//! Run it with `cargo bench --bench ratios`. It prints the tables of `docs/BENCHMARKS.md`. The
-//! ordinary store may use memory beside the store; it marks either a byte or a bit for each cell.
+//! Run it with `cargo bench --bench ratios`. It prints the tables of `docs/BENCHMARKS.md`; with
+//! `-- growth` behind, those of growth alone. The ordinary store may use memory beside the store; it
+//! marks a byte for each cell, a bit for each cell, or in one sweep over the cells.
 //!
 //! Contenders take turns on the same stores. Each call gets a copy of the store that was written
 //! just before, and the least time of all rounds counts. Before anything is timed, all contenders
-//! must leave the same words.
+//! must leave the same words and give the same answers.
 
-use std::fs;
-use std::hint::black_box;
 use std::time::{Duration, Instant};
+use std::{env, fs, hint::black_box, iter};
 
 use zelmotar::{raw, Call};
-use zelmotar_model::ordinary::{self, Bits, Bytes, Ordinary};
-use zelmotar_model::plain::{self, Cell, HEAP};
+use zelmotar_model::ordinary::{self, Bits, Bytes, Linear, Marks, Ordinary};
+use zelmotar_model::plain::{self, Cell, Reply, HEAP, MOST_CELLS};
 
 /// Words and `top`.
 type Lent = (Vec<u32>, usize);
 
-/// Something that works on a store.
-type Contender<'a> = Box<dyn FnMut(&mut [u32], usize) + 'a>;
+/// Something that works on a store: words, `top` and an answer space go in.
+type Contender<'a> = Box<dyn FnMut(&mut [u32], usize, &mut [u32]) -> Reply + 'a>;
+
+/// The library, then the ordinary store with bytes, with bits and linear. A column may be empty.
+type Columns<T> = [Option<T>; 4];
 
 /// Calls in a timed batch.
 const BATCH: usize = 1024;
@@ -27,6 +30,9 @@ const BATCH: usize = 1024;
 const ROW_TIME: Duration = Duration::from_millis(60);
 /// Rounds in a row, even where they take longer than that.
 const LEAST_ROUNDS: usize = 5;
+/// Beyond this capacity growth leaves out what would take too long: batches of many calls, and walks
+/// where runs overlap.
+const ALL_UP_TO: usize = 4096;
 
 /// Registers that the timed calls use; the stores leave them empty.
 const SCRATCH: [u32; 4] = [12, 13, 14, 15];
@@ -51,23 +57,47 @@ fn site(capacity: usize, each: usize) -> Lent {
     (words, end)
 }
 
-/// A full store in which every other group of four cells is dead.
+/// A full store of groups of four cells, of which one in `one_in` is live.
 ///
 /// A group is a bracket around an earlier group, then three symbols. The live groups form twelve
 /// lists, one to a register.
-fn half_dead(capacity: usize) -> Lent {
+fn lists(capacity: usize, one_in: usize) -> Lent {
     let (mut words, _) = empty_store(capacity);
     let mut last = [Cell::Empty; 12];
     for (group, c) in (HEAP..capacity).step_by(4).enumerate() {
-        let list = group / 2 % last.len();
+        let list = group / one_in % last.len();
         plain::put(&mut words, c, last[list]);
         (1..4).for_each(|i| plain::put(&mut words, c + i, Cell::Symbol(i as u32)));
-        if group % 2 == 0 {
+        if group % one_in == 0 {
             last[list] = Cell::Bracket(c, c + 3);
         }
     }
     (0..last.len()).for_each(|list| plain::put(&mut words, list, last[list]));
     (words, capacity)
+}
+
+fn half_dead(capacity: usize) -> Lent {
+    lists(capacity, 2)
+}
+
+fn all_live(capacity: usize) -> Lent {
+    lists(capacity, 1)
+}
+
+/// A full store of readings as text is laid: all their symbols, then the brackets side by side,
+/// each over three symbols.
+fn readings(capacity: usize) -> Lent {
+    let (mut words, top) = empty_store(capacity);
+    let count = (capacity - top) / 4;
+    let (brackets, end) = (top + 3 * count, top + 4 * count);
+    for c in top..brackets {
+        plain::put(&mut words, c, Cell::Symbol(c as u32));
+    }
+    for (c, l) in (brackets..end).zip((top..).step_by(3)) {
+        plain::put(&mut words, c, Cell::Bracket(l, l + 2));
+    }
+    plain::put(&mut words, 0, Cell::Bracket(brackets, end - 1));
+    (words, end)
 }
 
 /// Calls of all kinds on the scratch registers and on register 0.
@@ -123,137 +153,193 @@ fn day() -> Lent {
     (words, reply.top)
 }
 
+/// What is timed, with the check that precedes it.
+#[derive(Clone, Copy)]
+enum Work<'a> {
+    Check,
+    Collect,
+    /// A batch of one LIVE call.
+    Live,
+    /// A batch of many calls.
+    Run(&'a [u32]),
+}
+
+impl<'a> Work<'a> {
+    fn name(self) -> &'static str {
+        match self {
+            Work::Check => "check",
+            Work::Collect => "collect",
+            Work::Live => "live",
+            Work::Run(_) => "run",
+        }
+    }
+
+    /// The calls of the batch, if it is one.
+    fn calls(self) -> &'a [u32] {
+        const LIVE: [u32; 4] = Call::Live.words();
+        match self {
+            Work::Check | Work::Collect => &[],
+            Work::Live => &LIVE,
+            Work::Run(calls) => calls,
+        }
+    }
+
+    /// The library at this work.
+    fn library(self) -> Contender<'a> {
+        let told = |raw::Reply { status, value, top }| Reply { status, value, top };
+        match self {
+            Work::Check => Box::new(move |words, top, _| told(raw::check(words, top))),
+            Work::Collect => Box::new(move |words, top, _| told(raw::collect(words, top))),
+            Work::Live | Work::Run(_) => Box::new(move |words, top, answers| {
+                told(raw::run(words, top, self.calls(), answers))
+            }),
+        }
+    }
+
+    /// The ordinary store at this work.
+    fn ordinary<M: Marks + 'a>(self) -> Contender<'a> {
+        let mut tables = Ordinary::<M>::new();
+        match self {
+            Work::Check => Box::new(|words, top, _| ordinary::check(words, top)),
+            Work::Collect => Box::new(move |words, top, _| tables.collect(words, top)),
+            Work::Live | Work::Run(_) => {
+                Box::new(move |words, top, answers| tables.run(words, top, self.calls(), answers))
+            }
+        }
+    }
+
+    /// All at this work. A check marks nothing, so one ordinary store does for it. Without `walks`
+    /// those are left out that go through every run.
+    fn contenders(self, walks: bool) -> Columns<Contender<'a>> {
+        let library = Some(self.library());
+        match self {
+            Work::Check => [library, Some(self.ordinary::<Bytes>()), None, None],
+            _ => [
+                library,
+                walks.then(|| self.ordinary::<Bytes>()),
+                walks.then(|| self.ordinary::<Bits>()),
+                Some(self.ordinary::<Linear>()),
+            ],
+        }
+    }
+}
+
 /// Copies of a store, as many as stay in the nearer caches, on which work is timed together.
 struct Copies {
     words: Vec<Vec<u32>>,
+    answers: Vec<u32>,
 }
 
 impl Copies {
-    fn of(store: &Lent) -> Copies {
+    fn of(store: &Lent, work: Work) -> Copies {
         let count = (1 << 16) / store.0.len();
-        Copies { words: vec![store.0.clone(); count.clamp(1, 64)] }
+        let words = vec![store.0.clone(); count.clamp(1, 64)];
+        Copies { words, answers: vec![0; work.calls().len() / 2] }
     }
 
     /// The time of one call on one copy, each of which is written anew before.
-    fn time(&mut self, store: &Lent, work: &mut Contender) -> Duration {
+    fn time(&mut self, store: &Lent, contender: &mut Contender) -> Duration {
         self.words.iter_mut().for_each(|copy| copy.copy_from_slice(&store.0));
         let start = Instant::now();
         for copy in &mut self.words {
-            work(black_box(copy), store.1);
+            black_box(contender(black_box(copy), store.1, &mut self.answers));
         }
         start.elapsed() / self.words.len() as u32
     }
 }
 
 /// Microseconds of each contender.
-fn contest(store: &Lent, contenders: &mut [Contender]) -> Vec<f64> {
-    assert_same_words(store, contenders);
-    let mut copies = Copies::of(store);
-    let mut least = vec![Duration::MAX; contenders.len()];
-    let (start, limit) = (Instant::now(), ROW_TIME * contenders.len() as u32);
-    let mut rounds = 0;
+fn contest(store: &Lent, work: Work, mut contenders: Columns<Contender>) -> Columns<f64> {
+    assert_same(store, work, &mut contenders);
+    let mut copies = Copies::of(store, work);
+    let mut timed = contenders.map(|column| column.map(|contender| (contender, Duration::MAX)));
+    let limit = ROW_TIME * timed.iter().flatten().count() as u32;
+    let (start, mut rounds) = (Instant::now(), 0);
     while rounds < LEAST_ROUNDS || start.elapsed() < limit {
-        for (least, work) in least.iter_mut().zip(&mut *contenders) {
-            *least = copies.time(store, work).min(*least);
+        for (contender, least) in timed.iter_mut().flatten() {
+            *least = copies.time(store, contender).min(*least);
         }
         rounds += 1;
     }
-    least.iter().map(|time| time.as_nanos() as f64 / 1000.0).collect()
+    timed.map(|column| column.map(|(_, least)| least.as_nanos() as f64 / 1000.0))
 }
 
-fn assert_same_words(store: &Lent, contenders: &mut [Contender]) {
-    let after = contenders.iter_mut().map(|work| {
-        let mut words = store.0.clone();
-        work(&mut words, store.1);
-        words
+fn assert_same(store: &Lent, work: Work, contenders: &mut Columns<Contender>) {
+    let after = contenders.iter_mut().flatten().map(|contender| {
+        let (mut words, mut answers) = (store.0.clone(), vec![0; work.calls().len() / 2]);
+        let reply = contender(&mut words, store.1, &mut answers);
+        assert_eq!(reply.status, 0, "a contender refuses the store");
+        (reply, words, answers)
     });
     let after: Vec<_> = after.collect();
-    assert!(after.windows(2).all(|pair| pair[0] == pair[1]), "contenders leave different words");
+    assert!(after.windows(2).all(|pair| pair[0] == pair[1]), "contenders differ");
 }
 
-/// Prints one row: the times, and the library's as a multiple of the others.
-fn row(name: &str, store: &Lent, mut contenders: Vec<Contender>) {
-    let times = contest(store, &mut contenders);
-    let others: String =
-        times[1..].iter().map(|other| format!(" {other:.2} | {:.2} |", times[0] / other)).collect();
-    let none = if times.len() < 3 { " | |" } else { "" };
-    println!("| {name} | {:.2} |{others}{none}", times[0]);
-}
-
-fn check_row(name: &str, store: &Lent) {
-    let library: Contender = Box::new(|words, top| {
-        black_box(raw::check(words, top));
+/// Prints one row: the times, and the library's for each occupied cell and as a multiple of the
+/// others.
+fn row(work: Work, of: &str, store: &Lent, walks: bool) {
+    let [library, others @ ..] = contest(store, work, work.contenders(walks));
+    let library = library.expect("the library is in every row");
+    let per_cell = match work {
+        Work::Run(_) => String::new(),
+        _ => format!(" {:.2}", 1000.0 * library / store.1 as f64),
+    };
+    let others = others.map(|other| match other {
+        Some(other) => format!(" {other:.2} | {:.2} |", library / other),
+        None => " | |".to_string(),
     });
-    let ordinary: Contender = Box::new(|words, top| {
-        black_box(ordinary::check(words, top));
-    });
-    row(name, store, vec![library, ordinary]);
-}
-
-fn collect_row(name: &str, store: &Lent) {
-    let (mut bytes, mut bits) = (Ordinary::<Bytes>::new(), Ordinary::<Bits>::new());
-    let library: Contender = Box::new(|words, top| {
-        black_box(raw::collect(words, top));
-    });
-    let by_bytes: Contender = Box::new(|words, top| {
-        black_box(bytes.collect(words, top));
-    });
-    let by_bits: Contender = Box::new(|words, top| {
-        black_box(bits.collect(words, top));
-    });
-    row(name, store, vec![library, by_bytes, by_bits]);
-}
-
-fn run_row(name: &str, store: &Lent, calls: &[u32]) {
-    let (mut bytes, mut bits) = (Ordinary::<Bytes>::new(), Ordinary::<Bits>::new());
-    let mut spaces = [(); 3].map(|()| vec![0; 2 * BATCH]);
-    let [first, second, third] = &mut spaces;
-    let library: Contender = Box::new(|words, top| {
-        black_box(raw::run(words, top, calls, first));
-    });
-    let by_bytes: Contender = Box::new(|words, top| {
-        black_box(bytes.run(words, top, calls, second));
-    });
-    let by_bits: Contender = Box::new(|words, top| {
-        black_box(bits.run(words, top, calls, third));
-    });
-    row(name, store, vec![library, by_bytes, by_bits]);
-    assert!(spaces[0] == spaces[1] && spaces[0] == spaces[2], "contenders give different answers");
+    println!("| {}, {of} | {library:.2} |{per_cell} |{}", work.name(), others.concat());
 }
 
 fn table(title: &str) {
     println!("\n{title}\n");
-    println!("| work | library, µs | ordinary, µs | ratio | ordinary with bits, µs | ratio |");
-    println!("|---|--:|--:|--:|--:|--:|");
+    println!(
+        "| work | library, µs | per cell, ns | ordinary, µs | ratio | ordinary with bits, µs | ratio \
+         | ordinary linear, µs | ratio |"
+    );
+    println!("|---|--:|--:|--:|--:|--:|--:|--:|--:|");
 }
 
-/// The three stores that a reader may have.
+/// The stores that a reader may have.
 fn stores() {
-    let (site, half, day) = (site(4096, 2000), half_dead(4096), day());
-    table("Three stores. `run` is a batch of 1,024 calls.");
-    check_row("check, site", &site);
-    check_row("check, half dead", &half);
-    check_row("check, day", &day);
-    collect_row("collect, site", &site);
-    collect_row("collect, half dead", &half);
-    collect_row("collect, day", &day);
-    run_row("run, site", &site, &mixed_calls());
-    run_row("run, half dead", &half, &mixed_calls());
-    run_row("run, day from its start", &empty_store(1024), &day_calls());
+    table("Five stores. `live` is a batch of one LIVE call, `run` is one of 1,024 calls.");
+    let stores = [
+        ("site", site(4096, 2000)),
+        ("half dead", half_dead(4096)),
+        ("all live", all_live(4096)),
+        ("readings", readings(4096)),
+        ("day", day()),
+    ];
+    for work in [Work::Check, Work::Collect, Work::Live] {
+        stores.iter().for_each(|(name, store)| row(work, name, store, true));
+    }
+    let calls = mixed_calls();
+    stores[..2].iter().for_each(|(name, store)| row(Work::Run(&calls), name, store, true));
+    row(Work::Run(&day_calls()), "day from its start", &empty_store(1024), true);
 }
 
-/// One kind of store at capacities from 64 to 4,096 cells.
-fn growth(title: &str, store: impl Fn(usize) -> Lent) {
-    let capacities = [64, 128, 256, 512, 1024, 2048, 4096];
+/// One kind of store at capacities from 64 cells to the largest, each twice the one before.
+fn growth(title: &str, store: impl Fn(usize) -> Lent, works: &[Work], overlaps: bool) {
     table(title);
-    capacities.iter().for_each(|&cells| check_row(&format!("check, {cells} cells"), &store(cells)));
-    capacities
-        .iter()
-        .for_each(|&cells| collect_row(&format!("collect, {cells} cells"), &store(cells)));
+    for &work in works {
+        for cells in iter::successors(Some(64), |cells| Some(2 * cells)) {
+            let large = cells > ALL_UP_TO;
+            if cells > MOST_CELLS || large && matches!(work, Work::Run(_)) {
+                break;
+            }
+            row(work, &format!("{cells} cells"), &store(cells), !(large && overlaps));
+        }
+    }
+}
+
+fn growths() {
     let calls = mixed_calls();
-    capacities
-        .iter()
-        .for_each(|&cells| run_row(&format!("run, {cells} cells"), &store(cells), &calls));
+    let run = Work::Run(&calls);
+    let works = [Work::Check, Work::Collect, Work::Live, run];
+    growth("Growth, full stores half dead.", half_dead, &works, false);
+    growth("Growth, full stores all live.", all_live, &works[1..3], false);
+    let site_like = |cells| site(cells, (cells - HEAP) * 49 / 100);
+    growth("Growth, brackets that all hold the same symbols.", site_like, &works[1..], true);
 }
 
 /// The processor's name, where the system tells it.
@@ -264,10 +350,10 @@ fn processor() -> String {
 }
 
 fn main() {
-    println!("Machine: {}, {}", processor(), std::env::consts::ARCH);
-    stores();
-    growth("Growth, full stores half dead.", half_dead);
-    growth("Growth, brackets that all hold the same symbols.", |cells| {
-        site(cells, (cells - HEAP) * 49 / 100)
-    });
+    println!("Machine: {}, {}", processor(), env::consts::ARCH);
+    // Cargo adds a word of its own.
+    if !env::args().any(|word| word == "growth") {
+        stores();
+    }
+    growths();
 }
