@@ -1,7 +1,7 @@
 //! How long the library takes, measured against the ordinary store of the model in the same run.
 //!
 //! Run it with `cargo bench --bench ratios`. It prints the tables of `docs/BENCHMARKS.md`; with
-//! `-- growth` behind, those of growth alone. The ordinary store may use memory beside the store; it
+//! `-- growth` behind, those of growth alone, and with `-- stores` all but those. The ordinary store may use memory beside the store; it
 //! marks a byte for each cell, a bit for each cell, or in one sweep over the cells.
 //!
 //! Contenders take turns on the same stores. Each call gets a copy of the store that was written
@@ -352,8 +352,11 @@ fn processor() -> String {
 fn main() {
     println!("Machine: {}, {}", processor(), env::consts::ARCH);
     // Cargo adds a word of its own.
-    if !env::args().any(|word| word == "growth") {
+    let told = |wanted: &str| env::args().any(|word| word == wanted);
+    if !told("growth") {
         stores();
     }
-    growths();
+    if !told("stores") {
+        growths();
+    }
 }

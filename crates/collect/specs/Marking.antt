@@ -1,6 +1,6 @@
--- The steps of marking. The runs of the registers are taken in, then one sweep goes down the heap and takes in the runs of
--- the reached brackets that it comes to. It knows some of the cells right below it to be reached; a run that touches them
--- adds to them, and any other is noted at its right end, by its length, until the sweep is there. In order:
+-- The steps of marking. The runs of the registers are noted, then one sweep goes down the heap and takes in the runs of
+-- the reached brackets. It knows some of the cells right below it to be reached; a run that touches them adds to them,
+-- and any other is noted at its right end, by its length, until the sweep is there. In order:
 --   Noted      words with marks and notes
 --   Promised   what has become of a run that is taken in;  Kept: of what a cell holds
 --   Known      what is known when the sweep has come down to x

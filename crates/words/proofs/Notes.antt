@@ -1,6 +1,6 @@
 -- A first word, its note and its left end: each is known from the other. Assumes nothing.
 use mathlib.Core.Path.{_≡_}
-use Prim.Native.Nat.{ℕ, _+_, _*_, _/_, _%_, _^_, _<_}
+use Prim.Native.Nat.{ℕ, _^_, _<_}
 use native.Mathlib.Omega.{arith}
 use Rattle.words.specs.First.{noteOf, leftOf, withNote}
 

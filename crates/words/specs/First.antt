@@ -1,5 +1,5 @@
--- A bracket's first word while cells are being marked. Between calls it is the left end, which takes the low 16 bits; in
--- the bits above, marking notes a number. Assumes nothing.
+-- A bracket's first word while cells are being marked. Between calls it is the left end, which takes the low 16 bits;
+-- in the bits above, marking notes a number. Assumes nothing.
 use Prim.Native.Nat.{ℕ, _+_, _*_, _/_, _%_, _^_}
 
 -- the note and the left end of a first word

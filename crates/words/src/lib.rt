@@ -119,8 +119,8 @@ pub fn with_right_end(w: u32, r: u32) -> u32
     (w & !(RIGHT_CHAIN | RIGHT_END)) | r
 }
 
-// While cells are being marked, a bracket's first word has a note above its left end, and a symbol's second word has one
-// where a bracket has its right end.
+// While cells are being marked, a bracket's first word has a note above its left end, and a symbol's second word has
+// one where a bracket has its right end.
 
 pub fn note(a: u32) -> u32
     ensures { λ r. ⌜ r ≡ noteOf a ⌝ }

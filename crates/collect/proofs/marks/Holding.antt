@@ -1,9 +1,9 @@
--- The run of one cell taken in, by the words read of it: the cell holds nothing, its run touches the cells that are known,
--- or it is noted. Assumes nothing.
-use mathlib.Core.Path.{_≡_, refl, sym, ap, _∙_, subst}
-use mathlib.Core.Bool.{Bool, true, false}
+-- The run of one cell taken in, by the words read of it: the cell holds nothing, its run touches the cells that are
+-- known, or it is noted. Assumes nothing.
+use mathlib.Core.Path.{_≡_, refl, sym, subst}
+use mathlib.Core.Bool.{true, false}
 use mathlib.Core.List.{List}
-use Prim.Native.Nat.{ℕ, suc, min, _+_, _-_, _*_, _≤_, _<_}
+use Prim.Native.Nat.{ℕ, min, _+_, _-_, _*_, _≤_, _<_}
 use native.Mathlib.Omega.{arith}
 use lib.ListN.{length}
 use Rattle.words.specs.Cell.{firstWord}
@@ -14,7 +14,7 @@ use Rattle.meaning.specs.Reach.{Between, Reached}
 use Rattle.collect.specs.Marking.{markAt, raise, Kept, Promised, Sweep, NotesEnd, Holder, Held}
 use Rattle.collect.proofs.Fields.{ends-in}
 use Rattle.collect.proofs.marks.Noting.{top-halves, held-symbol, held-hollow, held-ends}
-use Rattle.collect.proofs.marks.Sweeping.{touch, apart}
+use Rattle.collect.proofs.marks.Runs.{touch, apart}
 
 -- where the ends of a run lie, in words of the length n
 pub record Lies (l r n : ℕ) : Type 0 where
@@ -60,7 +60,7 @@ module _ {ws : List ℕ} {top i y x low : ℕ} {ms : List ℕ} {h w : ℕ} (t : 
     pub hold-touch : {low′ : ℕ} → low ≤ r + 1 → low′ ≡ min l low → Held ws i y x low′ ms h
     hold-touch {low′} o q =
         let now =
-        touch firstCell ws top (omega arith) (t .sound) (t .swept .sweep) (lies .order) holds (omega arith) in
+        touch firstCell ws (t .swept .sweep) (lies .order) holds (omega arith) in
         subst (λ (n : ℕ). Held ws i y x n ms h) (sym q) (record {
           swept = record { U = t .swept .U; E = t .swept .E; words = t .swept .words; sweep = now .0 };
           kept = subst (Kept x (min l low) (t .swept .U) (t .swept .E)) (sym e) (now .1);
@@ -79,4 +79,4 @@ module _ {ws : List ℕ} {top i y x low : ℕ} {ms : List ℕ} {h w : ℕ} (t : 
       where
         now : Sweep firstCell i y ws x low (markAt (t .swept .U) r) (raise (t .swept .E) r (r + 1 - l))
             × Promised x low (markAt (t .swept .U) r) (raise (t .swept .E) r (r + 1 - l)) l r
-        now = apart firstCell ws top (omega arith) (t .sound) (t .swept .sweep) (lies .order) holds (t .turns)
+        now = apart firstCell ws (t .swept .sweep) (lies .order) holds (t .turns)

@@ -1,21 +1,18 @@
 -- Marks and notes put into words and taken off again. In order:
---   mark-.. raise-.. erase-..   marks and notes as functions of the cell
 --   Puts         what a store to a cell, or to its second word, leaves
 --   noted-as     equal marks and notes;  noted-put: those of one cell replaced
 --   noted-start  a sound store has neither;  noted-plain: with none left, only marks are added
 --   held-..      what a cell without a note holds, by its words
 --   note-.. mark-..   the stores of `marks`
 -- Assumes nothing.
-use mathlib.Core.Path.{_≡_, refl, sym, ap, ap₂, _∙_, subst}
-use mathlib.Core.Logic.{_⊎_, inl, inr}
-use mathlib.Core.Bool.{Bool, true, false, cond, not, _&&_, false≢true}
+use mathlib.Core.Path.{_≡_, refl, sym, ap, ap₂, _∙_}
+use mathlib.Core.Bool.{Bool, true, false, cond, _&&_, false≢true}
 use mathlib.Core.List.{List}
-use Prim.Native.Nat.{ℕ, max, _+_, _*_, _^_, _≤_, _<_}
+use Prim.Native.Nat.{ℕ, _+_, _*_, _^_, _≤_, _<_}
 use native.Mathlib.Omega.{arith}
 use native.Mathlib.Decide.{ℕ-discrete}
-use lib.Dec.{eqb}
 use lib.ListN.{length}
-use borrow.Author.Tests.{eq-eqb, ne-eqb}
+use borrow.Author.Tests.{ne-eqb}
 use Rattle.words.specs.Cell.{firstWord, secondWord, putCell, putSecond}
 use Rattle.words.specs.Second.{Second, decode, withUsed, plain}
 use Rattle.words.specs.First.{noteOf, leftOf, withNote}
@@ -25,8 +22,9 @@ use Rattle.words.proofs.Cells.{secondWord-putSecond-same, secondWord-putSecond-
 use Rattle.words.proofs.Cells.{firstWord-same, secondWord-same, firstWord-other, secondWord-other}
 use Rattle.meaning.specs.Sound.{Cell, code, hollow, ends, at, Sound}
 use Rattle.meaning.proofs.Cells.{limit-halves}
-use Rattle.meaning.proofs.Lists.{lt-or-ge}
 use Rattle.collect.specs.Marking.{usedAt, firstNoted, secondNoted, Noted, markAt, raise, erase}
+use Rattle.collect.proofs.marks.Notes.{mark-here, mark-other, mark-kept, raise-here, raise-other, raise-kept}
+use Rattle.collect.proofs.marks.Notes.{erase-here, erase-other}
 use Rattle.collect.proofs.Fields.{full, Fields, cell-fields, cell-plain, ends-in, full-ends, ends-full}
 
 -- the mark, by the word read and the test `words::is_used`
@@ -37,76 +35,6 @@ used-read ws c e f g = cc
 and-false : (b : Bool) → (b && false) ≡ false
 and-false true = refl
 and-false false = refl
-
--- ---- marks and notes by cell
-
-module _ (U : ℕ → Bool) (k : ℕ) where
-  pub mark-here : markAt U k k ≡ true
-  mark-here = rw (eq-eqb k k refl) refl
-
-  pub mark-other : (c : ℕ) → (c ≡ k → ⊥) → markAt U k c ≡ U c
-  mark-other c d = rw (ne-eqb c k d) refl
-
-  -- a mark is the old one or that of k
-  pub mark-is : (c : ℕ) → markAt U k c ≡ true → (c ≡ k) ⊎ (U c ≡ true)
-  mark-is c u = go (ℕ-discrete c k)
-    where
-      go : Dec (c ≡ k) → (c ≡ k) ⊎ (U c ≡ true)
-      go (yes e) = inl e
-      go (no d) = inr (sym (mark-other c d) ∙ u)
-
-  pub mark-more : (c : ℕ) → U c ≡ true → markAt U k c ≡ true
-  mark-more c u = go (eqb c k)
-    where
-      go : (t : Bool) → cond t true (U c) ≡ true
-      go true = refl
-      go false = u
-
-  pub mark-kept : U k ≡ true → (c : ℕ) → markAt U k c ≡ U c
-  mark-kept u c = go (ℕ-discrete c k)
-    where
-      go : Dec (c ≡ k) → markAt U k c ≡ U c
-      go (yes e) = rw e (mark-here ∙ sym u)
-      go (no d) = mark-other c d
-
-module _ (E : ℕ → ℕ) (k n : ℕ) where
-  pub raise-here : raise E k n k ≡ max (E k) n
-  raise-here = rw (eq-eqb k k refl) refl
-
-  pub raise-other : (c : ℕ) → (c ≡ k → ⊥) → raise E k n c ≡ E c
-  raise-other c d = rw (ne-eqb c k d) refl
-
-  pub raise-le : (c : ℕ) → E c ≤ raise E k n c
-  raise-le c = go (eqb c k)
-    where
-      go : (t : Bool) → E c ≤ cond t (max (E c) n) (E c)
-      go true = omega arith
-      go false = omega arith
-
-  -- a note is the old one or, at k, the new one
-  pub raise-is : (c : ℕ) → (raise E k n c ≡ E c) ⊎ ((c ≡ k) × (raise E k n c ≡ n))
-  raise-is c = go (ℕ-discrete c k)
-    where
-      larger : (a b : ℕ) → (max a b ≡ a) ⊎ (max a b ≡ b)
-      larger a b = elim (lt-or-ge a b) [ inl h ↦ inr (omega arith) | inr h ↦ inl (omega arith) ]
-
-      go : Dec (c ≡ k) → (raise E k n c ≡ E c) ⊎ ((c ≡ k) × (raise E k n c ≡ n))
-      go (yes e) = rw e (elim (larger (E k) n) [ inl h ↦ inl (raise-here ∙ h) | inr h ↦ inr (refl, raise-here ∙ h) ])
-      go (no d) = inl (raise-other c d)
-
-  pub raise-kept : n ≤ E k → (c : ℕ) → raise E k n c ≡ E c
-  raise-kept h c = go (ℕ-discrete c k)
-    where
-      go : Dec (c ≡ k) → raise E k n c ≡ E c
-      go (yes e) = rw e (omega (arith, raise-here))
-      go (no d) = raise-other c d
-
-module _ (E : ℕ → ℕ) (k : ℕ) where
-  pub erase-here : erase E k k ≡ 0
-  erase-here = rw (eq-eqb k k refl) refl
-
-  pub erase-other : (c : ℕ) → (c ≡ k → ⊥) → erase E k c ≡ E c
-  erase-other c d = rw (ne-eqb c k d) refl
 
 -- ---- one cell's words put
 
@@ -195,7 +123,8 @@ module _ (F : ℕ) (ws : List ℕ) (top : ℕ) (p : 0 < F) (s : Sound F ws top) 
   noted-start = record {
     len = refl;
     first = λ c. sym (first-plain c);
-    second = λ c. cell-plain F ws top p s c ∙ sym (second-plain c false ∙ ap (withUsed false) (cell-plain F ws top p s c));
+    second = λ c.
+        cell-plain F ws top p s c ∙ sym (second-plain c false ∙ ap (withUsed false) (cell-plain F ws top p s c));
   }
 
   pub noted-plain : {ms : List ℕ} {U : ℕ → Bool} {E : ℕ → ℕ} → Noted ws ms U E → ((c : ℕ) → E c ≡ 0) → (c : ℕ)
@@ -204,7 +133,8 @@ module _ (F : ℕ) (ws : List ℕ) (top : ℕ) (p : 0 < F) (s : Sound F ws top) 
 
   -- ---- by the second word w read of cell k
 
-  module _ {ms : List ℕ} {U : ℕ → Bool} {E : ℕ → ℕ} (t : Noted ws ms U E) (k : ℕ) {w : ℕ} (read : w ≡ secondWord ms k) where
+  module _ {ms : List ℕ} {U : ℕ → Bool} {E : ℕ → ℕ} (t : Noted ws ms U E) (k : ℕ) {w : ℕ}
+      (read : w ≡ secondWord ms k) where
     abbrev d : Second
     d = decode (secondWord ws k)
 
@@ -274,11 +204,12 @@ module _ (F : ℕ) (ws : List ℕ) (top : ℕ) (p : 0 < F) (s : Sound F ws top) 
         pub note-symbol : (v : ℕ) → decode w .br ≡ false → decode w .ri < n → decode v ≡ withUsed true (plain false n)
             → out ≡ putSecond ms k v → Noted ws out (markAt U k) (raise E k n)
         note-symbol v b l e q =
-            raised (rw q (puts-second ms k h v)) (omega (arith, symbol-note b)) (symbol-first b n) (e ∙ symbol-second b n)
+            raised (rw q (puts-second ms k h v)) (omega (arith, symbol-note b)) (symbol-first b n)
+            (e ∙ symbol-second b n)
 
     module _ {out : List ℕ} (h : 2 * k + 1 < length ms) where
-      taken : {a b : ℕ} → Puts ms k a b out → a ≡ firstNoted (d .br) (firstWord ws k) 0 → decode b ≡ secondNoted d true 0
-          → Noted ws out (markAt U k) (erase E k)
+      taken : {a b : ℕ} → Puts ms k a b out → a ≡ firstNoted (d .br) (firstWord ws k) 0
+          → decode b ≡ secondNoted d true 0 → Noted ws out (markAt U k) (erase E k)
       taken q one two =
           noted-put t (markAt U k) (erase E k) q (mark-other U k) (erase-other E k) (rw (erase-here E k) one)
           (rw (mark-here U k, erase-here E k) two)
@@ -289,8 +220,8 @@ module _ (F : ℕ) (ws : List ℕ) (top : ℕ) (p : 0 < F) (s : Sound F ws top) 
           taken (rw q (puts-cell ms k h f v)) (g ∙ sym (withNote-none (leftOf a)) ∙ bracket-first r b 0)
           (e ∙ bracket-second r b true 0)
 
-      pub mark-symbol : (v : ℕ) → decode w .br ≡ false → decode v ≡ withUsed true (plain false 0) → out ≡ putSecond ms k v
-          → Noted ws out (markAt U k) (erase E k)
+      pub mark-symbol : (v : ℕ) → decode w .br ≡ false → decode v ≡ withUsed true (plain false 0)
+          → out ≡ putSecond ms k v → Noted ws out (markAt U k) (erase E k)
       mark-symbol v b e q = taken (rw q (puts-second ms k h v)) (symbol-first b 0) (e ∙ symbol-second b 0)
 
   -- ---- what cell k holds, by the second word w read of it under some mark and note
@@ -315,7 +246,9 @@ module _ (F : ℕ) (ws : List ℕ) (top : ℕ) (p : 0 < F) (s : Sound F ws top) 
         → decode w .br ≡ true → r ≡ decode w .ri → 0 < r → a ≡ firstWord ms k → at ws k ≡ ends a r
     held-ends t z {a} {r} b e o g =
         full-ends F ws top p s k (sym full-same ∙ rw (b, ne-eqb (decode w .ri) 0 (λ f. omega arith)) refl)
-        ∙ ap₂ ends (sym (g ∙ t .first k ∙ rw z (first-plain k))) (sym (e ∙ ap (λ (y : Second). y .ri) (read .2) ∙ same-ri))
+        ∙ ap₂ ends (sym (g ∙ t .first k ∙ rw z (first-plain k)))
+        (sym (e ∙ ap (λ (y : Second). y .ri) (read .2) ∙ same-ri))
       where
-        same-ri : cond (decode (secondWord ws k) .br) (decode (secondWord ws k) .ri) (read .1) ≡ decode (secondWord ws k) .ri
+        same-ri : cond (decode (secondWord ws k) .br) (decode (secondWord ws k) .ri) (read .1)
+            ≡ decode (secondWord ws k) .ri
         same-ri = rw (sym (ap (λ (y : Second). y .br) (read .2)) ∙ b) refl

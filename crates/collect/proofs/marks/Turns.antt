@@ -1,7 +1,7 @@
 -- A cell's turn: what it asks for before its run is taken in, and what it leaves. The registers come first, then the
 -- reached heap cells from the top down. Assumes nothing.
-use mathlib.Core.Path.{_≡_, refl, sym, ap, _∙_, subst}
-use mathlib.Core.Bool.{Bool, true, false, false≢true}
+use mathlib.Core.Path.{_≡_, sym, ap, _∙_, subst}
+use mathlib.Core.Bool.{Bool, true, false}
 use mathlib.Core.List.{List}
 use Prim.Native.Nat.{ℕ, suc, min, _+_, _-_, _*_, _≤_, _<_}
 use native.Mathlib.Numerals.{add-one}
@@ -17,9 +17,10 @@ use Rattle.meaning.proofs.Reaching.{reached-heap}
 use Rattle.collect.specs.Marking.{usedAt, secondNoted, Noted, markAt, erase, Sweep, Swept}
 use Rattle.collect.specs.Marking.{MarksCell, Holder, Held, Register, Turn, Standing, Clear}
 use Rattle.collect.proofs.Fields.{Fields, cell-term, cell-fields}
-use Rattle.collect.proofs.marks.Noting.{erase-here, noted-start, top-halves, read-fields}
-use Rattle.collect.proofs.marks.Sweeping.{sweep-start, register-bare, note-le, turn-register, turn-heap}
-use Rattle.collect.proofs.marks.Sweeping.{down, pass}
+use Rattle.collect.proofs.marks.Noting.{noted-start, top-halves, read-fields}
+use Rattle.collect.proofs.marks.Notes.{erase-here}
+use Rattle.collect.proofs.marks.Runs.{turn-register, turn-heap}
+use Rattle.collect.proofs.marks.Sweeping.{sweep-start, register-bare, note-le, down, pass}
 
 -- what a term holds lies below its bound
 below : (F b : ℕ) (k : Cell) → TermIn F b k → (j : ℕ) → Between k j → j < b
@@ -50,7 +51,7 @@ module _ {ws : List ℕ} {top : ℕ} {ms : List ℕ} {i : ℕ} (t : Register ws 
     U = g .swept .U;
     E = g .swept .E;
     words = g .swept .words;
-    sweep = turn-register firstCell ws top (omega arith) (t .sound) (g .swept .sweep) (g .kept);
+    sweep = turn-register firstCell ws (g .swept .sweep) (g .kept);
   }
 
   module _ {w : ℕ} (e : w ≡ secondWord ms i) where
@@ -113,7 +114,8 @@ module _ {ws : List ℕ} {top low : ℕ} {ms : List ℕ} {c : ℕ} (t : Turn ws 
         E = erase (t .swept .E) c;
         words = marked .0;
         sweep = subst
-            (λ (m : ℕ). Sweep firstCell firstCell (suc c) ws c m (markAt (t .swept .U) c) (erase (t .swept .E) c)) (sym same)
+            (λ (m : ℕ). Sweep firstCell firstCell (suc c) ws c m (markAt (t .swept .U) c) (erase (t .swept .E) c))
+            (sym same)
             (down firstCell ws top (omega arith) (t .sound) (omega arith) (t .reached) (t .swept .sweep));
       };
       bare = erase-here (t .swept .E) c;
@@ -137,7 +139,7 @@ module _ {ws : List ℕ} {top low : ℕ} {ms : List ℕ} {c : ℕ} (t : Turn ws 
     U = g .swept .U;
     E = g .swept .E;
     words = g .swept .words;
-    sweep = turn-heap firstCell ws top (omega arith) (t .sound) (g .swept .sweep) (g .kept);
+    sweep = turn-heap firstCell ws (g .swept .sweep) (g .kept);
   }
 
 -- ---- the sweep at c
@@ -154,7 +156,8 @@ module _ {ws : List ℕ} {top low : ℕ} {ms : List ℕ} {c : ℕ} (t : Standing
       }
 
   -- it has had its turn
-  pub known-on : {out : List ℕ} {low′ : ℕ} → Swept firstCell (c - 1) ws (c - 1) low′ out → Standing ws top low′ out (c - 1)
+  pub known-on : {out : List ℕ} {low′ : ℕ} → Swept firstCell (c - 1) ws (c - 1) low′ out
+      → Standing ws top low′ out (c - 1)
   known-on g = record {
     sound = t .sound;
     above = heap known-turn .0;
@@ -173,7 +176,8 @@ module _ {ws : List ℕ} {top : ℕ} {ms : List ℕ} {c : ℕ} where
       U = t .swept .U;
       E = t .swept .E;
       words = t .swept .words;
-      sweep = pass firstCell ws top (omega arith) (t .sound) h (omega arith) (λ j a b. absurd (omega arith)) (t .swept .sweep);
+      sweep = pass firstCell ws top (omega arith) (t .sound) h (omega arith) (λ j a b. absurd (omega arith))
+          (t .swept .sweep);
     };
   }
 
@@ -208,7 +212,8 @@ module _ {ws : List ℕ} {top : ℕ} {ms : List ℕ} {c : ℕ} where
       swept = rw (add-one c) (t .swept);
     }
 
-    pub marked-on : {out : List ℕ} {low : ℕ} → usedAt ms c ≡ true → Swept firstCell c ws c low out → Standing ws top low out c
+    pub marked-on : {out : List ℕ} {low : ℕ} → usedAt ms c ≡ true → Swept firstCell c ws c low out
+        → Standing ws top low out c
     marked-on u g = record {
       sound = t .sound;
       above = heap (marked-turn u) .0;

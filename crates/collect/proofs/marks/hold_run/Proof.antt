@@ -20,8 +20,8 @@ held : (c : tie.After-first-word) {ws : List ℕ} {top i y x : ℕ} →
 held c h =
     let some = c .before .before in
     let test = some .before .before in
-    hold-ends h (sym (test .before .is-bracket .ensures) ∙ not-false _ (test .if1 .left)) (some .before .right-end .ensures)
-    (omega (arith, some .if2 .left)) (c .first-word .ensures)
+    hold-ends h (sym (test .before .is-bracket .ensures) ∙ not-false _ (test .if1 .left))
+    (some .before .right-end .ensures) (omega (arith, some .if2 .left)) (c .first-word .ensures)
 
 -- and where they lie
 inside : (c : tie.After-first-word) →

@@ -16,7 +16,8 @@ returns : tie.Need-returns
 returns c =
     let first = c .before .before .before .before .before .before in
     let start = first .before .before .before in
-    c .before .before .sweep .ensures (start .args .ws .now) (first .note-registers .ensures (start .args .top) (start .pre))
+    c .before .before .sweep .ensures (start .args .ws .now)
+    (first .note-registers .ensures (start .args .top) (start .pre))
 
 pub mark-spec : {M : Type 1} → statement M
 mark-spec = tie.close (tie.spec note-registers-requires sweep-requires (λ c. search needs) returns)

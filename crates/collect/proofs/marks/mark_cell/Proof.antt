@@ -31,7 +31,8 @@ returns-2 c = λ ws top U E s t.
           (put .before .set-used .result) (read .first-word .ensures) on (left .left-end .ensures)
           (put .before .set-used .ensures) (put .put-cell .ensures),
       c .note .ensures
-          ∙ bracket-note firstCell ws top (omega arith) s t (start .args .c) (start .pre .1) (read .first-word .ensures) on,
+          ∙ bracket-note firstCell ws top (omega arith) s t (start .args .c) (start .pre .1)
+          (read .first-word .ensures) on,
     )
 
 pub mark-cell-spec : {M : Type 1} → statement M

@@ -15,8 +15,8 @@ returns c = λ ws top U E s t z.
     let read = test .before .before in
     let br = read .before .before .before in
     let start = br .before .before .before .before in
-    note-bracket firstCell ws top (omega arith) s t (start .args .k) (br .before .second-word .ensures) z (start .pre .1)
-    (start .pre .0) (set .set-used .result) (read .first-word .ensures)
+    note-bracket firstCell ws top (omega arith) s t (start .args .k) (br .before .second-word .ensures) z
+    (start .pre .1) (start .pre .0) (set .set-used .result) (read .first-word .ensures)
     (sym (br .is-bracket .ensures) ∙ read .before .before .if1 .taken)
     (omega (arith, test .before .note .ensures, test .if2 .taken)) (set .before .with-note .ensures)
     (set .set-used .ensures) (c .before .before .put-cell .ensures)

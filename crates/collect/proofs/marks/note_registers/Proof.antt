@@ -1,12 +1,12 @@
 -- `marks::note_registers` meets its contract. The invariant: the runs of the registers below i are noted.
 -- Assumes nothing.
 use mathlib.Core.Path.{_≡_, refl, _∙_}
-use Prim.Native.Nat.{ℕ, _-_, _≤_, _<_}
+use Prim.Native.Nat.{ℕ, _-_, _≤_}
 use native.Mathlib.Omega.{arith}
 use lib.ListN.{length}
 use Rattle.meaning.specs.Limits.{firstCell}
 use Rattle.meaning.specs.Sound.{Sound}
-use Rattle.collect.specs.Marking.{Swept, Register}
+use Rattle.collect.specs.Marking.{Swept}
 use Rattle.collect.proofs.marks.Turns.{swept-start, swept-registers}
 use Rattle.collect.proofs.marks.note_registers.Statement.{statement}
 use Rattle.collect.proofs.marks.note_registers.Tie as tie

@@ -22,7 +22,8 @@ loop-holds : tie.Need-loop-holds Inv-loop μ-loop
 loop-holds c = (refl, λ ws t. t)
 
 -- at the cell below c
-below : {ws : List ℕ} {top : ℕ} {ms : List ℕ} {c : ℕ} → firstCell < c → Clear ws top ms c → Clear ws top ms (suc (c - 1))
+below : {ws : List ℕ} {top : ℕ} {ms : List ℕ} {c : ℕ} → firstCell < c → Clear ws top ms c
+    → Clear ws top ms (suc (c - 1))
 below {ws} {top} {ms} {c} h t = let e : suc (c - 1) ≡ c = omega arith in rw e t
 
 second-word-requires : tie.Need-second-word-requires Inv-loop μ-loop
@@ -52,7 +53,8 @@ loop-again c =
     let call = c .before .before in
     let at = call .before .before .before .before .before .before .before in (
       call .sweep-known .kept .0 ∙ at .loop .inv .0,
-      λ ws t. call .sweep-known .ensures .1 ws (at .before .before .args .top) (below (omega arith) (at .loop .inv .1 ws t)),
+      λ ws t.
+          call .sweep-known .ensures .1 ws (at .before .before .args .top) (below (omega arith) (at .loop .inv .1 ws t)),
     )
 
 loop-again-2 : tie.Need-loop-again-2 Inv-loop μ-loop
@@ -78,5 +80,5 @@ pub sweep-spec : {M : Type 1} → statement M
 sweep-spec =
     tie.close
     (tie.spec
-    Inv-loop μ-loop loop-holds (λ c. omega arith) second-word-requires (λ c κs. tt) sweep-known-requires loop-less loop-again
-    (λ c. omega arith) loop-again-2 (λ c. c .before .loop .inv .0) returns)
+    Inv-loop μ-loop loop-holds (λ c. omega arith) second-word-requires (λ c κs. tt) sweep-known-requires loop-less
+    loop-again (λ c. omega arith) loop-again-2 (λ c. c .before .loop .inv .0) returns)

@@ -5,7 +5,8 @@ use Prim.Native.Nat.{ℕ, suc, _≤_}
 use native.Mathlib.Omega.{arith}
 use lib.ListN.{length}
 use Rattle.collect.specs.Marking.{Standing, Clear}
-use Rattle.collect.proofs.marks.Turns.{turn-in, turn-fits, marked-turn, marked-on, known-turn, known-on, known-none}
+use Rattle.collect.proofs.marks.Turns.{turn-in, turn-fits, marked-turn, marked-on}
+use Rattle.collect.proofs.marks.Turns.{known-turn, known-on, known-none}
 use Rattle.collect.proofs.marks.sweep_known.Statement.{statement}
 use Rattle.collect.proofs.marks.sweep_known.Tie as tie
 
@@ -79,5 +80,5 @@ pub sweep-known-spec : {M : Type 1} → statement M
 sweep-known-spec =
     tie.close
     (tie.spec
-    Inv-loop μ-loop add-sweep-at sweep-at-requires loop-holds (λ c. omega arith) second-word-requires sweep-at-requires-2
-    (λ c. omega arith) loop-again same-length returns)
+    Inv-loop μ-loop add-sweep-at sweep-at-requires loop-holds (λ c. omega arith) second-word-requires
+    sweep-at-requires-2 (λ c. omega arith) loop-again same-length returns)

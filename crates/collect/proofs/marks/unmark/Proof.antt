@@ -1,7 +1,7 @@
 -- `marks::unmark` meets its contract. The invariant: the heap cells below c are cleared, their marks counted.
 -- Assumes nothing.
-use mathlib.Core.Bool.{Bool, false}
-use mathlib.Core.Path.{_≡_, ap, _∙_}
+use mathlib.Core.Bool.{false}
+use mathlib.Core.Path.{ap, _∙_}
 use Prim.Native.Nat.{ℕ, _-_, _+_, _*_}
 use native.Mathlib.Omega.{arith}
 use Rattle.words.specs.Second.{bit, decode, withUsed}
