@@ -3,9 +3,9 @@
 // all its holders, and only once, however many they are. No stack and no recursion.
 //
 // The sweep knows the cells from `low` up to where it stands to be reached. A run that touches them adds to them. Any
-// other run is noted at its right end, which is marked at once: by its length, in bits that the cell can spare, the
-// longest where several end there. At a known cell the sweep takes the note off, and then knows what the note says.
-// Where it knows none, it passes over the cells that are not marked, since nothing holds them.
+// other run, and each register's, is noted at its right end, which is marked at once: by its length, in bits that the
+// cell can spare, the longest where several end there. At a known cell the sweep takes the note off, and then knows what
+// the note says. Where it knows none, it passes over the cells that are not marked, since nothing holds them.
 ghost use mathlib.Core.Path.{_≡_};
 ghost use Prim.Native.Nat.{min};
 ghost use Rattle.meaning.specs.Limits.{firstCell};
