@@ -59,8 +59,7 @@ module _ {ws : List ℕ} {top i y x low : ℕ} {ms : List ℕ} {h w : ℕ} (t : 
 
     pub hold-touch : {low′ : ℕ} → low ≤ r + 1 → low′ ≡ min l low → Held ws i y x low′ ms h
     hold-touch {low′} o q =
-        let now =
-        touch firstCell ws (t .swept .sweep) (lies .order) holds (omega arith) in
+        let now = touch firstCell ws (t .swept .sweep) (lies .order) holds (omega arith) in
         subst (λ (n : ℕ). Held ws i y x n ms h) (sym q) (record {
           swept = record { U = t .swept .U; E = t .swept .E; words = t .swept .words; sweep = now .0 };
           kept = subst (Kept x (min l low) (t .swept .U) (t .swept .E)) (sym e) (now .1);

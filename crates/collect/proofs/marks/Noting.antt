@@ -1,5 +1,5 @@
 -- Marks and notes put into words and taken off again. In order:
---   Puts         what a store to a cell, or to its second word, leaves
+--   Replaced     one cell's words replaced by a store to the cell, or to its second word
 --   noted-as     equal marks and notes;  noted-put: those of one cell replaced
 --   noted-start  a sound store has neither;  noted-plain: with none left, only marks are added
 --   held-..      what a cell without a note holds, by its words
@@ -38,14 +38,14 @@ and-false false = refl
 
 -- ---- one cell's words put
 
-pub record Puts (ms : List ℕ) (k a b : ℕ) (out : List ℕ) : Type 0 where
-  pub len : length out ≡ length ms
-  pub one : firstWord out k ≡ a
-  pub two : secondWord out k ≡ b
-  pub others : (x : ℕ) → (x ≡ k → ⊥) → (firstWord out x ≡ firstWord ms x) × (secondWord out x ≡ secondWord ms x)
+record Replaced (ms : List ℕ) (k a b : ℕ) (out : List ℕ) : Type 0 where
+  len : length out ≡ length ms
+  one : firstWord out k ≡ a
+  two : secondWord out k ≡ b
+  others : (x : ℕ) → (x ≡ k → ⊥) → (firstWord out x ≡ firstWord ms x) × (secondWord out x ≡ secondWord ms x)
 
 module _ (ms : List ℕ) (k : ℕ) (h : 2 * k + 1 < length ms) where
-  puts-cell : (a b : ℕ) → Puts ms k a b (putCell ms k a b)
+  puts-cell : (a b : ℕ) → Replaced ms k a b (putCell ms k a b)
   puts-cell a b = record {
     len = putCell-length ms k a b;
     one = firstWord-same ms k a b h;
@@ -53,7 +53,7 @@ module _ (ms : List ℕ) (k : ℕ) (h : 2 * k + 1 < length ms) where
     others = λ x n. (firstWord-other ms k a b x n, secondWord-other ms k a b x n);
   }
 
-  puts-second : (b : ℕ) → Puts ms k (firstWord ms k) b (putSecond ms k b)
+  puts-second : (b : ℕ) → Replaced ms k (firstWord ms k) b (putSecond ms k b)
   puts-second b = record {
     len = putSecond-length ms k b;
     one = firstWord-putSecond ms k b k;
@@ -63,7 +63,7 @@ module _ (ms : List ℕ) (k : ℕ) (h : 2 * k + 1 < length ms) where
 
 -- ---- words with marks and notes
 
-pub noted-as : {ws ms : List ℕ} {U U′ : ℕ → Bool} {E E′ : ℕ → ℕ} → ((c : ℕ) → U′ c ≡ U c) → ((c : ℕ) → E′ c ≡ E c)
+noted-as : {ws ms : List ℕ} {U U′ : ℕ → Bool} {E E′ : ℕ → ℕ} → ((c : ℕ) → U′ c ≡ U c) → ((c : ℕ) → E′ c ≡ E c)
     → Noted ws ms U E → Noted ws ms U′ E′
 noted-as u e t = record {
   len = t .len;
@@ -72,7 +72,7 @@ noted-as u e t = record {
 }
 
 noted-put : {ws ms : List ℕ} {U : ℕ → Bool} {E : ℕ → ℕ} → Noted ws ms U E → (U′ : ℕ → Bool) (E′ : ℕ → ℕ)
-    → {k a b : ℕ} {out : List ℕ} → Puts ms k a b out
+    → {k a b : ℕ} {out : List ℕ} → Replaced ms k a b out
     → ((c : ℕ) → (c ≡ k → ⊥) → U′ c ≡ U c) → ((c : ℕ) → (c ≡ k → ⊥) → E′ c ≡ E c)
     → a ≡ firstNoted (decode (secondWord ws k) .br) (firstWord ws k) (E′ k)
     → decode b ≡ secondNoted (decode (secondWord ws k)) (U′ k) (E′ k) → Noted ws out U′ E′
@@ -187,7 +187,7 @@ module _ (F : ℕ) (ws : List ℕ) (top : ℕ) (p : 0 < F) (s : Sound F ws top) 
 
       module _ {out : List ℕ} (h : 2 * k + 1 < length ms) where
         -- a longer note, put with the words a and b
-        raised : {a b : ℕ} → Puts ms k a b out → E k < n → a ≡ firstNoted (d .br) (firstWord ws k) n
+        raised : {a b : ℕ} → Replaced ms k a b out → E k < n → a ≡ firstNoted (d .br) (firstWord ws k) n
             → decode b ≡ secondNoted d true n → Noted ws out (markAt U k) (raise E k n)
         raised q l one two =
             let up : raise E k n k ≡ n = omega (arith, raise-here E k n) in
@@ -208,7 +208,7 @@ module _ (F : ℕ) (ws : List ℕ) (top : ℕ) (p : 0 < F) (s : Sound F ws top) 
             (e ∙ symbol-second b n)
 
     module _ {out : List ℕ} (h : 2 * k + 1 < length ms) where
-      taken : {a b : ℕ} → Puts ms k a b out → a ≡ firstNoted (d .br) (firstWord ws k) 0
+      taken : {a b : ℕ} → Replaced ms k a b out → a ≡ firstNoted (d .br) (firstWord ws k) 0
           → decode b ≡ secondNoted d true 0 → Noted ws out (markAt U k) (erase E k)
       taken q one two =
           noted-put t (markAt U k) (erase E k) q (mark-other U k) (erase-other E k) (rw (erase-here E k) one)
