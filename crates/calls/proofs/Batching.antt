@@ -59,7 +59,6 @@ module _ (ws : List ℕ) (top : ℕ) (calls out : List ℕ) where
 
   pub found-sound : {found : Checked} → verdictOf found ≡ check firstCell ws top → found ≡ checked.Sound
       → Sound firstCell ws top
-  unfolding only
   found-sound q e =
       check-sound firstCell ws top
       (ap (λ (v : Verdict). v .status) (sym q) ∙ ap (λ (c : Checked). verdictOf c .status) e)

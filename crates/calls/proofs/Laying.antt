@@ -14,6 +14,6 @@ module _ (ws : List ℕ) (top d a b : ℕ) (p q : Run) where
       → ws₁ ≡ copies ws top (p .start) (p .size)
       → ws₂ ≡ copies ws₁ (top + p .size) (q .start) (q .size) → ws₃ ≡ put ws₂ d (ends top (top + p .size + q .size - 1))
       → done ws₃ (top + p .size + q .size) 0 ≡ newRun d a b ws top
-  unfolding newRun newRunOf done
+  unfolding newRun newRunOf
   run-laid h k e₁ e₂ e₃ =
       rw (e₃, e₂, e₁, h .0, h .1, k .0, k .1, add-assoc top (size (at ws a)) (size (at ws b))) refl

@@ -22,7 +22,6 @@ ranOf o = ranBy (o .verdict .status) (o .top) (o .verdict .value)
 
 back : (ws : List ℕ) (top : ℕ) (out : List ℕ) (r : Ran)
     → (ranOf (ranIn r ws top out) ≡ r) × (ranIn r ws top out .words ≡ ws) × (ranIn r ws top out .answers ≡ out)
-unfolding asLent only
 back ws top out (Ended t) = (refl, refl, refl)
 back ws top out BadLength = (refl, refl, refl)
 back ws top out BadTop = (refl, refl, refl)

@@ -72,7 +72,6 @@ module _ {ws₀ : List ℕ} {top₀ : ℕ} {calls out₀ : List ℕ} where
         → runs firstCell ws₀ top₀ (take (4 * (i + 1)) calls)
         ≡ ranTo (callAt ws t calls i .top) (callAt ws t calls i .words)
         (take (2 * i) out ++ (callAt ws t calls i .verdict .status ∷ callAt ws t calls i .verdict .value ∷ []))
-    unfolding then
     after h =
         let cs = take (4 * i) calls in
         let c : ℕ → ℕ = λ n. getD calls n 0 in

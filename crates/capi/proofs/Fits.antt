@@ -17,7 +17,6 @@ use Rattle.store.proofs.Hollow.{length-yes}
 
 module _ (F : ℕ) (ws : List ℕ) (top : ℕ) where
   check-most : check F ws top .value ≤ limit
-  unfolding only
   check-most = go (check F ws top) (checks F ws top)
     where
       go : (v : Verdict) → Checks F ws top v → v .value ≤ limit
@@ -36,13 +35,13 @@ module _ (F : ℕ) (ws : List ℕ) (top : ℕ) where
       go (suc s) e = k
 
   collect-most : 0 < F → collectIn F ws top .verdict .value ≤ limit
-  unfolding collectIn done refused
+  unfolding collectIn
   collect-most p =
       by-check (λ (d : Done). d .verdict .value ≤ limit) _ _
       (λ s. omega (arith, live-le F ws top p s, s .high, s .small)) check-most
 
   batch-most : (calls out : List ℕ) → batch F ws top calls out .verdict .value ≤ limit
-  unfolding batch batchOf asLent ended only
+  unfolding batch batchOf ended
   batch-most calls out =
       by-check (λ (d : Outcome). d .verdict .value ≤ limit) _ _
       (λ s. go (callsTest (length calls)) (leb (2 * (length calls / 4)) (length out))) check-most

@@ -15,7 +15,6 @@ use Rattle.meaning.proofs.Checking.{sound-check, check-sound}
 module _ (F : ℕ) (ws : List ℕ) (top : ℕ) where
   -- the arms of a match on the check's answer
   pub passed : {found : Checked} → verdictOf found ≡ check F ws top → found ≡ checked.Sound → Sound F ws top
-  unfolding only
   passed e q = check-sound F ws top (ap (λ (x : Verdict). x .status) (sym e ∙ ap verdictOf q))
 
   pub refuses : {found x : Checked} → verdictOf found ≡ check F ws top → found ≡ x → (n : ℕ)
@@ -27,7 +26,7 @@ module _ (F : ℕ) (ws : List ℕ) (top : ℕ) where
   -- what is left of a sound store: its words collected, and the new `top`
   pub alone-done : Sound F ws top → (ws′ : List ℕ) (top′ : ℕ) → ws′ ≡ collected F ws top → top′ ≡ collectedTop F ws top
       → done ws′ top′ (top′ - F) ≡ collectIn F ws top
-  unfolding collectIn only collectedTop
+  unfolding collectIn collectedTop
   alone-done s ws′ top′ e q =
       let n : top′ - F ≡ live F ws top = omega arith in
       rw (sound-check F ws top s, n, e, q) refl

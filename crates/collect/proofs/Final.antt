@@ -18,14 +18,12 @@ abbrev answerOf : Done → Collected
 answerOf d = numbered (d .verdict .status) (d .verdict .value) (d .top)
 
 answer-back : (r : Collected) (vs : List ℕ) (top : ℕ) → answerOf (collectedIn r vs top) ≡ r
-unfolding only done refused
 answer-back (collected.Done n t) vs top = refl
 answer-back collected.BadLength vs top = refl
 answer-back collected.BadTop vs top = refl
 answer-back (collected.Damaged c) vs top = refl
 
 words-back : (r : Collected) (vs : List ℕ) (top : ℕ) → collectedIn r vs top .words ≡ vs
-unfolding done refused
 words-back (collected.Done n t) vs top = refl
 words-back collected.BadLength vs top = refl
 words-back collected.BadTop vs top = refl

@@ -43,7 +43,6 @@ pub runs-cut : (F : ℕ) (ws : List ℕ) (top : ℕ) {cs : List ℕ} (ds : List 
       top = runs F (runs F ws top cs .words) (runs F ws top cs .top) ds .top;
       answers = runs F ws top cs .answers ++ runs F (runs F ws top cs .words) (runs F ws top cs .top) ds .answers;
     }
-unfolding then
 runs-cut F ws top ds none = refl
 runs-cut F ws top ds (four {o} {d} {a} {b} {cs} c) =
     ap (λ (q : Ran). then (step F ws top o d a b) q) (runs-cut F (step F ws top o d a b .words)
@@ -53,7 +52,7 @@ runs-cut F ws top ds (four {o} {d} {a} {b} {cs} c) =
 module _ (F : ℕ) (p : 0 < F) (ws : List ℕ) (top : ℕ) (calls out : List ℕ) where
   pub batch-runs : batch F ws top calls out .verdict .status ≡ 0
       → Sound F ws top × Fours calls × (batch F ws top calls out ≡ ended (runs F ws top calls) out)
-  unfolding batch batchOf asLent callsTest only
+  unfolding batch batchOf callsTest
   batch-runs q = one (check F ws top .status) refl q
     where
       two : Sound F ws top → (t u v : Bool) → leb (length calls) callsLimit ≡ t → eqb (length calls % 4) 0 ≡ u

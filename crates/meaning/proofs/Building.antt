@@ -27,7 +27,6 @@ module _ (F : ℕ) (p : 0 < F) (e : ℕ → Expr) (lv : ℕ) (ws : List ℕ) (to
       → inside (term (at ws′) (length ws′)) k ≡ x → does o e lv d a b .unfit ≡ 0 → does o e lv d a b .value ≡ 0
       → does o e lv d a b .registers ≡ becomes e d x
       → (n : ℕ) → top′ ≡ top + n → Acts F e lv o d a b n ws top (done (put ws′ d k) top′ 0)
-  unfolding done
   new-acts o d a b m l ws′ top′ x k t y q u v f n z = record {
     sound = sound-register F ws′ top′ p (x .sound) d l k t;
     len = length-put ws′ d k ∙ x .len;

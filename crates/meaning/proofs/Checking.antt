@@ -213,7 +213,7 @@ module _ (F : ℕ) (ws : List ℕ) (top : ℕ) where
   check-sound q = go (check F ws top) refl checks q
     where
       go : (v : Verdict) → check F ws top ≡ v → Checks v → v .status ≡ 0 → Sound F ws top
-      go v e (length-bad a) r = absurd (unfold only in omega arith)
-      go v e (top-bad a b) r = absurd (unfold only in omega arith)
+      go v e (length-bad a) r = absurd (omega arith)
+      go v e (top-bad a b) r = absurd (omega arith)
       go v e (cell-bad c a b l x y) r = absurd (omega arith)
       go v e (sound s) r = s

@@ -25,11 +25,11 @@ run-in F lim (ends l r) t = omega (arith, t .1, t .2)
 
 module _ (F : ℕ) (ws : List ℕ) (top : ℕ) (s : Sound F ws top) (i : ℕ) where
   pub span-register : i < F → lookSpan F ws top i ≡ spanOf (at ws i)
-  unfolding lookSpan only
+  unfolding lookSpan
   span-register h = rw (sound-check F ws top s, lt-ltb i F h) refl
 
   pub span-none : F ≤ i → lookSpan F ws top i ≡ spanOf hollow
-  unfolding lookSpan only
+  unfolding lookSpan
   span-none h = rw (sound-check F ws top s, le-ltb i F h) refl
 
   pub look-none : F ≤ i → look F ws top i ≡ []

@@ -180,7 +180,7 @@ module _ (F : ℕ) (ws : List ℕ) (top : ℕ) (p : 0 < F) (s : Sound F ws top) 
       }
 
   pub carry-meets : (plan : Plan) → Does plan → Meets F ws top o d a b plan (carry F plan ws top)
-  unfolding carry withRoom planTop planLacks refused only
+  unfolding carry withRoom planTop planLacks
   carry-meets (plain act) m = plain-meets act (act ws top) m (does o (meaning ws) (live F ws top) d a b .unfit) refl
   carry-meets (gathered act) m =
       done-meets (gathered act) 0 (collected F ws top) (collectedTop F ws top)

@@ -138,7 +138,6 @@ module _ (F : ℕ) (p : 0 < F) (e : ℕ → Expr) (lv : ℕ) (ws : List ℕ) (to
       → inside (term (at ws) (length ws)) k ≡ x
       → does o e lv d a b .unfit ≡ 0 → does o e lv d a b .value ≡ 0 → does o e lv d a b .registers ≡ becomes e d x
       → Acts F e lv o d a b 0 ws top (done (put ws d k) top 0)
-  unfolding done
   set-to o d a b m l k t x q u v f = record {
     sound = sound-register F ws top p s d l k t;
     len = length-put ws d k;
@@ -154,7 +153,6 @@ module _ (F : ℕ) (p : 0 < F) (e : ℕ → Expr) (lv : ℕ) (ws : List ℕ) (to
   module _ (d : ℕ) (m : Denote F ws e) where
     refuse : (o : Op) (a b u : ℕ) → does o e lv d a b .unfit ≡ suc u
         → Acts F e lv o d a b 0 ws top (refused ws top (only (suc u)))
-    unfolding refused only
     refuse o a b u q = record {
       sound = s;
       len = refl;
@@ -169,7 +167,6 @@ module _ (F : ℕ) (p : 0 < F) (e : ℕ → Expr) (lv : ℕ) (ws : List ℕ) (to
     -- a call that changes no register
     unchanged : (o : Op) (a b v : ℕ) → does o e lv d a b .unfit ≡ 0 → does o e lv d a b .value ≡ v
         → does o e lv d a b .registers ≡ e → Acts F e lv o d a b 0 ws top (done ws top v)
-    unfolding done
     unchanged o a b v u w f = record {
       sound = s;
       len = refl;

@@ -174,7 +174,7 @@ pub record Steps (F : ℕ) (ws : List ℕ) (top o d a b : ℕ) (r : Done) : Type
 
 module _ (F : ℕ) (ws : List ℕ) (top : ℕ) (p : 0 < F) (s : Sound F ws top) where
   pub step-meets : (o d a b : ℕ) → Steps F ws top o d a b (step F ws top o d a b)
-  unfolding step stepAfter callStatus refused only
+  unfolding step stepAfter callStatus
   step-meets o d a b = go (fault F o d a b) refl
     where
       go : (f : ℕ) → fault F o d a b ≡ f → Steps F ws top o d a b (stepAfter f F ws top o d a b)
@@ -185,8 +185,7 @@ module _ (F : ℕ) (ws : List ℕ) (top : ℕ) (p : 0 < F) (s : Sound F ws top) 
             len = m .len;
             status = rw q (m .status);
             value = m .value;
-            registers = m
-                .registers;
+            registers = m .registers;
             tops = m .tops;
             left = m .left;
           }
@@ -217,7 +216,6 @@ pub data Fours : List ℕ → Type 0 where
 
 pub runs-batch : (F : ℕ) (p : 0 < F) (ws : List ℕ) (top : ℕ) {cs : List ℕ} → Fours cs → Sound F ws top
     → Batch F ws top cs (runs F ws top cs .answers) (runs F ws top cs .words) (runs F ws top cs .top)
-unfolding then
 runs-batch F p ws top none s = ended
 runs-batch F p ws top (four {o} {d} {a} {b} {cs} c) s =
     let m = step-meets F ws top p s o d a b in

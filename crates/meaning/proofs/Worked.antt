@@ -16,7 +16,7 @@ use Rattle.meaning.specs.Rows.{verdictTest, doneTest, ranTest, rowTest, 
 use Rattle.meaning.specs.Rows.{RowsRight}
 
 pub rows-right : RowsRight firstCell
-unfolding limit codeTest programCells programBytes at reached live newAddress collectedOf collected collectedTop only
+unfolding limit codeTest programCells programBytes at reached live newAddress collectedOf collected collectedTop
     done refused bracketTest termTest cellTest lengthTest topTest verdictAt check fresh collectIn ops opAt uses
     wrong11 wrong12 wrong13 fault put copy share head rest openTerm openFirst codeTerm codeFirst newSymbol
     newBracket newRunOf newRun sought planOf lacks roomWords roomTop withRoom carry perform stepAfter step then

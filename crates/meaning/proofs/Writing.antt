@@ -79,8 +79,7 @@ module _ (F : ℕ) (ws : List ℕ) (top : ℕ) (p : 0 < F) (s : Sound F ws top) 
         other : i ≢ d → IsBracket F top (getD (put ws d b) (2 * i) 0) (getD (put ws d b) (2 * i + 1) 0)
         other n = rw (
           put-other ws d b (2 * i) (omega arith) (omega arith),
-          put-other ws d b (2 * i + 1) (omega arith)
-              (omega arith),
+          put-other ws d b (2 * i + 1) (omega arith) (omega arith),
         ) (s .registers i h)
 
         go : (i < d) ⊎ (d ≤ i) → (d < i) ⊎ (i ≤ d)

@@ -16,7 +16,7 @@ pub record Ran : Type 0 where
   pub top : ℕ
   pub answers : List ℕ
 
-unfoldable pub then : Done → Ran → Ran
+abbrev pub then : Done → Ran → Ran
 then c q = record {
   words = q .words;
   top = q .top;
@@ -37,7 +37,7 @@ pub record Outcome : Type 0 where
   pub answers : List ℕ
 
 -- refused: everything as it was lent
-unfoldable pub asLent : Verdict → List ℕ → ℕ → List ℕ → Outcome
+abbrev pub asLent : Verdict → List ℕ → ℕ → List ℕ → Outcome
 asLent v ws top out = record { verdict = v; words = ws; top = top; answers = out }
 
 -- run to its end: the answers, and zeros after them

@@ -19,7 +19,7 @@ pub record Verdict : Type 0 where
   pub value : ℕ
 
 -- a status with value 0
-unfoldable pub only : ℕ → Verdict
+abbrev pub only : ℕ → Verdict
 only s = record { status = s; value = 0 }
 
 -- a verdict with the store and `top` as they are left
@@ -29,11 +29,11 @@ pub record Done : Type 0 where
   pub top : ℕ
 
 -- done, with a value
-unfoldable pub done : List ℕ → ℕ → ℕ → Done
+abbrev pub done : List ℕ → ℕ → ℕ → Done
 done ws top v = record { verdict = record { status = 0; value = v }; words = ws; top = top }
 
 -- refused, with the store and `top` that stay
-unfoldable pub refused : List ℕ → ℕ → Verdict → Done
+abbrev pub refused : List ℕ → ℕ → Verdict → Done
 refused ws top v = record { verdict = v; words = ws; top = top }
 
 -- ---- the check

@@ -128,7 +128,7 @@ module _ (F : ℕ) (ws : List ℕ) (top : ℕ) (p : 0 < F) (s : Sound F ws top) 
         → OnlyThere d t n u (act u t .words))
         → withRoom F n (sought ws d os) act ws top .verdict .status ≡ 0
         → Touches (ltb (capacity ws) (top + n)) n (withRoom F n (sought ws d os) act ws top)
-    unfolding withRoom refused only
+    unfolding withRoom
     makes n os act h e = go (lacks F n (sought ws d os) top) e
       where
         there : Touches (ltb (capacity ws) (top + n)) n
@@ -163,7 +163,7 @@ module _ (F : ℕ) (ws : List ℕ) (top : ℕ) (p : 0 < F) (s : Sound F ws top) 
 
     pub plan-words : (o : Op) → Right F o d a b → perform o F ws top d a b .verdict .status ≡ 0
         → Touches (first o) (need o) (perform o F ws top d a b)
-    unfolding perform planOf carry done uses
+    unfolding perform planOf carry uses
     plan-words CLEAR q e = plainly (done (put ws d hollow) top 0) (clear-only d top 0 ws top)
     plan-words COPY q e = plainly (share d a ws top) (share-only d top 0 ws top a)
     plan-words SYMBOL q e = makes 1 [] (newSymbol d a) (λ u t w f. symbol-only d u t a) e
@@ -185,7 +185,7 @@ module _ (F : ℕ) (ws : List ℕ) (top : ℕ) (p : 0 < F) (s : Sound F ws top) 
     -- LENGTH, FIRST, LIVE and COLLECT
     pub asked-words : (k : ℕ) → k < 4
         → perform (opAt (8 + k)) F ws top d a b .words ≡ cond (first (opAt (8 + k))) (collected F ws top) ws
-    unfolding perform planOf carry done uses
+    unfolding perform planOf carry uses
     asked-words =
         asking (λ o. perform o F ws top d a b .words ≡ cond (first o) (collected F ws top) ws)
         (rw stays refl) (rw stays (first-words ws top (at ws a))) (rw stays refl) refl

@@ -44,11 +44,9 @@ module _ (F : ℕ) (ws : List ℕ) (top : ℕ) (p : 0 < F) (s : Sound F ws top) 
   s′ = sound′ F ws top p s
 
   refuse-both : (v : Verdict) → Agree F (refused ws top v) (refused ws′ top′ v)
-  unfolding refused
   refuse-both v = record { verdict = refl; same = sym (canon-collected F ws top p s) }
 
   done-both : (v v′ : ℕ) → v ≡ v′ → Agree F (done ws top v) (done ws′ top′ v′)
-  unfolding done
   done-both v v′ e =
       record {
         verdict = ap {B = Verdict} (λ x. record { status = 0; value = x }) e;
@@ -58,7 +56,6 @@ module _ (F : ℕ) (ws : List ℕ) (top : ℕ) (p : 0 < F) (s : Sound F ws top) 
 
   put-both : (d : ℕ) → d < F → (b b′ : Cell) → BracketIn F top b → BracketIn F top′ b′ → Along P new b
       → b′ ≡ mapEnds new b → Agree F (done (put ws d b) top 0) (done (put ws′ d b′) top′ 0)
-  unfolding done
   put-both d l b b′ t t′ a e = record { verdict = refl; same = set-both F ws top p s d l b b′ t t′ a e }
 
   -- ---- the ends of a bracket, moved

@@ -173,7 +173,7 @@ module _ (F : ℕ) (p : 0 < F) (ws : List ℕ) (top : ℕ) (s : Sound F ws top) 
 pub collect-sound : (F : ℕ) (ws : List ℕ) (top : ℕ) → Sound F ws top
     → collectIn F ws top ≡ done (collected F ws top) (collectedTop F ws top) (live F ws top)
 unfolding collectIn
-collect-sound F ws top s = rw (sound-check F ws top s) (unfold only in refl)
+collect-sound F ws top s = rw (sound-check F ws top s) (refl)
 
 pub same-length : {F : ℕ} {ws : List ℕ} {top : ℕ} {ws′ : List ℕ} {top′ : ℕ} → Sound F ws top → Sound F ws′ top′
     → capacity ws ≡ capacity ws′ → length ws ≡ length ws′
@@ -188,7 +188,6 @@ module _ (F : ℕ) (ws : List ℕ) (top : ℕ) (s : Sound F ws top) (ws′ : Lis
       collect-sound F ws top s ∙ (rw (q .0, q .1, n) refl ∙ sym (collect-sound F ws′ top′ s′))
 
   pub collects-canon : collectIn F ws top ≡ collectIn F ws′ top′ → canon F ws top ≡ canon F ws′ top′
-  unfolding done
   collects-canon e =
       let q : done (collected F ws top) (collectedTop F ws top) (live F ws top)
       ≡ done (collected F ws′ top′) (collectedTop F ws′ top′) (live F ws′ top′) =

@@ -71,7 +71,6 @@ module _ (F : ℕ) (ws : List ℕ) (top : ℕ) (p : 0 < F) (s : Sound F ws top) 
       → 2 * (top + 1) ≤ length ws
       → Agree F (done (put (put ws top b) d (ends top top)) (suc top) 0)
       (done (put (put ws′ top′ b′) d (ends top′ top′)) (suc top′) 0)
-  unfolding done
   one-agree d l b b′ t t′ a e r =
       let z : top + 1 ≡ suc top = omega arith in
       let z′ : top′ + 1 ≡ suc top′ = omega arith in
@@ -107,7 +106,7 @@ module _ (F : ℕ) (ws : List ℕ) (top : ℕ) (p : 0 < F) (s : Sound F ws top) 
   run-agree : (d : ℕ) → d < F → (x y : Cell) → BracketIn F top x → BracketIn F top y → Along P new x → Along P new y
       → 0 < size x → 0 < size y → 2 * (top + (size x + size y)) ≤ length ws
       → Agree F (newRunOf d x y ws top) (newRunOf d (mapEnds new x) (mapEnds new y) ws′ top′)
-  unfolding newRunOf done
+  unfolding newRunOf
   run-agree d l (code c) y t u a b z w r = absurd t
   run-agree d l hollow y t u a b z w r = absurd (not-suc-le-zero z)
   run-agree d l (ends x₁ x₂) (code c) t u a b z w r = absurd u

@@ -140,7 +140,6 @@ by-parts x w u c v e f g h = rw (← e, ← f, ← g, ← h) refl
 
 is-done : (x : Done) (w : List ℕ) (u v : ℕ) → x .verdict .status ≡ 0 → x .verdict .value ≡ v → x .words ≡ w → x .top ≡ u
     → x ≡ done w u v
-unfolding done
 is-done x w u v = by-parts x w u 0 v
 
 module _ (F : ℕ) (p : 0 < F) (ws : List ℕ) (top : ℕ) (s : Sound F ws top) where
@@ -184,7 +183,6 @@ calls-answer F p ws top s =
 
 answered : (F : ℕ) (p : 0 < F) (ws : List ℕ) (top : ℕ) {cs : List ℕ} → Fours cs → Sound F ws top
     → Answered F ws top cs (runs F ws top cs .answers) (runs F ws top cs .words) (runs F ws top cs .top)
-unfolding then
 answered F p ws top none s = Answered.none
 answered F p ws top (four {o} {d} {a} {b} {cs} c) s =
     let r = step F ws top o d a b in

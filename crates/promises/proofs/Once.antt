@@ -117,7 +117,6 @@ one-collected F p ws top s v g =
     (λ i l h. free-words F v t (g .sound) i l (rw (g .len) h))
 
 unsound-check : (F : ℕ) (ws : List ℕ) (top n : ℕ) → check F ws top .status ≡ suc n → Not (Sound F ws top)
-unfolding only
 unsound-check F ws top n e s =
     let z : check F ws top .status ≡ 0 = ap (λ (v : Verdict). v .status) (sound-check F ws top s) in omega arith
 
@@ -141,7 +140,6 @@ one-collect F ws top r q a b = go (check F ws top .status) refl
 
 answered-runs : (F : ℕ) {ws : List ℕ} {top : ℕ} {cs ans v : List ℕ} {t : ℕ} → Answered F ws top cs ans v t
     → calling F ws top cs ≡ record { words = v; top = t; answers = ans }
-unfolding then
 answered-runs F none = refl
 answered-runs F (next {ws} {top} {o} {d} {a} {b} {cs} r e c k) =
     rw (← e) (ap (λ (q : Ran). then r q) (answered-runs F k))
@@ -162,7 +160,6 @@ module _ (F : ℕ) (ws : List ℕ) (top : ℕ) (calls out : List ℕ) where
 
   -- a store is sound or it is not
   clash : (v : Verdict) → Judged F ws top v → v .status ≢ 0 → Not (Sound F ws top)
-  unfolding only
   clash v j n s = n (ap (λ (x : Verdict). x .status) (judged-once F ws top v (only 0) j (isSound s)))
 
   batched-once : (r q : Outcome) → Batched F ws top calls out r → Batched F ws top calls out q
@@ -186,7 +183,6 @@ module _ (F : ℕ) (ws : List ℕ) (top : ℕ) (calls out : List ℕ) where
   batched-once r q (runs x s c l e) (runs y t d m f) h = h e f
 
 pub one-batch : OneBatch
-unfolding only
 one-batch F ws top calls out r q a b =
     batched-once F ws top calls out r q (a .table .batched) (b .table .batched)
     (λ e f. both-run F ws top calls out r q e f (a .run (ap (λ (v : Verdict). v .status) e))

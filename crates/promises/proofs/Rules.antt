@@ -90,14 +90,12 @@ module _ (F : ℕ) (ws : List ℕ) (top : ℕ) where
   judged = judge F ws top (check F ws top) (checks F ws top)
 
   pub judged-number : (v : Verdict) → Judged F ws top v → OneOf (v .status) (0 ∷ 1 ∷ 2 ∷ 3 ∷ [])
-  unfolding only
   judged-number v (badLength n) = inr (inl refl)
   judged-number v (badTop l n) = inr (inr (inl refl))
   judged-number v (badCell c l t m n b) = inr (inr (inr (inl refl)))
   judged-number v (isSound s) = inl refl
 
   pub judged-value : (v : Verdict) → Judged F ws top v → v .status ≢ 3 → v .value ≡ 0
-  unfolding only
   judged-value v (badLength n) h = refl
   judged-value v (badTop l n) h = refl
   judged-value v (badCell c l t m n b) h = absurd (h refl)

@@ -33,8 +33,8 @@ module _ (F : ℕ) (p : 0 < F) (ws : List ℕ) (top : ℕ) where
     where
       go : (f : ℕ)
           → canon F (stepAfter f F ws top 11 d a b .words) (stepAfter f F ws top 11 d a b .top) ≡ canon F ws top
-      go zero = unfold stepAfter ops opAt perform planOf carry done in canon-collected F ws top p s
-      go (suc f) = unfold stepAfter refused in refl
+      go zero = unfold stepAfter ops opAt perform planOf carry in canon-collected F ws top p s
+      go (suc f) = unfold stepAfter in refl
 
   -- a call in twins
   step-twin : (ws′ : List ℕ) (top′ o d a b : ℕ) → Twin F ws top ws′ top′
@@ -72,7 +72,6 @@ record Same (F : ℕ) (cs : List ℕ) (q q′ : Ran) : Type 0 where
 
 runs-struck : (F : ℕ) (p : 0 < F) {cs : List ℕ} → Fours cs → (ws : List ℕ) (top : ℕ) (ws′ : List ℕ) (top′ : ℕ)
     → Twin F ws top ws′ top′ → Same F cs (runs F ws top cs) (runs F ws′ top′ (strike cs))
-unfolding then
 runs-struck F p none ws top ws′ top′ t = record { answers = refl; twins = t }
 runs-struck F p (four {o} {d} {a} {b} {cs} c) ws top ws′ top′ t = go (isCollect o) refl (runs-struck F p c)
   where
@@ -115,7 +114,6 @@ fours-append ds (four c) g = four (fours-append ds c g)
 -- two answers a call
 pub answers-length : (F : ℕ) (ws : List ℕ) (top : ℕ) {cs : List ℕ} → Fours cs
     → length (runs F ws top cs .answers) ≡ 2 * (length cs / 4)
-unfolding then
 answers-length F ws top none = refl
 answers-length F ws top (four {o} {d} {a} {b} {cs} c) =
     omega (arith, answers-length F (step F ws top o d a b .words) (step F ws top o d a b .top) c)
@@ -152,7 +150,7 @@ collections-never-show F p ws top ws′ top′ s s′ c a bs bs′ n n′ e =
     (record {
       answers = h .0;
       alike = canon-alike F p (q .words) (q .top) (h .1 .one) (q′ .words) (q′ .top) (h .1 .two) (h .1 .same);
-      collects = unfold done in ap (λ (x : Done). x .verdict .status) (collect-sound F (q .words) (q .top) (h .1 .one));
+      collects = ap (λ (x : Done). x .verdict .status) (collect-sound F (q .words) (q .top) (h .1 .one));
       equal = canon-collects F (q .words) (q .top) (h .1 .one) (q′ .words) (q′ .top) (h .1 .two) (h .1 .len)
           (h .1 .same);
     })

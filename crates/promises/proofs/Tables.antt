@@ -35,7 +35,6 @@ use Rattle.promises.proofs.Numbers.{fault-number, unfit-number, first-o
 -- ---- the check
 
 pub check-answers : CheckAnswers
-unfolding only
 check-answers F ws top =
     let v = check F ws top in
     let j = judged F ws top in
@@ -49,7 +48,7 @@ check-answers F ws top =
 -- ---- a fresh store
 
 pub fresh-answers : FreshAnswers
-unfolding freshIn done refused only
+unfolding freshIn
 fresh-answers F ws = go (lengthTest F (length ws)) refl
   where
     go : (t : Bool) → lengthTest F (length ws) ≡ t
@@ -79,7 +78,7 @@ fresh-answers F ws = go (lengthTest F (length ws)) refl
 -- ---- collecting alone
 
 pub collect-answers : CollectAnswers
-unfolding collectIn collectedTop done refused only
+unfolding collectIn collectedTop
 collect-answers F ws top = go (check F ws top .status) refl
   where
     go : (n : ℕ) → check F ws top .status ≡ n
@@ -103,7 +102,6 @@ collect-answers F ws top = go (check F ws top .status) refl
 -- ---- the look
 
 pub look-answers : LookAnswers
-unfolding only
 look-answers F p ws top i = go (check F ws top .status) refl
   where
     go : (n : ℕ) → check F ws top .status ≡ n → LookTable F ws top i (look F ws top i)
@@ -154,7 +152,6 @@ module _ (F : ℕ) (ws : List ℕ) (top : ℕ) (calls out : List ℕ) where
 
   batched-number : (r : Outcome) → Batched F ws top calls out r
       → OneOf (r .verdict .status) (0 ∷ 1 ∷ 2 ∷ 3 ∷ 4 ∷ 5 ∷ [])
-  unfolding asLent only
   batched-number r (unsound v j n) = wider (v .status) (judged-number F ws top v j)
     where
       wider : (n : ℕ) → OneOf n (0 ∷ 1 ∷ 2 ∷ 3 ∷ []) → OneOf n (0 ∷ 1 ∷ 2 ∷ 3 ∷ 4 ∷ 5 ∷ [])
@@ -168,7 +165,6 @@ module _ (F : ℕ) (ws : List ℕ) (top : ℕ) (calls out : List ℕ) where
   batched-number r (runs q s c l e) = inl (ap (λ (v : Verdict). v .status) e)
 
   batched-value : (r : Outcome) → Batched F ws top calls out r → r .verdict .status ≢ 3 → r .verdict .value ≡ 0
-  unfolding asLent only
   batched-value r (unsound v j n) h = judged-value F ws top v j h
   batched-value r (badCalls s n) h = refl
   batched-value r (badSpace s c n) h = refl
@@ -176,7 +172,6 @@ module _ (F : ℕ) (ws : List ℕ) (top : ℕ) (calls out : List ℕ) where
 
   batched-kept : (r : Outcome) → Batched F ws top calls out r → r .verdict .status ≢ 0
       → (r .words ≡ ws) × (r .top ≡ top) × (r .answers ≡ out)
-  unfolding asLent only
   batched-kept r (unsound v j n) h = (refl, refl, refl)
   batched-kept r (badCalls s n) h = (refl, refl, refl)
   batched-kept r (badSpace s c n) h = (refl, refl, refl)
@@ -185,7 +180,7 @@ module _ (F : ℕ) (ws : List ℕ) (top : ℕ) (calls out : List ℕ) where
 no-calls : (F : ℕ) (ws : List ℕ) (top : ℕ) (out : List ℕ) → Sound F ws top
     → (batch F ws top [] out .verdict .status ≡ 0) × (batch F ws top [] out .words ≡ ws)
     × (batch F ws top [] out .top ≡ top)
-unfolding batch batchOf ended callsTest only
+unfolding batch batchOf ended callsTest
 no-calls F ws top out s =
     rw (sound-check F ws top s, batchOf, le-leb 0 callsLimit (omega arith), le-leb 0 (length out) (omega arith))
     (refl, refl, refl)

@@ -59,46 +59,45 @@ module _ (d t n : ℕ) (ws : List ℕ) (top : ℕ) where
   Only r = OnlyThere d t n ws (r .words)
 
   pub clear-only : Only (done (put ws d hollow) top 0)
-  unfolding done
   clear-only = only-put d t n ws hollow
 
   pub share-only : (a : ℕ) → Only (share d a ws top)
-  unfolding share done
+  unfolding share
   share-only a = only-copy d t n ws a
 
   pub head-only : (b : Cell) → Only (head ws top d b)
-  unfolding head done refused
+  unfolding head
   head-only (code a) = only-same d t n ws
   head-only hollow = only-same d t n ws
   head-only (ends l r) = only-put d t n ws (ends l l)
 
   pub rest-only : (b : Cell) → Only (rest ws top d b)
-  unfolding rest done refused
+  unfolding rest
   rest-only (code a) = only-same d t n ws
   rest-only hollow = only-same d t n ws
   rest-only (ends l r) = only-put d t n ws _
 
   open-only : (x : ℕ) (b : Cell) → Only (openTerm ws top d x b)
-  unfolding openTerm done refused
+  unfolding openTerm
   open-only x (code a) = only-same d t n ws
   open-only x hollow = only-copy d t n ws x
   open-only x (ends l r) = only-copy d t n ws x
 
   pub openFirst-only : (b : Cell) → Only (openFirst ws top d b)
-  unfolding openFirst refused
+  unfolding openFirst
   openFirst-only (code a) = only-same d t n ws
   openFirst-only hollow = only-same d t n ws
   openFirst-only (ends l r) = open-only l (at ws l)
 
 -- FIRST changes no word
 code-words : (ws : List ℕ) (top : ℕ) (b : Cell) → codeTerm ws top b .words ≡ ws
-unfolding codeTerm done refused
+unfolding codeTerm
 code-words ws top (code a) = refl
 code-words ws top hollow = refl
 code-words ws top (ends l r) = refl
 
 pub first-words : (ws : List ℕ) (top : ℕ) (b : Cell) → codeFirst ws top b .words ≡ ws
-unfolding codeFirst refused
+unfolding codeFirst
 first-words ws top (code a) = refl
 first-words ws top hollow = refl
 first-words ws top (ends l r) = code-words ws top (at ws l)
@@ -114,16 +113,16 @@ module _ (d : ℕ) (ws : List ℕ) (top : ℕ) where
       away c (inr z) = omega arith
 
   pub symbol-only : (a : ℕ) → OnlyThere d top 1 ws (newSymbol d a ws top .words)
-  unfolding newSymbol done
+  unfolding newSymbol
   symbol-only a =
       one-only (put ws top (code a)) (λ c h. only-put top 0 0 ws (code a) c h (inr (omega arith))) (ends top top)
 
   pub wrap-only : (a : ℕ) → OnlyThere d top 1 ws (newBracket d a ws top .words)
-  unfolding newBracket done
+  unfolding newBracket
   wrap-only a = one-only (copy ws top a) (λ c h. only-copy top 0 0 ws a c h (inr (omega arith))) (ends top top)
 
   pub run-only : (a b n : ℕ) → size (at ws a) + size (at ws b) ≡ n → OnlyThere d top n ws (newRun d a b ws top .words)
-  unfolding newRun newRunOf done
+  unfolding newRun newRunOf
   run-only a b n e =
       let p = at ws a in
       let q = at ws b in

@@ -224,7 +224,7 @@ module _ (F : ℕ) (ws : List ℕ) (top : ℕ) (ws′ : List ℕ) (top′ : ℕ)
   perform-twin COLLECT d a b q = via-collected F ws top ws′ top′ p t (λ v u. done v u (live F v u))
 
   pub step-agrees : (o d a b : ℕ) → Agree F (step F ws top o d a b) (step F ws′ top′ o d a b)
-  unfolding step stepAfter refused
+  unfolding step stepAfter
   step-agrees o d a b = go (fault F o d a b) refl
     where
       go : (f : ℕ) → fault F o d a b ≡ f → Agree F (stepAfter f F ws top o d a b) (stepAfter f F ws′ top′ o d a b)

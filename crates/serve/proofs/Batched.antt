@@ -1,18 +1,17 @@
 -- A batch on a fresh store is not refused, and what it leaves is what the program has to write.
 -- Assumes nothing.
-use mathlib.Core.Path.{_≡_, refl, sym, ap, ap₂, _∙_, subst}
-use mathlib.Core.Bool.{Bool, true, false, cond}
+use mathlib.Core.Path.{_≡_, refl, sym, ap, ap₂, _∙_}
 use mathlib.Core.List.{List, [], _∷_, _++_, append-nil}
-use Prim.Native.Nat.{ℕ, zero, suc, _+_, _-_, _*_, _/_, _%_, _≤_, _<_}
+use Prim.Native.Nat.{ℕ, _+_, _-_, _*_, _/_, _%_, _≤_}
 use native.Mathlib.Omega.{arith}
-use lib.Dec.{ltb, leb, eqb}
+use lib.Dec.{ltb, leb}
 use lib.ListN.{length, take, replicate, length-replicate}
 use lib.Seq.{length-take-le}
-use borrow.Author.Tests.{le-ltb, le-leb, eq-eqb}
+use borrow.Author.Tests.{le-ltb, le-leb}
 use Rattle.meaning.specs.Limits.{firstCell, limit, callsLimit, programCells, programBytes}
 use Rattle.meaning.specs.Sound.{Sound, capacity}
-use Rattle.meaning.specs.Check.{Verdict, only, Done, done, refused, check, lengthTest, fresh, freshIn, ifSound}
-use Rattle.meaning.specs.Batch.{Ran, then, runs, Outcome, asLent, ended, callsTest, batchOf, batch}
+use Rattle.meaning.specs.Check.{Done, done, check, lengthTest, fresh, freshIn}
+use Rattle.meaning.specs.Batch.{Ran, runs, Outcome, ended, callsTest, batchOf, batch}
 use Rattle.meaning.specs.Call.{step}
 use Rattle.meaning.specs.Program.{linesOf, written, served}
 use Rattle.meaning.proofs.Fresh.{fresh-sound}
@@ -29,18 +28,15 @@ use Rattle.calls.specs.declared.Ran.the-variants.{Ended, BadLength, BadTop, Dam
 -- ---- what an answer's case says apart from the words and the answers
 
 pub made-top : (m : Made) (ws : List ℕ) → madeIn m ws .top ≡ madeIn m [] .top
-unfolding done refused
 made-top (made.Ready t) ws = refl
 made-top made.BadLength ws = refl
 
 made-words : (m : Made) (ws : List ℕ) → madeIn m ws .words ≡ ws
-unfolding done refused
 made-words (made.Ready t) ws = refl
 made-words made.BadLength ws = refl
 
 pub ran-top : (r : ran.Ran) (ws : List ℕ) (top : ℕ) (answers : List ℕ)
     → ranIn r ws top answers .top ≡ ranIn r [] top [] .top
-unfolding asLent
 ran-top (Ended t) ws top answers = refl
 ran-top BadLength ws top answers = refl
 ran-top BadTop ws top answers = refl
@@ -49,7 +45,6 @@ ran-top BadCalls ws top answers = refl
 ran-top ShortAnswers ws top answers = refl
 
 ran-answers : (r : ran.Ran) (ws : List ℕ) (top : ℕ) (answers : List ℕ) → ranIn r ws top answers .answers ≡ answers
-unfolding asLent
 ran-answers (Ended t) ws top answers = refl
 ran-answers BadLength ws top answers = refl
 ran-answers BadTop ws top answers = refl
@@ -60,7 +55,6 @@ ran-answers ShortAnswers ws top answers = refl
 -- ---- two answers a call
 
 runs-length : (F : ℕ) (ws : List ℕ) (top : ℕ) (cs : List ℕ) → length (runs F ws top cs .answers) ≡ 2 * (length cs / 4)
-unfolding then
 runs-length F ws top [] = refl
 runs-length F ws top (o ∷ []) = refl
 runs-length F ws top (o ∷ d ∷ []) = refl
@@ -79,7 +73,7 @@ ended-answers r out e =
 module _ (F : ℕ) (ws : List ℕ) (top : ℕ) (cs out : List ℕ) (s : Sound F ws top) (short : length cs ≤ callsLimit)
     (whole : length cs % 4 ≡ 0) (space : length out ≡ 2 * (length cs / 4)) where
   batch-ended : batch F ws top cs out ≡ ended (runs F ws top cs) out
-  unfolding batch batchOf callsTest only
+  unfolding batch batchOf callsTest
   batch-ended =
       rw (
         sound-check F ws top s,
@@ -107,11 +101,9 @@ module _ (ws cs out : List ℕ) (l : Lent ws cs out) where
 
   module _ (m : Made) (ws′ : List ℕ) (e : madeIn m ws′ ≡ freshIn firstCell ws) where
     fresh-words : ws′ ≡ fresh firstCell (capacity ws)
-    unfolding done
     fresh-words = sym (made-words m ws′) ∙ ap (λ (d : Done). d .words) (e ∙ fresh-done)
 
     fresh-top : madeIn m [] .top ≡ firstCell
-    unfolding done
     fresh-top = sym (made-top m ws′) ∙ ap (λ (d : Done). d .top) (e ∙ fresh-done)
 
     -- what is left by the calls, run where the fresh store is

@@ -1,5 +1,5 @@
 -- The claim of specs/Unique.antt, and that the bytes to write are a part of the space lent. Assumes nothing.
-use mathlib.Core.Path.{_≡_, ap}
+use mathlib.Core.Path.{ap}
 use mathlib.Core.List.{List}
 use Prim.Native.Nat.{ℕ, _≤_}
 use native.Mathlib.Omega.{arith}

@@ -1,10 +1,10 @@
 -- How many bytes the lines of the output take, and how they are made of their fields. Assumes nothing.
-use mathlib.Core.Path.{_≡_, refl, sym, ap, _∙_}
+use mathlib.Core.Path.{_≡_, refl, ap}
 use mathlib.Core.List.{List, [], _∷_, _++_, append-assoc}
 use Prim.Native.Nat.{ℕ, suc, _+_, _*_, _^_, _≤_, _<_}
 use native.Mathlib.Omega.{arith}
 use lib.ListN.{length, getD, drop, length-append, length-drop}
-use lib.Seq.{append-snoc, drop-cons}
+use lib.Seq.{drop-cons}
 use Rattle.meaning.specs.Program.{decimal, linesOf, refusal, written}
 use Rattle.serve.specs.Put.{Put}
 use Rattle.serve.specs.Lines.{topLine}

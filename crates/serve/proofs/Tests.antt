@@ -1,14 +1,13 @@
 -- The program's tests in their order, and what it has to write by each. Assumes nothing.
-use mathlib.Core.Path.{_≡_, refl}
-use mathlib.Core.Bool.{Bool, true, false, cond, _||_}
+use mathlib.Core.Path.{_≡_}
+use mathlib.Core.Bool.{cond}
 use mathlib.Core.List.{List}
-use Prim.Native.Nat.{ℕ, _+_, _-_, _*_, _%_, _≤_, _<_}
-use native.Mathlib.Omega.{arith}
+use Prim.Native.Nat.{ℕ, _-_, _%_, _≤_, _<_}
 use lib.Dec.{ltb}
 use lib.ListN.{length, getD, drop}
 use borrow.Author.Tests.{lt-ltb, le-ltb}
 use Rattle.meaning.specs.Limits.{firstCell, programCells, programBytes}
-use Rattle.meaning.specs.Program.{wordsOf, refusal, served, program, decimal}
+use Rattle.meaning.specs.Program.{wordsOf, refusal, served, program}
 
 module _ (input : List ℕ) where
   pub too-short : length input < 4 → program firstCell input ≡ refusal 1 0

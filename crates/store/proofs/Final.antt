@@ -21,7 +21,6 @@ numbered (suc (suc zero)) v = checked.BadTop
 numbered (suc (suc (suc s))) v = checked.Damaged v
 
 numbered-back : (r : Checked) → numbered (verdictOf r .status) (verdictOf r .value) ≡ r
-unfolding only
 numbered-back checked.Sound = refl
 numbered-back checked.BadLength = refl
 numbered-back checked.BadTop = refl
@@ -38,12 +37,10 @@ abbrev madeOf : Done → Made
 madeOf d = onZero (d .verdict .status) (made.Ready (d .top)) made.BadLength
 
 made-back : (r : Made) (vs : List ℕ) → madeOf (madeIn r vs) ≡ r
-unfolding only done refused
 made-back (made.Ready t) vs = refl
 made-back made.BadLength vs = refl
 
 words-back : (r : Made) (vs : List ℕ) → madeIn r vs .words ≡ vs
-unfolding done refused
 words-back (made.Ready t) vs = refl
 words-back made.BadLength vs = refl
 

@@ -39,7 +39,6 @@ module _ (F : ℕ) (ws : List ℕ) (top : ℕ) (found : Checked) (q : verdictOf 
   sound-no e z = eqb-false (verdictOf found .status) 0 e (status ∙ z)
 
   pub sound-iff : (zero? ≡ true) ↔ Sound F ws top
-  unfolding only
   sound-iff = (
     λ e. check-sound F ws top (status-zero e),
     λ s. eq-eqb (verdictOf found .status) 0 (status ∙ ap (λ (v : Verdict). v .status) (sound-check F ws top s)),

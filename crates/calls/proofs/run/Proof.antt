@@ -14,7 +14,6 @@ run-sound-requires c κs =
     (check .check .ensures) (c .before .before .enum-told .given .1)
 
 returns : tie.Need-returns
-unfolding only
 returns c =
     let run-sound = c .before .before .before .before in
     let enum-told = run-sound .before .before .before in
@@ -24,21 +23,18 @@ returns c =
     (s .args .answers .now) (check .check .ensures) (enum-told .enum-told .given .1))
 
 returns-2 : tie.Need-returns-2
-unfolding only
 returns-2 c =
     let s = c .before .before .before .before .before .before .before in
     sym (batch-by (s .args .ws .now) (s .args .top) (s .args .calls .now) (s .args .answers .now)
     (c .before .before .check .ensures) (c .enum-told2 .given .1))
 
 returns-3 : tie.Need-returns-3
-unfolding only
 returns-3 c =
     let s = c .before .before .before .before .before .before .before in
     sym (batch-by (s .args .ws .now) (s .args .top) (s .args .calls .now) (s .args .answers .now)
     (c .before .before .check .ensures) (c .enum-told3 .given .1))
 
 returns-4 : tie.Need-returns-4
-unfolding only
 returns-4 c =
     let check = c .before .before .before in
     let s = check .before .before .before .before .before in

@@ -8,8 +8,6 @@ use Rattle.capi.proofs.reply.Tie as tie
 cast-t4 : tie.Need-cast-t4
 cast-t4 c = omega (arith, limit-fits)
 
-returns : tie.Need-returns
-returns c = search needs
-
 pub reply-spec : {M : Type 1} → statement M
-reply-spec = tie.close (tie.spec cast-t4 returns)
+reply-spec = tie.close (tie.spec
+    cast-t4 (λ c. search needs))

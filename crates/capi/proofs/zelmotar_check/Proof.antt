@@ -7,48 +7,21 @@ use borrow.Author.Needs.{needs}
 use Rattle.capi.proofs.zelmotar_check.Statement.{statement}
 use Rattle.capi.proofs.zelmotar_check.Tie as tie
 
-check-requires : tie.Need-check-requires
-check-requires c κs = search needs
-
-enum-told : tie.Need-enum-told
-enum-told c = search needs
-
-reply-requires : tie.Need-reply-requires
-reply-requires c κs = search needs
-
-enum-told-2 : tie.Need-enum-told-2
-enum-told-2 c = search needs
-
-reply-requires-2 : tie.Need-reply-requires-2
-reply-requires-2 c κs = search needs
-
-enum-told-3 : tie.Need-enum-told-3
-enum-told-3 c = search needs
-
-reply-requires-3 : tie.Need-reply-requires-3
-reply-requires-3 c κs = search needs
-
-enum-known-cell : tie.Need-enum-known-cell
-enum-known-cell c = search needs
-
 reply-requires-4 : tie.Need-reply-requires-4
 reply-requires-4 c κs =
     check-fits firstCell _ _ (rw (c .before .cell .given .1) at (c .before .before .before .check .ensures))
 
 returns : tie.Need-returns
-unfolding only
 returns c =
     let found = c .before .before .before .check in
     rw (c .reply .ensures) (rw (c .before .enum-told .given .1) at (found .ensures), refl)
 
 returns-2 : tie.Need-returns-2
-unfolding only
 returns-2 c =
     let found = c .before .before .before .check in
     rw (c .reply2 .ensures) (rw (c .before .enum-told2 .given .1) at (found .ensures), refl)
 
 returns-3 : tie.Need-returns-3
-unfolding only
 returns-3 c =
     let found = c .before .before .before .check in
     rw (c .reply3 .ensures) (rw (c .before .enum-told3 .given .1) at (found .ensures), refl)
@@ -62,16 +35,6 @@ pub zelmotar-check-spec : {M : Type 1} → statement M
 zelmotar-check-spec =
     tie.close
     (tie.spec
-    check-requires
-    enum-told
-    reply-requires
-    enum-told-2
-    reply-requires-2
-    enum-told-3
-    reply-requires-3
-    enum-known-cell
-    reply-requires-4
-    returns
-    returns-2
-    returns-3
+    (λ c κs. search needs) (λ c. search needs) (λ c κs. search needs) (λ c. search needs) (λ c κs. search needs)
+    (λ c. search needs) (λ c κs. search needs) (λ c. search needs) reply-requires-4 returns returns-2 returns-3
     returns-4)

@@ -6,29 +6,11 @@ use borrow.Author.Needs.{needs}
 use Rattle.collect.proofs.collect.Statement.{statement}
 use Rattle.collect.proofs.collect.Tie as tie
 
-check-requires : tie.Need-check-requires
-check-requires c κs = search needs
-
-enum-told : tie.Need-enum-told
-enum-told c = search needs
-
 gather-requires : tie.Need-gather-requires
 gather-requires c κs = passed _ _ _ (c .before .before .before .check .ensures) (c .before .enum-told .given .1)
 
 sub-t11 : tie.Need-sub-t11
 sub-t11 c = top-low _ _ _ _ (c .before .before .gather .ensures .1)
-
-enum-told-2 : tie.Need-enum-told-2
-enum-told-2 c = search needs
-
-enum-told-3 : tie.Need-enum-told-3
-enum-told-3 c = search needs
-
-enum-known-found : tie.Need-enum-known-found
-enum-known-found c = search needs
-
-same-length : tie.Need-same-length
-same-length c = search needs
 
 returns : tie.Need-returns
 returns c =
@@ -38,22 +20,11 @@ returns c =
     alone-done _ _ _ (passed _ _ _ (k .check .ensures) (m .enum-told .given .1)) _ _ (g .gather .ensures .0)
     (g .gather .ensures .1)
 
-same-length-2 : tie.Need-same-length-2
-same-length-2 c = search needs
-
 returns-2 : tie.Need-returns-2
-unfolding only
 returns-2 c = refuses _ _ _ (c .before .before .check .ensures) (c .enum-told2 .given .1) 0 refl
 
-same-length-3 : tie.Need-same-length-3
-same-length-3 c = search needs
-
 returns-3 : tie.Need-returns-3
-unfolding only
 returns-3 c = refuses _ _ _ (c .before .before .check .ensures) (c .enum-told3 .given .1) 1 refl
-
-same-length-4 : tie.Need-same-length-4
-same-length-4 c = search needs
 
 returns-4 : tie.Need-returns-4
 returns-4 c = refuses _ _ _ (c .before .before .before .check .ensures) (c .before .found .given .1) 2 refl
@@ -62,18 +33,6 @@ pub collect-spec : {M : Type 1} → statement M
 collect-spec =
     tie.close
     (tie.spec
-    check-requires
-    enum-told
-    gather-requires
-    sub-t11
-    enum-told-2
-    enum-told-3
-    enum-known-found
-    same-length
-    returns
-    same-length-2
-    returns-2
-    same-length-3
-    returns-3
-    same-length-4
-    returns-4)
+    (λ c κs. search needs) (λ c. search needs) gather-requires sub-t11 (λ c. search needs) (λ c. search needs)
+    (λ c. search needs) (λ c. search needs) returns (λ c. search needs) returns-2 (λ c. search needs) returns-3
+    (λ c. search needs) returns-4)

@@ -49,9 +49,6 @@ clear-requires c κs =
       ),
     )
 
-same-length : tie.Need-same-length
-same-length c = search needs
-
 returns : tie.Need-returns
 returns c =
     let z = c .before .before in
@@ -71,10 +68,5 @@ pub compact-spec : {M : Type 1} → statement M
 compact-spec =
     tie.close
     (tie.spec
-    thread-heap-requires
-    thread-registers-requires
-    slide-requires
-    settle-registers-requires
-    clear-requires
-    same-length
-    returns)
+    thread-heap-requires thread-registers-requires slide-requires settle-registers-requires clear-requires
+    (λ c. search needs) returns)

@@ -3,15 +3,6 @@ use borrow.Author.Needs.{needs}
 use Rattle.collect.proofs.gather.Statement.{statement}
 use Rattle.collect.proofs.gather.Tie as tie
 
-mark-requires : tie.Need-mark-requires
-mark-requires c κs = search needs
-
-compact-requires : tie.Need-compact-requires
-compact-requires c κs = search needs
-
-same-length : tie.Need-same-length
-same-length c = search needs
-
 returns : tie.Need-returns
 returns c =
     let first = c .before .before .before .before .before .before in
@@ -19,4 +10,5 @@ returns c =
     c .before .before .compact .ensures (start .args .ws .now) (start .pre) (first .mark .ensures)
 
 pub gather-spec : {M : Type 1} → statement M
-gather-spec = tie.close (tie.spec mark-requires compact-requires same-length returns)
+gather-spec = tie.close (tie.spec
+    (λ c κs. search needs) (λ c κs. search needs) (λ c. search needs) returns)

@@ -3,15 +3,6 @@ use borrow.Author.Needs.{needs}
 use Rattle.collect.proofs.live.Statement.{statement}
 use Rattle.collect.proofs.live.Tie as tie
 
-mark-requires : tie.Need-mark-requires
-mark-requires c κs = search needs
-
-unmark-requires : tie.Need-unmark-requires
-unmark-requires c κs = search needs
-
-same-length : tie.Need-same-length
-same-length c = search needs
-
 returns : tie.Need-returns
 returns c =
     let first = c .before .before .before .before .before .before in
@@ -19,4 +10,5 @@ returns c =
     c .before .before .unmark .ensures (start .args .ws .now) (start .pre) (first .mark .ensures)
 
 pub live-spec : {M : Type 1} → statement M
-live-spec = tie.close (tie.spec mark-requires unmark-requires same-length returns)
+live-spec = tie.close (tie.spec
+    (λ c κs. search needs) (λ c κs. search needs) (λ c. search needs) returns)

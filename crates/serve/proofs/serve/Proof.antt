@@ -17,12 +17,6 @@ returns c =
     let if1 = c .before .before .if1 in
     put-front _ (too-short (args .input .now) (if1 .taken)) (c .refuse .ensures)
 
-word-at-requires : tie.Need-word-at-requires
-word-at-requires c κs = search needs
-
-cast-cells : tie.Need-cast-cells
-cast-cells c = search needs
-
 refuse-requires-2 : tie.Need-refuse-requires-2
 refuse-requires-2 c κs = omega (arith, refusal-short 1 (omega arith), c .refuse-arg2 .given .0 .1)
 
@@ -66,9 +60,6 @@ returns-4 c =
     (too-long (args .input .now) (if1 .left) (word-at .result) (word-at .ensures) (if2 .left) (if3 .left)
     (if4 .taken))
     (c .refuse4 .ensures)
-
-sub-if5 : tie.Need-sub-if5
-sub-if5 c = search needs
 
 refuse-requires-5 : tie.Need-refuse-requires-5
 refuse-requires-5 c κs = omega (arith, refusal-short 4 (omega arith), c .refuse-arg5 .given .0 .1)
@@ -118,18 +109,6 @@ pub serve-spec : {M : Type 1} → statement M
 serve-spec =
     tie.close
     (tie.spec
-    refuse-requires
-    returns
-    word-at-requires
-    cast-cells
-    refuse-requires-2
-    returns-2
-    refuse-requires-3
-    returns-3
-    refuse-requires-4
-    returns-4
-    sub-if5
-    refuse-requires-5
-    returns-5
-    serve-calls-requires
+    refuse-requires returns (λ c κs. search needs) (λ c. search needs) refuse-requires-2 returns-2 refuse-requires-3
+    returns-3 refuse-requires-4 returns-4 (λ c. search needs) refuse-requires-5 returns-5 serve-calls-requires
     returns-6)

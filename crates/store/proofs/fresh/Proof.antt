@@ -19,17 +19,11 @@ Inv-loop ws₀ cells c₀ ws c =
 abbrev μ-loop : tie.MeasureT-loop
 μ-loop ws₀ cells c₀ ws c = cells - c
 
-length-ok-requires : tie.Need-length-ok-requires Inv-loop μ-loop
-length-ok-requires c κs = search needs
-
 returns : tie.Need-returns Inv-loop μ-loop
 returns c = sym (fresh-refused firstCell _ (sym (c .before .length-ok .ensures) ∙ not-true _ (c .if1 .taken)))
 
 loop-holds : tie.Need-loop-holds Inv-loop μ-loop
 loop-holds c = (omega arith, refl, below-none _)
-
-fresh-second-requires : tie.Need-fresh-second-requires Inv-loop μ-loop
-fresh-second-requires c κs = search needs
 
 put-cell-requires : tie.Need-put-cell-requires Inv-loop μ-loop
 put-cell-requires c κs = omega arith
@@ -48,9 +42,6 @@ loop-again c =
     let b = blank-more firstCell _ _ _ (omega arith) (put .before .fresh-second .ensures) (at-loop .loop .inv .2) in
     (omega arith, ap length e ∙ simp length-set (at-loop .loop .inv .1), rw e b)
 
-same-length : tie.Need-same-length Inv-loop μ-loop
-same-length c = search needs
-
 returns-2 : tie.Need-returns-2 Inv-loop μ-loop
 returns-2 c =
     let at-loop = c .before in
@@ -62,15 +53,5 @@ pub fresh-spec : {M : Type 1} → statement M
 fresh-spec =
     tie.close
     (tie.spec
-    Inv-loop
-    μ-loop
-    length-ok-requires
-    returns
-    loop-holds
-    fresh-second-requires
-    put-cell-requires
-    add-c
-    loop-less
-    loop-again
-    same-length
-    returns-2)
+    Inv-loop μ-loop (λ c κs. search needs) returns loop-holds (λ c κs. search needs) put-cell-requires add-c loop-less
+    loop-again (λ c. search needs) returns-2)

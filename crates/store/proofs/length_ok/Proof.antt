@@ -10,15 +10,9 @@ returns : tie.Need-returns
 unfolding lengthTest
 returns c = simp (ne-eqb _ _ (c .if1 .taken))
 
-mul-if2 : tie.Need-mul-if2
-mul-if2 c = search needs
-
 returns-2 : tie.Need-returns-2
 unfolding lengthTest
 returns-2 c = simp (eq-eqb _ _ (c .before .if1 .left), lt-ltb _ _ (c .if2 .taken))
-
-mul-result : tie.Need-mul-result
-mul-result c = search needs
 
 -- the code's number is the definition's
 returns-3 : tie.Need-returns-3
@@ -26,4 +20,5 @@ unfolding lengthTest limit
 returns-3 c = simp (eq-eqb _ _ (c .before .if1 .left), le-ltb _ _ (c .if2 .left))
 
 pub length-ok-spec : {M : Type 1} → statement M
-length-ok-spec = tie.close (tie.spec returns mul-if2 returns-2 mul-result returns-3)
+length-ok-spec = tie.close (tie.spec
+    returns (λ c. search needs) returns-2 (λ c. search needs) returns-3)

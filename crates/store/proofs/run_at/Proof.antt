@@ -18,26 +18,8 @@ known c =
     let p = c .before .before .before .pre .1 in
     contents firstCell (p .0) firstCell-pos (p .1) _ _ (c .before .second-word .ensures) (c .right-end .ensures) (p .2)
 
-second-word-requires : tie.Need-second-word-requires
-second-word-requires c κs = search needs
-
-right-end-requires : tie.Need-right-end-requires
-right-end-requires c κs = search needs
-
-cast-last : tie.Need-cast-last
-cast-last c = search needs
-
 returns : tie.Need-returns
 returns c = let e = known (c .before) .empty (c .if1 .taken) in (sym (e .0), sym (e .1))
-
-first-word-requires : tie.Need-first-word-requires
-first-word-requires c κs = search needs
-
-cast-start : tie.Need-cast-start
-cast-start c = search needs
-
-add-size : tie.Need-add-size
-add-size c = search needs
 
 sub-size : tie.Need-sub-size
 sub-size c = omega (arith, known (c .before .before) .full (c .before .if1 .left) .0, c .first-word .ensures)
@@ -52,12 +34,5 @@ pub run-at-spec : {M : Type 1} → statement M
 run-at-spec =
     tie.close
     (tie.spec
-    second-word-requires
-    right-end-requires
-    cast-last
-    returns
-    first-word-requires
-    cast-start
-    add-size
-    sub-size
-    returns-2)
+    (λ c κs. search needs) (λ c κs. search needs) (λ c. search needs) returns (λ c κs. search needs)
+    (λ c. search needs) (λ c. search needs) sub-size returns-2)

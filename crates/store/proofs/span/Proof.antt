@@ -28,12 +28,6 @@ inside c =
     let s = sound (c .before .before) in
     run-inside firstCell _ _ _ firstCell-pos s (c .before .if2 .left) (c .run-at .ensures .0) (c .run-at .ensures .1)
 
-check-requires : tie.Need-check-requires
-check-requires c κs = search needs
-
-is-sound-requires : tie.Need-is-sound-requires
-is-sound-requires c κs = search needs
-
 returns : tie.Need-returns
 returns c =
     let checked = c .before .before .check in
@@ -69,12 +63,4 @@ pub span-spec : {M : Type 1} → statement M
 span-spec =
     tie.close
     (tie.spec
-    check-requires
-    is-sound-requires
-    returns
-    returns-2
-    run-at-requires
-    mul-from
-    mul-to
-    add-to
-    returns-3)
+    (λ c κs. search needs) (λ c κs. search needs) returns returns-2 run-at-requires mul-from mul-to add-to returns-3)

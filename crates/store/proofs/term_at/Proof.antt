@@ -25,20 +25,11 @@ bracketed-not c =
     let b = bracketed c in
     contents firstCell (b .0) firstCell-pos (b .1) _ _ refl refl (b .2) .notCode
 
-second-word-requires : tie.Need-second-word-requires
-second-word-requires c κs = search needs
-
-is-bracket-requires : tie.Need-is-bracket-requires
-is-bracket-requires c κs = search needs
-
 run-at-requires : tie.Need-run-at-requires
 run-at-requires c κs = (search needs, bracketed c)
 
 returns : tie.Need-returns
 returns c = (bracketed-not (c .before), c .run-at .ensures)
-
-first-word-requires : tie.Need-first-word-requires
-first-word-requires c κs = search needs
 
 returns-2 : tie.Need-returns-2
 returns-2 c =
@@ -51,9 +42,4 @@ pub term-at-spec : {M : Type 1} → statement M
 term-at-spec =
     tie.close
     (tie.spec
-    second-word-requires
-    is-bracket-requires
-    run-at-requires
-    returns
-    first-word-requires
-    returns-2)
+    (λ c κs. search needs) (λ c κs. search needs) run-at-requires returns (λ c κs. search needs) returns-2)

@@ -6,21 +6,6 @@ use Rattle.serve.proofs.Final.{serves-fits}
 use Rattle.zelmotar.proofs.main.Statement.{statement}
 use Rattle.zelmotar.proofs.main.Tie as tie
 
-slice-aggregate-read-full : tie.Need-slice-aggregate-read-full
-slice-aggregate-read-full c = search needs
-
-read-full-requires : tie.Need-read-full-requires
-read-full-requires c κs = search needs
-
-array-share-prefix-input : tie.Need-array-share-prefix-input
-array-share-prefix-input c = search needs
-
-slice-aggregate-serve : tie.Need-slice-aggregate-serve
-slice-aggregate-serve c = search needs
-
-serve-requires : tie.Need-serve-requires
-serve-requires c κs = search needs
-
 array-share-prefix-out : tie.Need-array-share-prefix-out
 array-share-prefix-out c = serves-fits _ _ _ _ (c .serve .ensures)
 
@@ -32,22 +17,9 @@ slice-aggregate-write-all c =
     (c .before .serve .last .1 .0)
     (serves-fits _ _ _ _ (c .before .serve .ensures)))
 
-write-all-requires : tie.Need-write-all-requires
-write-all-requires c κs = search needs
-
-returns : tie.Need-returns
-returns c = search needs
-
 pub main-spec : {M : Type 1} → statement M
 main-spec =
     tie.close
     (tie.spec
-    slice-aggregate-read-full
-    read-full-requires
-    array-share-prefix-input
-    slice-aggregate-serve
-    serve-requires
-    array-share-prefix-out
-    slice-aggregate-write-all
-    write-all-requires
-    returns)
+    (λ c. search needs) (λ c κs. search needs) (λ c. search needs) (λ c. search needs) (λ c κs. search needs)
+    array-share-prefix-out slice-aggregate-write-all (λ c κs. search needs) (λ c. search needs))

@@ -5,7 +5,6 @@ use Rattle.calls.proofs.step.done.Statement.{statement}
 use Rattle.calls.proofs.step.done.Tie as tie
 
 returns : tie.Need-returns
-unfolding done
 returns c ws = refl
 
 pub done-spec : {M : Type 1} → statement M

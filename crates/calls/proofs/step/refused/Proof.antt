@@ -5,7 +5,6 @@ use Rattle.calls.proofs.step.refused.Statement.{statement}
 use Rattle.calls.proofs.step.refused.Tie as tie
 
 returns : tie.Need-returns
-unfolding refused only
 returns c ws = refl
 
 pub refused-spec : {M : Type 1} → statement M

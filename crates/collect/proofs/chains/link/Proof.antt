@@ -6,47 +6,17 @@ use Rattle.collect.proofs.chains.Linked.{link-words}
 use Rattle.collect.proofs.chains.link.Statement.{statement}
 use Rattle.collect.proofs.chains.link.Tie as tie
 
-right-end-requires : tie.Need-right-end-requires
-right-end-requires c κs = search needs
-
-cast-k : tie.Need-cast-k
-cast-k c = search needs
-
-first-word-requires : tie.Need-first-word-requires
-first-word-requires c κs = search needs
-
-first-word-requires-2 : tie.Need-first-word-requires-2
-first-word-requires-2 c κs = search needs
-
-second-word-requires : tie.Need-second-word-requires
-second-word-requires c κs = search needs
-
-sub-put-cell : tie.Need-sub-put-cell
-sub-put-cell c = search needs
-
 take-left-link-requires : tie.Need-take-left-link-requires
 take-left-link-requires c κs =
     let d = c .before .before .before in
     let a = d .before .before .before .before .before .before in
     rw (d .first-word2 .ensures, d .before .before .before .before .right-end .ensures) (a .pre .small)
 
-put-cell-requires : tie.Need-put-cell-requires
-put-cell-requires c κs = search needs
-
 cast-put-cell : tie.Need-cast-put-cell
 cast-put-cell c =
     let f = c .before .before .before .before .before .before .before .before in
     let a = f .before .before .before .before .before .before in
     omega (arith, a .pre .m-in, a .pre .len, limit-fits)
-
-set-left-chain-requires : tie.Need-set-left-chain-requires
-set-left-chain-requires c κs = search needs
-
-put-cell-requires-2 : tie.Need-put-cell-requires-2
-put-cell-requires-2 c κs = search needs
-
-same-length : tie.Need-same-length
-same-length c = search needs
 
 returns : tie.Need-returns
 returns c =
@@ -66,16 +36,6 @@ pub link-spec : {M : Type 1} → statement M
 link-spec =
     tie.close
     (tie.spec
-    right-end-requires
-    cast-k
-    first-word-requires
-    first-word-requires-2
-    second-word-requires
-    sub-put-cell
-    take-left-link-requires
-    put-cell-requires
-    cast-put-cell
-    set-left-chain-requires
-    put-cell-requires-2
-    same-length
-    returns)
+    (λ c κs. search needs) (λ c. search needs) (λ c κs. search needs) (λ c κs. search needs) (λ c κs. search needs)
+    (λ c. search needs) take-left-link-requires (λ c κs. search needs) cast-put-cell (λ c κs. search needs)
+    (λ c κs. search needs) (λ c. search needs) returns)

@@ -19,9 +19,6 @@ first-word-requires c κs = release-room (c .before .before .pre)
 loop-holds : tie.Need-loop-holds Inv-loop μ-loop
 loop-holds c = rw (c .first-word .ensures) release-start
 
-has-left-chain-requires : tie.Need-has-left-chain-requires Inv-loop μ-loop
-has-left-chain-requires c κs = search needs
-
 cast-k : tie.Need-cast-k Inv-loop μ-loop
 cast-k c =
     let l = c .before .before in
@@ -36,12 +33,6 @@ second-word-requires c κs =
     let l = t .before .before in
     let a = l .before .before .before .before in
     release-next (l .loop .inv) (sym (t .before .has-left-chain .ensures) ∙ t .if1 .taken) (a .pre) .k-in
-
-right-end-requires : tie.Need-right-end-requires Inv-loop μ-loop
-right-end-requires c κs = search needs
-
-take-right-link-requires : tie.Need-take-right-link-requires Inv-loop μ-loop
-take-right-link-requires c κs = search needs
 
 with-right-end-requires : tie.Need-with-right-end-requires Inv-loop μ-loop
 with-right-end-requires c κs =
@@ -92,18 +83,6 @@ pub release-spec : {M : Type 1} → statement M
 release-spec =
     tie.close
     (tie.spec
-    Inv-loop
-    μ-loop
-    first-word-requires
-    loop-holds
-    has-left-chain-requires
-    cast-k
-    second-word-requires
-    right-end-requires
-    take-right-link-requires
-    with-right-end-requires
-    put-second-requires
-    loop-less
-    loop-again
-    same-length
-    returns)
+    Inv-loop μ-loop first-word-requires loop-holds (λ c κs. search needs) cast-k second-word-requires
+    (λ c κs. search needs) (λ c κs. search needs) with-right-end-requires put-second-requires loop-less loop-again
+    same-length returns)

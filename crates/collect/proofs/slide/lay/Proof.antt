@@ -8,25 +8,10 @@ use Rattle.collect.proofs.slide.Rest.{laid-words}
 use Rattle.collect.proofs.slide.lay.Statement.{statement}
 use Rattle.collect.proofs.slide.lay.Tie as tie
 
-is-full-requires : tie.Need-is-full-requires
-is-full-requires c κs = search needs
-
-right-end-requires : tie.Need-right-end-requires
-right-end-requires c κs = search needs
-
 sub-a : tie.Need-sub-a
 sub-a c =
     let f = c .before .before in
     rw (c .right-end .ensures) (f .before .before .pre .long (sym (f .is-full .ensures) ∙ c .before .if1 .taken))
-
-clear-used-requires : tie.Need-clear-used-requires
-clear-used-requires c κs = search needs
-
-put-cell-requires : tie.Need-put-cell-requires
-put-cell-requires c κs = search needs
-
-same-length : tie.Need-same-length
-same-length c = search needs
 
 returns : tie.Need-returns
 returns c =
@@ -47,10 +32,5 @@ pub lay-spec : {M : Type 1} → statement M
 lay-spec =
     tie.close
     (tie.spec
-    is-full-requires
-    right-end-requires
-    sub-a
-    clear-used-requires
-    put-cell-requires
-    same-length
-    returns)
+    (λ c κs. search needs) (λ c κs. search needs) sub-a (λ c κs. search needs) (λ c κs. search needs)
+    (λ c. search needs) returns)

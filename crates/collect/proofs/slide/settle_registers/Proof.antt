@@ -39,9 +39,6 @@ lay-requires c κs =
     let a = l .before .before in
     settling-lay (l .loop .inv) (t .loop-test .taken) (f .first-word .ensures) (v .second-word .ensures) (a .pre)
 
-add-i : tie.Need-add-i Inv-loop μ-loop
-add-i c = search needs
-
 loop-less : tie.Need-loop-less Inv-loop μ-loop
 loop-less c = omega arith
 
@@ -67,14 +64,5 @@ pub settle-registers-spec : {M : Type 1} → statement M
 settle-registers-spec =
     tie.close
     (tie.spec
-    Inv-loop
-    μ-loop
-    loop-holds
-    first-word-requires
-    second-word-requires
-    lay-requires
-    add-i
-    loop-less
-    loop-again
-    same-length
-    returns)
+    Inv-loop μ-loop loop-holds first-word-requires second-word-requires lay-requires (λ c. search needs) loop-less
+    loop-again same-length returns)

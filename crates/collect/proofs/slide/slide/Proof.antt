@@ -24,9 +24,6 @@ second-word-requires c κs =
     let a = l .before .before in
     swept-room (l .loop .inv) (t .loop-test .taken) (a .pre) .0
 
-is-used-requires : tie.Need-is-used-requires Inv-loop μ-loop
-is-used-requires c κs = search needs
-
 cast-release : tie.Need-cast-release Inv-loop μ-loop
 cast-release c =
     let t = c .before .before .before .before .before in
@@ -66,9 +63,6 @@ add-new c =
     let k = swept-small (l .loop .inv) (t .loop-test .taken) (a .pre) in
     omega (arith, k)
 
-add-m : tie.Need-add-m Inv-loop μ-loop
-add-m c = search needs
-
 loop-less : tie.Need-loop-less Inv-loop μ-loop
 loop-less c = omega arith
 
@@ -99,17 +93,5 @@ pub slide-spec : {M : Type 1} → statement M
 slide-spec =
     tie.close
     (tie.spec
-    Inv-loop
-    μ-loop
-    loop-holds
-    second-word-requires
-    is-used-requires
-    cast-release
-    release-requires
-    lay-requires
-    add-new
-    add-m
-    loop-less
-    loop-again
-    same-length
-    returns)
+    Inv-loop μ-loop loop-holds second-word-requires (λ c κs. search needs) cast-release release-requires lay-requires
+    add-new (λ c. search needs) loop-less loop-again same-length returns)

@@ -5,17 +5,11 @@ use Rattle.collect.proofs.slide.Threads.{turn-link, turn-hit, turn-miss
 use Rattle.collect.proofs.slide.thread_at.Statement.{statement}
 use Rattle.collect.proofs.slide.thread_at.Tie as tie
 
-is-full-requires : tie.Need-is-full-requires
-is-full-requires c κs = search needs
-
 link-requires : tie.Need-link-requires
 link-requires c κs =
     let t = c .before in
     let a = t .before .before .before in
     turn-link (a .pre) (sym (t .before .is-full .ensures) ∙ t .if1 .taken)
-
-same-length : tie.Need-same-length
-same-length c = search needs
 
 returns : tie.Need-returns
 returns c =
@@ -28,4 +22,5 @@ returns-2 c =
     turn-miss (sym (c .before .is-full .ensures) ∙ c .if1 .left)
 
 pub thread-at-spec : {M : Type 1} → statement M
-thread-at-spec = tie.close (tie.spec is-full-requires link-requires same-length returns returns-2)
+thread-at-spec = tie.close (tie.spec
+    (λ c κs. search needs) link-requires (λ c. search needs) returns returns-2)

@@ -23,9 +23,6 @@ second-word-requires c κs =
     let a = l .before .before in
     heaping-room (l .loop .inv) (c .before .loop-test .taken) (a .pre)
 
-is-used-requires : tie.Need-is-used-requires Inv-loop μ-loop
-is-used-requires c κs = search needs
-
 thread-at-requires : tie.Need-thread-at-requires Inv-loop μ-loop
 thread-at-requires c κs =
     let u = c .before .before in
@@ -34,9 +31,6 @@ thread-at-requires c κs =
     let a = l .before .before in
     heaping-turn (l .loop .inv) (v .before .before .loop-test .taken) (v .second-word .ensures) (u .is-used .ensures)
     (c .before .if1 .taken) (a .pre)
-
-add-m : tie.Need-add-m Inv-loop μ-loop
-add-m c = search needs
 
 loop-less : tie.Need-loop-less Inv-loop μ-loop
 loop-less c = omega arith
@@ -67,14 +61,5 @@ pub thread-heap-spec : {M : Type 1} → statement M
 thread-heap-spec =
     tie.close
     (tie.spec
-    Inv-loop
-    μ-loop
-    loop-holds
-    second-word-requires
-    is-used-requires
-    thread-at-requires
-    add-m
-    loop-less
-    loop-again
-    same-length
-    returns)
+    Inv-loop μ-loop loop-holds second-word-requires (λ c κs. search needs) thread-at-requires (λ c. search needs)
+    loop-less loop-again same-length returns)

@@ -30,9 +30,6 @@ thread-at-requires c κs =
     let a = l .before .before in
     ringing-turn (l .loop .inv) (v .before .before .loop-test .taken) (v .second-word .ensures) (a .pre)
 
-add-r : tie.Need-add-r Inv-loop μ-loop
-add-r c = search needs
-
 loop-less : tie.Need-loop-less Inv-loop μ-loop
 loop-less c = omega arith
 
@@ -56,13 +53,5 @@ pub thread-registers-spec : {M : Type 1} → statement M
 thread-registers-spec =
     tie.close
     (tie.spec
-    Inv-loop
-    μ-loop
-    loop-holds
-    second-word-requires
-    thread-at-requires
-    add-r
-    loop-less
-    loop-again
-    same-length
-    returns)
+    Inv-loop μ-loop loop-holds second-word-requires thread-at-requires (λ c. search needs) loop-less loop-again
+    same-length returns)

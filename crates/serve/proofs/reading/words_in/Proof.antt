@@ -1,5 +1,4 @@
 -- `serve::reading::words_in` meets its contract: the words from byte 4 i on are still to be put. Assumes nothing.
-use mathlib.Core.Path.{_≡_}
 use Prim.Native.Nat.{_-_, _*_, _/_, _≤_}
 use native.Mathlib.Omega.{arith}
 use lib.ListN.{length, drop}

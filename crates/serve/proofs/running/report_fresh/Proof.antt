@@ -5,24 +5,12 @@ use borrow.Author.Needs.{needs}
 use Rattle.serve.proofs.running.report_fresh.Statement.{statement}
 use Rattle.serve.proofs.running.report_fresh.Tie as tie
 
-run-fresh-requires : tie.Need-run-fresh-requires
-run-fresh-requires c κs = search needs
-
 report-requires : tie.Need-report-requires
 report-requires c κs =
     let run-fresh = c .before .before .before .before .before .before .run-fresh in
     let slice-known5 = c .before .before .slice-known5 in
     report-fits (run-fresh .last .1 .1 .0) (run-fresh .result) _ (λ i. omega (arith, slice-known5 .given i))
     (omega arith) (omega arith)
-
-same-length : tie.Need-same-length
-same-length c = search needs
-
-same-length-2 : tie.Need-same-length-2
-same-length-2 c = search needs
-
-same-length-3 : tie.Need-same-length-3
-same-length-3 c = search needs
 
 returns : tie.Need-returns
 returns c =
@@ -33,4 +21,5 @@ returns c =
 pub report-fresh-spec : {M : Type 1} → statement M
 report-fresh-spec =
     tie.close
-    (tie.spec run-fresh-requires report-requires same-length same-length-2 same-length-3 returns)
+    (tie.spec
+    (λ c κs. search needs) report-requires (λ c. search needs) (λ c. search needs) (λ c. search needs) returns)

@@ -4,24 +4,6 @@ use borrow.Author.Needs.{needs}
 use Rattle.serve.proofs.running.run_fresh.Statement.{statement}
 use Rattle.serve.proofs.running.run_fresh.Tie as tie
 
-fresh-requires : tie.Need-fresh-requires
-fresh-requires c κs = search needs
-
-top-made-requires : tie.Need-top-made-requires
-top-made-requires c κs = search needs
-
-run-requires : tie.Need-run-requires
-run-requires c κs = search needs
-
-top-ran-requires : tie.Need-top-ran-requires
-top-ran-requires c κs = search needs
-
-same-length : tie.Need-same-length
-same-length c = search needs
-
-same-length-2 : tie.Need-same-length-2
-same-length-2 c = search needs
-
 returns : tie.Need-returns
 returns c =
     let args = c .before .before .before .before .before .before .before .before .before .before .before .before
@@ -52,10 +34,5 @@ pub run-fresh-spec : {M : Type 1} → statement M
 run-fresh-spec =
     tie.close
     (tie.spec
-    fresh-requires
-    top-made-requires
-    run-requires
-    top-ran-requires
-    same-length
-    same-length-2
-    returns)
+    (λ c κs. search needs) (λ c κs. search needs) (λ c κs. search needs) (λ c κs. search needs) (λ c. search needs)
+    (λ c. search needs) returns)

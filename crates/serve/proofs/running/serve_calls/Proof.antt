@@ -14,9 +14,6 @@ use borrow.Author.Needs.{needs}
 use Rattle.serve.proofs.running.serve_calls.Statement.{statement}
 use Rattle.serve.proofs.running.serve_calls.Tie as tie
 
-slice-aggregate-words-in : tie.Need-slice-aggregate-words-in
-slice-aggregate-words-in c = search needs
-
 words-in-requires : tie.Need-words-in-requires
 unfolding programBytes
 words-in-requires c κs = c .before .before .before .pre .most
@@ -49,9 +46,6 @@ serve-words-requires c κs =
     (sym (calls-part (args .input .now) (words-in .ensures) (pre .some)))
     (calls-served (args .cells) (args .input .now) _ (pre))
 
-same-length : tie.Need-same-length
-same-length c = search needs
-
 returns : tie.Need-returns
 returns c =
     let args = c .before .before .before .before .before .before .before .before .before .before .before .args in
@@ -68,11 +62,5 @@ pub serve-calls-spec : {M : Type 1} → statement M
 serve-calls-spec =
     tie.close
     (tie.spec
-    slice-aggregate-words-in
-    words-in-requires
-    sub-serve-words
-    part-serve-words-start
-    part-serve-words-end
-    serve-words-requires
-    same-length
-    returns)
+    (λ c. search needs) words-in-requires sub-serve-words part-serve-words-start part-serve-words-end
+    serve-words-requires (λ c. search needs) returns)

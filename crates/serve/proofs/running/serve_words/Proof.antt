@@ -12,9 +12,6 @@ use borrow.Author.Needs.{needs}
 use Rattle.serve.proofs.running.serve_words.Statement.{statement}
 use Rattle.serve.proofs.running.serve_words.Tie as tie
 
-mul-n : tie.Need-mul-n
-mul-n c = search needs
-
 mul-buffer : tie.Need-mul-buffer
 unfolding programCells
 mul-buffer c = omega (arith, cells-fit (c .before .before .args .cells) (c .before .before .pre .high))
@@ -51,9 +48,6 @@ report-fresh-requires c κs =
     let pre = c .before .before .before .before .before .pre in
     lent-parts (args .cells) (args .calls .now) _ (pre)
 
-same-length : tie.Need-same-length
-same-length c = search needs
-
 returns : tie.Need-returns
 unfolding programCells programBytes
 returns c =
@@ -70,12 +64,5 @@ pub serve-words-spec : {M : Type 1} → statement M
 serve-words-spec =
     tie.close
     (tie.spec
-    mul-n
-    mul-buffer
-    array-borrow-prefix-buffer
-    slice-aggregate-report-fresh
-    array-borrow-prefix-answers
-    slice-aggregate-report-fresh-2
-    report-fresh-requires
-    same-length
-    returns)
+    (λ c. search needs) mul-buffer array-borrow-prefix-buffer slice-aggregate-report-fresh array-borrow-prefix-answers
+    slice-aggregate-report-fresh-2 report-fresh-requires (λ c. search needs) returns)

@@ -1,58 +1,26 @@
 -- `serve::running::top_ran` meets its contract. Assumes nothing.
-use Rattle.meaning.specs.Batch.{asLent}
 use borrow.Author.Needs.{needs}
 use Rattle.serve.proofs.running.top_ran.Statement.{statement}
 use Rattle.serve.proofs.running.top_ran.Tie as tie
 
-enum-known-ran : tie.Need-enum-known-ran
-enum-known-ran c = search needs
-
-enum-told : tie.Need-enum-told
-enum-told c = search needs
-
-enum-told-2 : tie.Need-enum-told-2
-enum-told-2 c = search needs
-
-enum-told-3 : tie.Need-enum-told-3
-enum-told-3 c = search needs
-
-enum-told-4 : tie.Need-enum-told-4
-enum-told-4 c = search needs
-
-enum-told-5 : tie.Need-enum-told-5
-enum-told-5 c = search needs
-
-returns : tie.Need-returns
-returns c = search needs
-
 returns-2 : tie.Need-returns-2
-returns-2 c = unfold asLent in rw (c .enum-told .given .1)
+returns-2 c = rw (c .enum-told .given .1)
 
 returns-3 : tie.Need-returns-3
-returns-3 c = unfold asLent in rw (c .enum-told2 .given .1)
+returns-3 c = rw (c .enum-told2 .given .1)
 
 returns-4 : tie.Need-returns-4
-returns-4 c = unfold asLent in rw (c .enum-told3 .given .1)
+returns-4 c = rw (c .enum-told3 .given .1)
 
 returns-5 : tie.Need-returns-5
-returns-5 c = unfold asLent in rw (c .enum-told4 .given .1)
+returns-5 c = rw (c .enum-told4 .given .1)
 
 returns-6 : tie.Need-returns-6
-returns-6 c = unfold asLent in rw (c .enum-told5 .given .1)
+returns-6 c = rw (c .enum-told5 .given .1)
 
 pub top-ran-spec : {M : Type 1} → statement M
 top-ran-spec =
     tie.close
     (tie.spec
-    enum-known-ran
-    enum-told
-    enum-told-2
-    enum-told-3
-    enum-told-4
-    enum-told-5
-    returns
-    returns-2
-    returns-3
-    returns-4
-    returns-5
-    returns-6)
+    (λ c. search needs) (λ c. search needs) (λ c. search needs) (λ c. search needs) (λ c. search needs)
+    (λ c. search needs) (λ c. search needs) returns-2 returns-3 returns-4 returns-5 returns-6)

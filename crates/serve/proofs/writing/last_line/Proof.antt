@@ -7,9 +7,6 @@ use borrow.Author.Needs.{needs}
 use Rattle.serve.proofs.writing.last_line.Statement.{statement}
 use Rattle.serve.proofs.writing.last_line.Tie as tie
 
-slice-aggregate-text : tie.Need-slice-aggregate-text
-slice-aggregate-text c = search needs
-
 text-requires : tie.Need-text-requires
 text-requires c κs = omega (arith, topLine-length (c .before .before .before .args .top))
 
@@ -19,9 +16,6 @@ field-requires c κs =
     let text = c .before .before .before .text in
     omega (arith, topLine-length (args .top), put-length (text .ensures), text .ensures .next)
 
-same-length : tie.Need-same-length
-same-length c = search needs
-
 returns : tie.Need-returns
 returns c =
     let text = c .before .before .before .before .before .before .text in
@@ -30,4 +24,5 @@ returns c =
 
 pub last-line-spec : {M : Type 1} → statement M
 last-line-spec =
-    tie.close (tie.spec slice-aggregate-text text-requires field-requires same-length returns)
+    tie.close (tie.spec
+    (λ c. search needs) text-requires field-requires (λ c. search needs) returns)

@@ -24,9 +24,6 @@ field-requires-2 c κs =
       field .ensures .next,
     )
 
-same-length : tie.Need-same-length
-same-length c = search needs
-
 returns : tie.Need-returns
 returns c =
     let args = c .before .before .before .before .before .before .before .before .before .args in
@@ -35,4 +32,5 @@ returns c =
     rw (← line-fields (args .s) (args .v)) (put-then (field .ensures) (field2 .ensures))
 
 pub line-spec : {M : Type 1} → statement M
-line-spec = tie.close (tie.spec field-requires field-requires-2 same-length returns)
+line-spec = tie.close (tie.spec
+    field-requires field-requires-2 (λ c. search needs) returns)

@@ -7,9 +7,6 @@ use borrow.Author.Needs.{needs}
 use Rattle.serve.proofs.writing.refuse.Statement.{statement}
 use Rattle.serve.proofs.writing.refuse.Tie as tie
 
-slice-aggregate-text : tie.Need-slice-aggregate-text
-slice-aggregate-text c = search needs
-
 text-requires : tie.Need-text-requires
 text-requires c κs = omega (arith, refusal-length (c .before .before .before .args .s) 0)
 
@@ -19,9 +16,6 @@ line-requires c κs =
     let text = c .before .before .before .text in
     omega (arith, refusal-length (args .s) 0, put-length (text .ensures), text .ensures .next)
 
-same-length : tie.Need-same-length
-same-length c = search needs
-
 returns : tie.Need-returns
 returns c =
     let text = c .before .before .before .before .before .before .text in
@@ -30,4 +24,5 @@ returns c =
 
 pub refuse-spec : {M : Type 1} → statement M
 refuse-spec =
-    tie.close (tie.spec slice-aggregate-text text-requires line-requires same-length returns)
+    tie.close (tie.spec
+    (λ c. search needs) text-requires line-requires (λ c. search needs) returns)

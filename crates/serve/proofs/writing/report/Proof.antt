@@ -24,9 +24,6 @@ last-line-requires c κs =
       lines .ensures .next,
     )
 
-same-length : tie.Need-same-length
-same-length c = search needs
-
 returns : tie.Need-returns
 returns c =
     let lines = c .before .before .before .before .before .before .lines in
@@ -34,4 +31,5 @@ returns c =
     put-then (lines .ensures) (last-line .ensures)
 
 pub report-spec : {M : Type 1} → statement M
-report-spec = tie.close (tie.spec lines-requires last-line-requires same-length returns)
+report-spec = tie.close (tie.spec
+    lines-requires last-line-requires (λ c. search needs) returns)

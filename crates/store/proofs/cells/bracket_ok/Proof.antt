@@ -13,9 +13,6 @@ returns-2 : tie.Need-returns-2
 unfolding bracketTest
 returns-2 c = simp (ne-eqb _ _ (c .before .if1 .left), lt-ltb _ _ (c .if2 .taken))
 
-cast-r : tie.Need-cast-r
-cast-r c = search needs
-
 returns-3 : tie.Need-returns-3
 unfolding bracketTest
 returns-3 c =
@@ -36,4 +33,5 @@ returns-5 c =
     (simp (le-ltb _ _ (c .if4 .left)))
 
 pub bracket-ok-spec : {M : Type 1} → statement M
-bracket-ok-spec = tie.close (tie.spec returns returns-2 cast-r returns-3 returns-4 returns-5)
+bracket-ok-spec = tie.close (tie.spec
+    returns returns-2 (λ c. search needs) returns-3 returns-4 returns-5)

@@ -5,15 +5,9 @@ use Rattle.meaning.specs.Check.{cellTest}
 use Rattle.store.proofs.cells.cell_ok.Statement.{statement}
 use Rattle.store.proofs.cells.cell_ok.Tie as tie
 
-bracket-ok-requires : tie.Need-bracket-ok-requires
-bracket-ok-requires c κs = search needs
-
 returns : tie.Need-returns
 unfolding cellTest
 returns c = simp (lt-ltb _ _ (c .before .if1 .taken)) (c .bracket-ok .ensures)
-
-term-ok-requires : tie.Need-term-ok-requires
-term-ok-requires c κs = search needs
 
 returns-2 : tie.Need-returns-2
 unfolding cellTest
@@ -32,4 +26,5 @@ returns-4 c =
 
 pub cell-ok-spec : {M : Type 1} → statement M
 cell-ok-spec =
-    tie.close (tie.spec bracket-ok-requires returns term-ok-requires returns-2 returns-3 returns-4)
+    tie.close (tie.spec
+    (λ c κs. search needs) returns (λ c κs. search needs) returns-2 returns-3 returns-4)

@@ -14,9 +14,6 @@ Inv-loop text ws₀ count₀ n₀ i₀ ws count n i = (i ≤ length text) × (co
 abbrev μ-loop : tie.MeasureT-loop
 μ-loop text ws₀ count₀ n₀ i₀ ws count n i = length text - i
 
-loop-holds : tie.Need-loop-holds Inv-loop μ-loop
-loop-holds c = search needs
-
 shared-slice-read-b : tie.Need-shared-slice-read-b Inv-loop μ-loop
 shared-slice-read-b c = omega arith
 
@@ -59,17 +56,5 @@ pub read-spec : {M : Type 1} → statement M
 read-spec =
     tie.close
     (tie.spec
-    Inv-loop
-    μ-loop
-    loop-holds
-    shared-slice-read-b
-    put-requires
-    add-count
-    with-digit-requires
-    add-i
-    loop-less
-    loop-again
-    put-requires-2
-    add-result
-    same-length
-    returns)
+    Inv-loop μ-loop (λ c. search needs) shared-slice-read-b put-requires add-count with-digit-requires add-i loop-less
+    loop-again put-requires-2 add-result same-length returns)
