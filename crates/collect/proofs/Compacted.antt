@@ -1,9 +1,15 @@
--- The passes of compacting one after the other: what they leave of a marked store is the collected store, word for
--- word. In order: a cell's words at the end; the phases between the passes; the whole. Assumes nothing.
+-- The sweep and the pass up, one after the other: what they leave of a sound store is the collected store, word for word;
+-- and what the sweep alone leaves, where it packs nothing, is the store. In order:
+--   final-words   a cell's words at the end, both ends mapped
+--   lowerable, settleable  what the pass up asks for
+--   compacted     the collected store;  not-lowered  where no cell is unreached
+--   restored      the store itself
+-- Assumes nothing.
 use mathlib.Core.Path.{_≡_, refl, sym, _∙_, ap, subst}
-use mathlib.Core.Bool.{Bool, true, false, not, _||_}
+use mathlib.Core.Bool.{Bool, true, false, cond, not, _||_, false≢true}
 use mathlib.Core.List.{List}
 use Prim.Native.Nat.{ℕ, _+_, _-_, _*_, _/_, _^_, _≤_, _<_}
+use native.Mathlib.Nat.{sub-zero}
 use native.Mathlib.Omega.{arith}
 use native.Mathlib.Decide.{decLt}
 use lib.Dec.{ltb}
@@ -12,23 +18,24 @@ use borrow.Author.Tests.{lt-ltb, le-ltb, ne-eqb}
 use Rattle.words.specs.Cell.{firstWord, secondWord}
 use Rattle.words.specs.Second.{Second, decode, plain}
 use Rattle.words.proofs.Plain.{decode-zero, plain-word, plain-code}
+use Rattle.words.proofs.Laws.{decode-inj}
+use Rattle.words.proofs.Cells.{words-ext}
 use Rattle.meaning.specs.Limits.{firstCell}
 use Rattle.meaning.specs.Sound as S
-use Rattle.meaning.specs.Reach.{reached}
+use Rattle.meaning.specs.Reach.{reached, live}
 use Rattle.meaning.specs.Collected.{mapEnds, newAddress, collected, collectedTop}
 use Rattle.meaning.proofs.Cells.{words-of-cells}
-use Rattle.meaning.proofs.Determined.{is-collected}
+use Rattle.meaning.proofs.Determined.{new-last, is-collected}
 use Rattle.collect.specs.Cells.{Cell, cell, val, mk}
-use Rattle.collect.specs.Chain.{Heap, full, Proper, master, addr, finalCell}
-use Rattle.collect.specs.Step.{settle}
-use Rattle.collect.specs.Phases.{Marked}
-use Rattle.collect.specs.Passes.{Threaded, ThreadsHeap, ThreadsRegisters, Sliding, Slides, Settleable, Settles}
-use Rattle.collect.specs.Passes.{Cleared}
-use Rattle.collect.proofs.Fields.{Fields, cell-fields, ends-in}
-use Rattle.collect.proofs.Counting.{count-le, count-less}
-use Rattle.collect.proofs.Order.{master-full}
-use Rattle.collect.proofs.Moving.{settled, settles, threaded-sliding, reg-loose, free-cell}
-use Rattle.collect.proofs.Heaps.{heapOf, proper, threading, addr-new, addr-last}
+use Rattle.collect.specs.Chain.{Heap, full, holder, Proper, place, placedCell}
+use Rattle.collect.specs.Step.{lowered}
+use Rattle.collect.specs.Passes.{fullWord, Sweeping, Sweeps, Layable, Lowerable, Lowers, Settleable}
+use Rattle.collect.specs.Passes.{Settles, Cleared}
+use Rattle.collect.proofs.Fields.{Fields, cell-fields, ends-in, second-lt}
+use Rattle.collect.proofs.Order.{holder-br, holder-full}
+use Rattle.collect.proofs.Places.{new-bound, place-own, place-packed, place-up}
+use Rattle.collect.proofs.Swept.{swept-place, swept-free, swept-kept, place-onto}
+use Rattle.collect.proofs.Heaps.{heapOf, live-of, proper, old-cell, begun}
 
 -- ---- a cell's words
 
@@ -44,160 +51,281 @@ module _ (v : List ℕ) (d x n : ℕ) (fits : secondWord v d < 2 ^ 32) where
   code-is : cell v d ≡ mk false false (val x) (val n) → (firstWord v d ≡ x) × (secondWord v d ≡ n)
   code-is e = (ap (λ (c : Cell). c .l .num) e, plain-code (secondWord v d) n fits (ap fieldsOf e))
 
--- the final form, of a master and of any other cell
-module _ (g : Heap) (c : ℕ) where
-  final-master : master g c ≡ true
-      → finalCell g c ≡ mk (g .br c) false (val (addr g (g .li c))) (val (addr g (g .ri c)))
-  unfolding finalCell
-  final-master h = rw h
+-- a placed cell lowered by d, of a holder and of any other cell
+module _ (g : Heap) (d c : ℕ) (k : (ltb c (g .F) || g .live c) ≡ true) where
+  lowered-holder : holder g c ≡ true → 0 < place g (g .ri c)
+      → lowered d (placedCell g c) ≡ mk (g .br c) false (val (place g (g .li c) - d)) (val (place g (g .ri c) - d))
+  unfolding lowered placedCell
+  lowered-holder h z = rw (h, holder-br g c h, ne-eqb (place g (g .ri c)) 0 (λ q. omega (arith, q)))
 
-  final-other : master g c ≡ false → finalCell g c ≡ mk (g .br c) false (val (g .li c)) (val (g .ri c))
-  unfolding finalCell
-  final-other h = rw h
+  lowered-other : holder g c ≡ false → lowered d (placedCell g c) ≡ mk (g .br c) false (val (g .li c)) (val (g .ri c))
+  unfolding lowered placedCell
+  lowered-other h = rw (h, sym (holder-full g c k) ∙ h)
 
--- the words of cell d are those of the sound store's cell c, both ends at their new addresses
+  -- nothing is lower by 0
+  lowered-zero : lowered 0 (placedCell g c) ≡ placedCell g c
+  unfolding lowered placedCell
+  lowered-zero =
+      let l : ℕ = placedCell g c .l .num in
+      let r : ℕ = placedCell g c .r .num in
+      λ i. mk (g .br c) false (val (same (full (g .br c) r) l i)) (val (same (full (g .br c) r) r i))
+    where
+      same : (b : Bool) (x : ℕ) → cond b (x - 0) x ≡ x
+      same true x = sub-zero x
+      same false x = refl
+
+-- ---- packed, then lowered
+
+-- the words of cell d are those of the sound store's cell, both ends at their new addresses
 abbrev IsNew : ℕ → List ℕ → ℕ → List ℕ → ℕ → S.Cell → Type 0
 IsNew F ws top v d x =
     (firstWord v d ≡ S.fst (mapEnds (newAddress F (reached F ws top)) x))
     × (secondWord v d ≡ S.snd (mapEnds (newAddress F (reached F ws top)) x))
 
-module _ {F : ℕ} {ws : List ℕ} {top : ℕ} {ms : List ℕ} (p : 0 < F) (s : S.Sound F ws top)
-    (k : Marked F ws top ms) where
-  abbrev g : Heap
-  g = heapOf F ws top ms
-
-  abbrev new : ℕ → ℕ
-  new = newAddress F (reached F ws top)
-
-  final-words : (v : List ℕ) (c d : ℕ) → (ltb c F || g .live c) ≡ true → secondWord v d < 2 ^ 32
-      → cell v d ≡ finalCell g c → IsNew F ws top v d (S.at ws c)
-  final-words v c d live fits e = go (S.at ws c) refl (cell-fields F ws top p s c)
-    where
-      is : (f : Second) → decode (secondWord ws c) ≡ f → master g c ≡ full (f .br) (f .ri)
-      is f q = master-full g c live ∙ ap (λ (y : Second). full (y .br) (y .ri)) q
-
-      other : (f : Second) (a : ℕ) → firstWord ws c ≡ a → decode (secondWord ws c) ≡ f → full (f .br) (f .ri) ≡ false
-          → cell v d ≡ mk (f .br) false (val a) (val (f .ri))
-      other f a x y n = e ∙ final-other g c (is f y ∙ n) ∙ (λ i. mk (y i .br) false (val (x i)) (val (y i .ri)))
-
-      go : (x : S.Cell) → S.at ws c ≡ x → Fields x (firstWord ws c) (decode (secondWord ws c)) → IsNew F ws top v d x
-      go (S.code a) q f = code-is v d a 0 fits (other (plain false 0) a (f .0) (f .1) refl)
-      go S.hollow q f = bracket-is v d 0 0 fits (other (plain true 0) 0 (f .0) (f .1) refl)
-      go (S.ends l r) q f =
-          let in-heap = ends-in F ws top p s c q in
-          let at-l = ap (addr g) (f .0) ∙ addr-new p s k l (in-heap .0) in
-          let at-r = ap (λ (y : Second). addr g (y .ri)) (f .1) ∙ addr-new p s k r (omega (arith, in-heap)) in
-          bracket-is v d (new l) (new r) fits
-          (e ∙ final-master g c (is (plain true r) (f .1) ∙ ap not (ne-eqb r 0 (λ z. omega (arith, f .2))))
-          ∙ (λ i. mk (f .1 i .br) false (val (at-l i)) (val (at-r i))))
-
--- ---- the passes
-
-module _ {ws : List ℕ} {top : ℕ} {ms : List ℕ} (s : S.Sound firstCell ws top) (k : Marked firstCell ws top ms) where
+module _ (ws : List ℕ) (top : ℕ) (s : S.Sound firstCell ws top) where
   abbrev p : 0 < firstCell
   p = omega arith
 
   abbrev h : Heap
-  h = heapOf firstCell ws top ms
+  h = heapOf firstCell ws top true
 
   abbrev P : Proper h
-  P = proper p s k
+  P = proper firstCell ws top true p s
 
-  pub marked : Threaded h ms 0
-  marked = threading p s k refl
+  abbrev new : ℕ → ℕ
+  new = newAddress firstCell (reached firstCell ws top)
 
-  module _ {s₁ : List ℕ} (t₁ : ThreadsHeap ms s₁ top) where
-    pub heap-threaded : Threaded h s₁ (h .T - h .F)
-    heap-threaded = t₁ h marked refl
+  abbrev Kept : ℕ → Type 0
+  Kept c = (ltb c firstCell || h .live c) ≡ true
 
-    module _ {s₂ : List ℕ} (t₂ : ThreadsRegisters s₁ s₂) where
-      pub threaded : Sliding h s₂ firstCell firstCell
-      threaded =
-          let t = t₂ h heap-threaded in
-          record {
-            frame = t .frame;
-            place = omega (arith, count-le h P firstCell);
-            at = threaded-sliding h P (cell s₂) (t .at);
-          }
+  kept-reg : (c : ℕ) → c < firstCell → Kept c
+  kept-reg c lt = rw (lt-ltb c firstCell lt)
 
-      module _ {s₃ : List ℕ} {r : ℕ} (t₃ : Slides s₂ s₃ top r) where
-        slid : Sliding h s₃ top r
-        slid = t₃ h threaded refl
+  kept-live : (c : ℕ) → h .live c ≡ true → Kept c
+  kept-live c l = rw (le-ltb c firstCell (P .heap c l .0)) l
 
-        pub top-is : r ≡ collectedTop firstCell ws top
-        top-is = slid .place ∙ addr-last p s k
+  module _ (s₁ : List ℕ) (dead : ℕ) (w : Sweeps ws s₁ top true dead) where
+    swept : Sweeping h s₁ top
+    swept = w h (begun firstCell ws top true p s refl) .0
 
-        pub top-low : r ≤ top
-        top-low = omega (arith, slid .place, count-le h P top, s .low)
+    pub gone : dead + new top ≡ top
+    gone = w h (begun firstCell ws top true p s refl) .1
 
-        -- a register or marked cell
-        kept-reg : (c : ℕ) → c < firstCell → (ltb c firstCell || h .live c) ≡ true
-        kept-reg c lt = rw (lt-ltb c firstCell lt)
+    pub top-is : top - dead ≡ collectedTop firstCell ws top
+    top-is = omega (arith, gone, new-last firstCell ws top p s)
 
-        pub settleable : Settleable s₃
-        settleable c lt =
-            let e = reg-loose h P c lt (cell s₃) (slid .at) in
-            record {
-              new-in = omega (arith, slid .frame .room, s .low);
-              bare = ap (λ (y : Cell). y .l .tag) e;
-              long =
-                  subst (λ (y : Cell). full (y .br) (y .r .num) ≡ true → y .l .num ≤ y .r .num) (sym e)
-                  (settles h P c (kept-reg c lt));
-            }
+    place-is : (c : ℕ) → firstCell ≤ c → place h c ≡ new c + dead
+    place-is c f = omega (arith, gone, place-packed h P c refl f)
 
-        module _ {s₄ s₅ : List ℕ} (t₄ : Settles s₃ s₄) (t₅ : Cleared s₄ s₅ r top) where
-          stays : (c : ℕ) → (r ≤ c → top ≤ c) → cell s₅ c ≡ cell s₄ c
-          stays c q = let e = t₅ .kept c q in rw (e .0, e .1)
+    at-place : (c : ℕ) → Kept c → cell s₁ (place h c) ≡ placedCell h c
+    at-place = swept-place h P (cell s₁) (swept .at)
 
-          heap-stays : (c : ℕ) → firstCell ≤ c → cell s₄ c ≡ cell s₃ c
-          heap-stays c q = t₄ c ∙ rw (le-ltb c firstCell q)
+    -- ---- what the pass up asks for
 
-          register-final : (c : ℕ) → c < firstCell → cell s₅ c ≡ finalCell h c
-          register-final c lt =
-              stays c (λ q. omega (arith, slid .place)) ∙ t₄ c
-              ∙ rw (lt-ltb c firstCell lt)
-              (ap settle (reg-loose h P c lt (cell s₃) (slid .at)) ∙ settled h P c (kept-reg c lt))
+    -- a placed cell can go down by `dead`
+    layable : (v : List ℕ) (i to c : ℕ) → Kept c → cell v i ≡ placedCell h c → 2 * to + 1 < length v
+        → Layable v to (firstWord v i) (secondWord v i) dead
+    unfolding placedCell
+    layable v i to c k e room = record {
+      to-in = room;
+      bare = λ x. record {
+        br = decode (secondWord v i) .br;
+        used = e x .used;
+        lc = e x .l .tag;
+        rc = e x .r .tag;
+        ri = decode (secondWord v i) .ri;
+      };
+      far = far (holder h c) refl;
+    }
+      where
+        far : (b : Bool) → holder h c ≡ b → fullWord (secondWord v i) ≡ true
+            → (dead ≤ firstWord v i) × (dead ≤ decode (secondWord v i) .ri)
+        far true q f =
+            let z = P .ends c q in
+            let a : firstWord v i ≡ place h (h .li c) = ap (λ (x : Cell). x .l .num) e ∙ rw q refl in
+            let b : decode (secondWord v i) .ri ≡ place h (h .ri c) = ap (λ (x : Cell). x .r .num) e ∙ rw q refl in (
+              omega (arith, a, place-is (h .li c) (z .0)),
+              omega (arith, b, place-is (h .ri c) (omega (arith, z))),
+            )
+        far false q f =
+            absurd (false≢true (sym (sym (holder-full h c k) ∙ q)
+            ∙ sym (ap (λ (x : Cell). full (x .br) (x .r .num)) e ∙ rw q refl) ∙ f))
 
-          heap-final : (c : ℕ) → h .live c ≡ true → cell s₅ (addr h c) ≡ finalCell h c
-          heap-final c q =
-              let lt = P .heap c q .1 in
-              stays (addr h c) (λ z. omega (arith, slid .place, count-less (h .live) c top q lt))
-              ∙ heap-stays (addr h c) (omega arith) ∙ slid .at .moved c q lt
+    pub lowerable : Lowerable s₁ top dead
+    lowerable = record {
+      some = omega (arith, gone, new-bound h P top (s .low) (omega arith));
+      room = swept .frame .room;
+      len = swept .frame .len;
+      cells = λ i a b.
+          let o = place-onto h P refl dead gone i a b in
+          layable s₁ i (i - dead) (o .0) (kept-live (o .0) (o .1))
+          (subst (λ (x : ℕ). cell s₁ x ≡ placedCell h (o .0)) (o .2) (at-place (o .0) (kept-live (o .0) (o .1))))
+          (omega (arith, swept .frame .room));
+    }
 
-          -- what lay free is zero still
-          free-still : (c : ℕ) → top ≤ c → c < length ws / 2 → cell s₅ c ≡ mk false false (val 0) (val 0)
-          free-still c q lt =
-              let z = s .free c q lt in
-              let e = ap decode (z .1) ∙ decode-zero in
-              stays c (λ y. q) ∙ heap-stays c (omega (arith, s .low)) ∙ slid .at .ahead c (λ y. q) ∙ free-cell h P c q
-              ∙ (λ i. mk (e i .br) (dead (h .live c) refl i) (val (z .0 i)) (val (e i .ri)))
-            where
-              dead : (b : Bool) → h .live c ≡ b → h .live c ≡ false
-              dead true y = absurd (let z : ⊥ = omega (arith, P .heap c y) in z)
-              dead false y = y
+    pub settleable : (s₂ : List ℕ) → length s₂ ≡ length s₁ → Lowers s₁ s₂ top dead → Settleable s₂ dead
+    settleable s₂ len t r lt =
+        layable s₂ r r r (kept-reg r lt) (register s₂ t r lt) (omega (arith, swept .frame .room, s .low))
+      where
+        register : (s₂ : List ℕ) → Lowers s₁ s₂ top dead → (r : ℕ) → r < firstCell → cell s₂ r ≡ placedCell h r
+        register s₂ t r lt =
+            t .rest r (λ q. absurd (omega arith))
+            ∙ subst (λ (x : ℕ). cell s₁ x ≡ placedCell h r) (place-own h P r lt) (at-place r (kept-reg r lt))
 
-          module _ (len : length s₅ ≡ length ws) (fits : (i : ℕ) → getD s₅ i 0 < 2 ^ 32) where
-            free-zero : (c : ℕ) → r ≤ c → c < length ws / 2 → (firstWord s₅ c ≡ 0) × (secondWord s₅ c ≡ 0)
-            free-zero c low lt = go (decLt c top)
-              where
-                go : Dec (c < top) → (firstWord s₅ c ≡ 0) × (secondWord s₅ c ≡ 0)
-                go (yes q) = t₅ .gone c low q
-                go (no q) = code-is s₅ c 0 0 (fits (2 * c + 1)) (free-still c (omega arith) lt)
+    -- ---- a cell's words at the end
 
-            -- a reached cell, at its new address
-            heap-words : (c : ℕ) → h .live c ≡ true → firstCell ≤ c
-                → IsNew firstCell ws top s₅ (newAddress firstCell (reached firstCell ws top) c) (S.at ws c)
-            heap-words c live low =
-                let e = addr-new p s k c low in
-                subst (λ (d : ℕ). IsNew firstCell ws top s₅ d (S.at ws c)) e
-                (final-words p s k s₅ c (addr h c) (rw (le-ltb c firstCell low) live) (fits (2 * addr h c + 1))
-                (heap-final c live))
+    final-words : (v : List ℕ) (c d : ℕ) → Kept c → secondWord v d < 2 ^ 32 → cell v d ≡ lowered dead (placedCell h c)
+        → IsNew firstCell ws top v d (S.at ws c)
+    final-words v c d k fits e = go (S.at ws c) refl (cell-fields firstCell ws top p s c)
+      where
+        is : (f : Second) → decode (secondWord ws c) ≡ f → holder h c ≡ full (f .br) (f .ri)
+        is f q = holder-full h c k ∙ ap (λ (y : Second). full (y .br) (y .ri)) q
 
-            pub compacted : s₅ ≡ collected firstCell ws top
-            compacted =
-                is-collected firstCell ws top p s s₅ len
-                (λ i lt. final-words p s k s₅ i i (kept-reg i lt) (fits (2 * i + 1)) (register-final i lt))
-                (λ c q. let live = k .all c q in heap-words c live (P .heap c live .0))
-                (λ i low lt.
-                words-of-cells (λ j. getD s₅ j 0 ≡ 0) r (length ws / 2) free-zero i (omega (arith, top-is))
-                (omega (arith, s .even)))
+        other : (f : Second) (a : ℕ) → firstWord ws c ≡ a → decode (secondWord ws c) ≡ f → full (f .br) (f .ri) ≡ false
+            → cell v d ≡ mk (f .br) false (val a) (val (f .ri))
+        other f a x y n =
+            e ∙ lowered-other h dead c k (is f y ∙ n) ∙ (λ i. mk (y i .br) false (val (x i)) (val (y i .ri)))
+
+        go : (x : S.Cell) → S.at ws c ≡ x → Fields x (firstWord ws c) (decode (secondWord ws c))
+            → IsNew firstCell ws top v d x
+        go (S.code a) q f = code-is v d a 0 fits (other (plain false 0) a (f .0) (f .1) refl)
+        go S.hollow q f = bracket-is v d 0 0 fits (other (plain true 0) 0 (f .0) (f .1) refl)
+        go (S.ends l r) q f =
+            let in-heap = ends-in firstCell ws top p s c q in
+            let low-r : firstCell ≤ r = omega (arith, in-heap) in
+            let lo : firstWord ws c ≡ l = f .0 in
+            let ro : decode (secondWord ws c) .ri ≡ r = ap (λ (y : Second). y .ri) (f .1) in
+            let at-l : place h (h .li c) - dead ≡ new l =
+            subst (λ (x : ℕ). place h x - dead ≡ new l) (sym lo) (omega (arith, place-is l (in-heap .0))) in
+            let at-r : place h (h .ri c) - dead ≡ new r =
+            subst (λ (x : ℕ). place h x - dead ≡ new r) (sym ro) (omega (arith, place-is r low-r)) in
+            let up : 0 < place h (h .ri c) =
+            subst (λ (x : ℕ). 0 < place h x) (sym ro)
+            (omega (arith, place-is r low-r, new-bound h P r low-r (omega (arith, in-heap)))) in
+            let held : holder h c ≡ true = is (plain true r) (f .1) ∙ ap not (ne-eqb r 0 (λ z. omega (arith, f .2))) in
+            bracket-is v d (new l) (new r) fits
+            (e ∙ lowered-holder h dead c k held up ∙ (λ i. mk (f .1 i .br) false (val (at-l i)) (val (at-r i))))
+
+    -- ---- the whole
+
+    -- a cell from `top` on, which no pass touches
+    free-cell : (c : ℕ) → top ≤ c → c < length ws / 2 → cell s₁ c ≡ mk false false (val 0) (val 0)
+    free-cell c q lt =
+        let z = s .free c q lt in
+        let e = ap decode (z .1) ∙ decode-zero in
+        swept-free h P (cell s₁) (swept .at) c q ∙ (λ i. mk (e i .br) false (val (z .0 i)) (val (e i .ri)))
+
+    -- the words v have every cell lowered, and are zero from the new `top` on
+    is-compacted : (v : List ℕ) → length v ≡ length ws → ((i : ℕ) → getD v i 0 < 2 ^ 32)
+        → ((c : ℕ) → c < firstCell → cell v c ≡ lowered dead (placedCell h c))
+        → ((c : ℕ) → h .live c ≡ true → cell v (new c) ≡ lowered dead (placedCell h c))
+        → ((c : ℕ) → new top ≤ c → c < length ws / 2 → (firstWord v c ≡ 0) × (secondWord v c ≡ 0))
+        → v ≡ collected firstCell ws top
+    is-compacted v len fits regs heap free =
+        is-collected firstCell ws top p s v len
+        (λ i lt. final-words v i i (kept-reg i lt) (fits (2 * i + 1)) (regs i lt))
+        (λ c q.
+        let l = live-of firstCell ws top true p s c q in
+        final-words v c (new c) (kept-live c l) (fits (2 * new c + 1)) (heap c l))
+        (λ i low lt.
+        words-of-cells (λ j. getD v j 0 ≡ 0) (new top) (length ws / 2) free i
+        (omega (arith, new-last firstCell ws top p s)) (omega (arith, s .even)))
+
+    pub compacted : (s₂ s₃ s₄ : List ℕ) → Lowers s₁ s₂ top dead → Settles s₂ s₃ dead → Cleared s₃ s₄ (top - dead) top
+        → length s₄ ≡ length ws → ((i : ℕ) → getD s₄ i 0 < 2 ^ 32) → s₄ ≡ collected firstCell ws top
+    compacted s₂ s₃ s₄ t₂ t₃ t₄ len fits = is-compacted s₄ len fits regs heap free
+      where
+        stays : (c : ℕ) → (new top ≤ c → top ≤ c) → cell s₄ c ≡ cell s₃ c
+        stays c q = let e = t₄ .kept c (λ z. q (omega (arith, gone))) in rw (e .0, e .1)
+
+        regs : (c : ℕ) → c < firstCell → cell s₄ c ≡ lowered dead (placedCell h c)
+        regs c lt =
+            stays c (λ q. omega (arith, new-bound h P top (s .low) (omega arith)))
+            ∙ t₃ c ∙ rw (lt-ltb c firstCell lt) (ap (lowered dead) (
+            t₂ .rest c (λ q. absurd (omega arith))
+            ∙ subst (λ (x : ℕ). cell s₁ x ≡ placedCell h c) (place-own h P c lt) (at-place c (kept-reg c lt))
+            ))
+
+        heap : (c : ℕ) → h .live c ≡ true → cell s₄ (new c) ≡ lowered dead (placedCell h c)
+        heap c l =
+            let z = P .heap c l in
+            let e = place-is c (z .0) in
+            let u = place-up h P c l in
+            let f = new-bound h P c (z .0) (omega (arith, z)) in
+            let q : place h c - dead ≡ new c = omega (arith, e) in
+            stays (new c) (λ y. omega (arith, e, u, gone))
+            ∙ t₃ (new c) ∙ rw (le-ltb (new c) firstCell (f .0))
+            (subst (λ (x : ℕ). cell s₂ x ≡ lowered dead (cell s₁ (place h c))) q
+            (t₂ .down (place h c) (omega (arith, e, f .0)) (u .1)) ∙ ap (lowered dead) (at-place c (kept-live c l)))
+
+        free : (c : ℕ) → new top ≤ c → c < length ws / 2 → (firstWord s₄ c ≡ 0) × (secondWord s₄ c ≡ 0)
+        free c low lt = go (decLt c top)
+          where
+            go : Dec (c < top) → (firstWord s₄ c ≡ 0) × (secondWord s₄ c ≡ 0)
+            go (yes q) = t₄ .gone c (omega (arith, gone)) q
+            go (no q) =
+                let z : top ≤ c = omega arith in
+                let f : firstCell ≤ c = omega (arith, s .low) in
+                code-is s₄ c 0 0 (fits (2 * c + 1))
+                (stays c (λ y. z) ∙ t₃ c ∙ rw (le-ltb c firstCell f)
+                (t₂ .rest c (λ y. omega arith) ∙ free-cell c z lt))
+
+    -- where no cell is unreached, the sweep has done it all
+    pub not-lowered : dead ≡ 0 → length s₁ ≡ length ws → ((i : ℕ) → getD s₁ i 0 < 2 ^ 32) → s₁ ≡ collected firstCell ws top
+    not-lowered none len fits = is-compacted s₁ len fits regs heap free
+      where
+        same : (c : ℕ) → Kept c → placedCell h c ≡ lowered dead (placedCell h c)
+        same c k = rw none (sym (lowered-zero h 0 c k))
+
+        regs : (c : ℕ) → c < firstCell → cell s₁ c ≡ lowered dead (placedCell h c)
+        regs c lt =
+            subst (λ (x : ℕ). cell s₁ x ≡ placedCell h c) (place-own h P c lt) (at-place c (kept-reg c lt))
+            ∙ same c (kept-reg c lt)
+
+        heap : (c : ℕ) → h .live c ≡ true → cell s₁ (new c) ≡ lowered dead (placedCell h c)
+        heap c l =
+            let e : place h c ≡ new c = omega (arith, place-is c (P .heap c l .0)) in
+            subst (λ (x : ℕ). cell s₁ x ≡ placedCell h c) e (at-place c (kept-live c l)) ∙ same c (kept-live c l)
+
+        free : (c : ℕ) → new top ≤ c → c < length ws / 2 → (firstWord s₁ c ≡ 0) × (secondWord s₁ c ≡ 0)
+        free c low lt = code-is s₁ c 0 0 (fits (2 * c + 1)) (free-cell c (omega (arith, gone)) lt)
+
+-- ---- not packed
+
+module _ (ws : List ℕ) (top : ℕ) (s : S.Sound firstCell ws top) (s₁ : List ℕ) (dead : ℕ)
+    (w : Sweeps ws s₁ top false dead) where
+  abbrev some : 0 < firstCell
+  some = omega arith
+
+  abbrev k : Heap
+  k = heapOf firstCell ws top false
+
+  pub live-is : top - firstCell - dead ≡ live firstCell ws top
+  unfolding collectedTop
+  live-is =
+      omega (
+        arith,
+        w k (begun firstCell ws top false some s refl) .1,
+        new-last firstCell ws top some s,
+      )
+
+  pub live-low : dead ≤ top - firstCell
+  unfolding collectedTop
+  live-low =
+      omega (
+        arith,
+        w k (begun firstCell ws top false some s refl) .1,
+        new-last firstCell ws top some s,
+      )
+
+  pub restored : length s₁ ≡ length ws → ((i : ℕ) → getD s₁ i 0 < 2 ^ 32) → s₁ ≡ ws
+  restored len fits =
+      words-ext s₁ ws len (omega (arith, s .even)) (λ c lt. ap (λ (x : Cell). x .l .num) (same c))
+      (λ c lt. decode-inj (secondWord s₁ c) (secondWord ws c) (fits (2 * c + 1)) (second-lt firstCell ws top some s c)
+      (ap fieldsOf (same c)))
+    where
+      same : (c : ℕ) → cell s₁ c ≡ cell ws c
+      same c =
+          swept-kept k (proper firstCell ws top false some s) (cell s₁)
+          (w k (begun firstCell ws top false some s refl) .0 .at) refl c
+          ∙ sym (old-cell firstCell ws top false some s c)

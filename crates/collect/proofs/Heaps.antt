@@ -1,92 +1,135 @@
--- A marked store as the chains see it: `heapOf`, what soundness and marking say of it, its first phase, and that
--- counting marked cells gives the new addresses. Assumes nothing.
+-- A sound store as the sweep sees it: `heapOf`, what soundness and reaching say of it, and its first phase. In order:
+--   live-to, live-of  its reached cells are those of the definition
+--   proper            what is asked of a heap
+--   begun             the phase before the sweep
+-- Assumes nothing.
 use mathlib.Core.Path.{_≡_, refl, sym, _∙_, ap, subst}
-use mathlib.Core.Logic.{_≢_}
-use mathlib.Core.Bool.{Bool, true, false, cond, _||_, true≢false}
-use mathlib.Core.List.{List}
-use Prim.Native.Nat.{ℕ, zero, suc, _-_, _^_, _≤_, _<_}
+use mathlib.Core.Logic.{_⊎_, inl, inr}
+use mathlib.Core.Bool.{Bool, true, false, _||_, true≢false, false≢true}
+use mathlib.Core.List.{List, [], _∷_}
+use Prim.Native.Nat.{ℕ, _^_, _≤_, _<_}
 use native.Mathlib.Omega.{arith}
-use native.Mathlib.Decide.{ℕ-discrete}
-use lib.Dec.{ltb}
-use borrow.Author.Tests.{ltb-true, le-ltb}
+use lib.Dec.{ltb, eqb}
+use borrow.Author.Tests.{ltb-true, lt-ltb, le-ltb, eqb-true, eq-eqb}
 use Rattle.words.specs.Cell.{firstWord, secondWord}
 use Rattle.words.specs.Second.{Second, decode}
-use Rattle.words.proofs.Laws.{ri-lt}
 use Rattle.meaning.specs.Limits.{firstCell}
 use Rattle.meaning.specs.Sound as S
 use Rattle.meaning.specs.Reach.{Between, Reached, byRegister, byBracket, reached}
-use Rattle.meaning.specs.Collected.{newAddress, collectedTop}
+use Rattle.meaning.specs.Collected.{newAddress}
+use Rattle.meaning.proofs.Lists.{In}
 use Rattle.meaning.proofs.Cells.{limit-fits, good}
-use Rattle.meaning.proofs.Reaching.{reached-heap}
-use Rattle.meaning.proofs.Determined.{new-first, new-after, new-skip, new-last}
-use Rattle.collect.specs.Cells.{linked, cell, val, mk}
-use Rattle.collect.specs.Chain.{Heap, Ordered, Proper, master, addr, base}
-use Rattle.collect.specs.Phases.{Marked}
-use Rattle.collect.specs.Passes.{fullWord, Threaded}
-use Rattle.collect.proofs.Fields.{Fields, cell-fields, cell-plain, full-ends, ends-in, ends-down}
-use Rattle.collect.proofs.Counting.{both-true, count-le, count-true, count-false}
-use Rattle.collect.proofs.Order.{placeOf, cellAt, place-heap, place-reg, place-low, cell-place, place-cell}
-use Rattle.collect.proofs.Linking.{threaded-zero}
+use Rattle.meaning.proofs.Reaching.{or-left, or-right, or-cases, reached-heap, listed-iff}
+use Rattle.meaning.proofs.Determined.{new-first, new-after, new-skip}
+use Rattle.collect.specs.Cells.{cell}
+use Rattle.collect.specs.Chain.{Heap, holder, Proper, oldCell, SweptTo}
+use Rattle.collect.specs.Passes.{fullWord, Begun}
+use Rattle.collect.proofs.Fields.{Fields, cell-fields, cell-ends, cell-plain, full-ends, ends-full, ends-in}
+use Rattle.collect.proofs.Fields.{ends-down}
+use Rattle.collect.proofs.Counting.{both-true}
+use Rattle.collect.proofs.Spots.{last-zero, whole-l, ahead-r, spot-ahead}
 
--- the heap that the sound words ws hold, marked as the words ms say
-abbrev pub heapOf : ℕ → List ℕ → ℕ → List ℕ → Heap
-heapOf F ws top ms = record {
+-- ---- whether a number is in a list
+
+abbrev among : ℕ → List ℕ → Bool
+among c [] = false
+among c (b ∷ bs) = eqb c b || among c bs
+
+among-to : (c : ℕ) (bs : List ℕ) → among c bs ≡ true → In c bs
+among-to c [] e = absurd (false≢true e)
+among-to c (b ∷ bs) e = go (or-cases (eqb c b) (among c bs) e) (among-to c bs)
+  where
+    go : (eqb c b ≡ true) ⊎ (among c bs ≡ true) → (among c bs ≡ true → In c bs) → In c (b ∷ bs)
+    go (inl q) ih = inl (eqb-true c b q)
+    go (inr q) ih = inr (ih q)
+
+among-of : (c : ℕ) (bs : List ℕ) → In c bs → among c bs ≡ true
+among-of c [] i = absurd i
+among-of c (b ∷ bs) (inl e) = or-left (eqb c b) (among c bs) (eq-eqb c b e)
+among-of c (b ∷ bs) (inr i) = or-right (eqb c b) (among c bs) (among-of c bs i)
+
+-- ---- the heap that the sound words ws hold, to be packed or not
+
+abbrev pub heapOf : ℕ → List ℕ → ℕ → Bool → Heap
+heapOf F ws top packs = record {
   F = F;
   T = top;
   br = λ c. decode (secondWord ws c) .br;
-  live = λ c. decode (secondWord ms c) .used;
+  live = λ c. among c (reached F ws top);
   li = λ c. firstWord ws c;
   ri = λ c. decode (secondWord ws c) .ri;
-  pos = placeOf F top;
-  turn = cellAt F top;
+  new = newAddress F (reached F ws top);
+  packs = packs;
 }
 
-module _ {F : ℕ} {ws : List ℕ} {top : ℕ} {ms : List ℕ} (p : 0 < F) (s : S.Sound F ws top)
-    (k : Marked F ws top ms) where
+module _ (F : ℕ) (ws : List ℕ) (top : ℕ) (packs : Bool) (p : 0 < F) (s : S.Sound F ws top) where
   abbrev g : Heap
-  g = heapOf F ws top ms
+  g = heapOf F ws top packs
 
-  -- ---- the heap
+  pub live-to : (c : ℕ) → g .live c ≡ true → Reached F (S.at ws) c
+  live-to c e = listed-iff F ws top p s c .0 (among-to c (reached F ws top) e)
 
-  split : (c : ℕ) → master g c ≡ true → ((ltb c F || g .live c) ≡ true) × (fullWord (secondWord ws c) ≡ true)
-  unfolding master
-  split c h = both-true (ltb c F || decode (secondWord ms c) .used) (fullWord (secondWord ws c)) h
+  pub live-of : (c : ℕ) → Reached F (S.at ws) c → g .live c ≡ true
+  live-of c r = among-of c (reached F ws top) (listed-iff F ws top p s c .1 r)
 
-  is-ends : (c : ℕ) → master g c ≡ true → S.at ws c ≡ S.Cell.ends (g .li c) (g .ri c)
-  is-ends c h = full-ends F ws top p s c (split c h .1)
+  split : (c : ℕ) → holder g c ≡ true → ((ltb c F || g .live c) ≡ true) × (fullWord (secondWord ws c) ≡ true)
+  unfolding holder
+  split c h = both-true (ltb c F || g .live c) (fullWord (secondWord ws c)) h
+
+  pub holder-ends : (c : ℕ) → holder g c ≡ true → S.at ws c ≡ S.Cell.ends (g .li c) (g .ri c)
+  holder-ends c h = full-ends F ws top p s c (split c h .1)
 
   live-heap : (c : ℕ) → g .live c ≡ true → (F ≤ c) × (c < top)
-  live-heap c h = reached-heap F (S.at ws) top (good F ws top p s) (k .only c h)
+  live-heap c h = reached-heap F (S.at ws) top (good F ws top p s) (live-to c h)
 
-  holds : (c j : ℕ) → master g c ≡ true → g .li c ≤ j → j ≤ g .ri c → Reached F (S.at ws) j
+  holds : (c j : ℕ) → holder g c ≡ true → g .li c ≤ j → j ≤ g .ri c → Reached F (S.at ws) j
   holds c j h a b = go (ltb c F) refl (split c h .0)
     where
       within : Between (S.at ws c) j
-      within = subst (λ (x : S.Cell). Between x j) (sym (is-ends c h)) (a, b)
+      within = subst (λ (x : S.Cell). Between x j) (sym (holder-ends c h)) (a, b)
 
       go : (t : Bool) → ltb c F ≡ t → (t || g .live c) ≡ true → Reached F (S.at ws) j
       go true e q = byRegister c (ltb-true c F e) within
-      go false e q = byBracket c (k .only c q) within
+      go false e q = byBracket c (live-to c q) within
 
-  pub ordered : Ordered g
-  ordered = record {
-    turn-pos = cell-place F top (s .low);
-    pos-turn = place-cell F top (s .low);
-    pos-low = place-low F top (s .low);
-  }
+  -- a register or reached cell that holds c
+  abbrev Held : ℕ → Type 0
+  Held c = (b : ℕ) × (holder g b ≡ true) × (g .li b ≤ c) × (c ≤ g .ri b)
+
+  is-held : (b c : ℕ) → (ltb b F || g .live b) ≡ true → Between (S.at ws b) c → Held c
+  unfolding holder
+  is-held b c k h = go (S.at ws b) refl h
+    where
+      go : (x : S.Cell) → S.at ws b ≡ x → Between x c → Held c
+      go (S.code a) e y = absurd y
+      go S.hollow e y = absurd y
+      go (S.ends l r) e y =
+          let w = cell-ends F ws top p s b e in (
+            b,
+            rw k (ends-full F ws top p s b e),
+            omega (arith, w .0, y .0),
+            omega (arith, ap (λ (x : Second). x .ri) (w .1), y .1),
+          )
+
+  held : (c : ℕ) → Reached F (S.at ws) c → Held c
+  held c (byRegister i l h) = is-held i c (rw (lt-ltb i F l)) h
+  held c (byBracket b r h) = is-held b c (or-right (ltb b F) (g .live b) (live-of b r)) h
 
   pub proper : Proper g
   proper = record {
-    order = ordered;
     some = p;
     FT = s .low;
     heap = live-heap;
-    ends = λ c h. ends-in F ws top p s c (is-ends c h);
-    down = λ c h f. ends-down F ws top p s c f (low c h f) (is-ends c h);
-    kept = λ c j h a b. k .all j (holds c j h a b);
+    ends = λ c h. ends-in F ws top p s c (holder-ends c h);
+    down = λ c h f. ends-down F ws top p s c f (low c h f) (holder-ends c h);
+    kept = λ c j h a b. live-of j (holds c j h a b);
+    held = λ c h. held c (live-to c h);
+    first = new-first F ws top p s;
+    after = λ c h. new-after F ws top p s c (live-to c h);
+    skip = λ c h. new-skip F ws top p s c (λ r. true≢false (sym (live-of c r) ∙ h));
   }
     where
-      low : (c : ℕ) → master g c ≡ true → F ≤ c → c < top
+      low : (c : ℕ) → holder g c ≡ true → F ≤ c → c < top
       low c h f = live-heap c (rw (le-ltb c F f) at (split c h .0)) .1
 
   -- a first word fits 28 bits
@@ -98,54 +141,33 @@ module _ {F : ℕ} {ws : List ℕ} {top : ℕ} {ms : List ℕ} (p : 0 < F) (s : 
       go S.hollow e f = omega (arith, f .0)
       go (S.ends l r) e f = omega (arith, f .0, ends-in F ws top p s c e, s .high, s .small, limit-fits)
 
-  small : (c : ℕ) → base g c < 2 ^ 28
-  unfolding base
-  small c = go (master g c)
-    where
-      go : (b : Bool) → cond b (g .ri c - g .li c) (g .li c) < 2 ^ 28
-      go true = omega (arith, ri-lt (secondWord ws c))
-      go false = first-small c
+  pub old-cell : (c : ℕ) → cell ws c ≡ oldCell g c
+  old-cell c = let e = cell-plain F ws top p s c in rw (e)
 
-  marked-cell : (c : ℕ) → cell ms c ≡ mk (g .br c) (g .live c) (val (g .li c)) (val (g .ri c))
-  marked-cell c =
-      let e = cell-plain F ws top p s c in
-      ap (λ (x : Second). linked (firstWord ms c) x) (k .second c)
-      ∙ (λ i. mk (g .br c) (g .live c) (record { tag = e i .lc; num = k .first c i })
-      (record { tag = e i .rc; num = g .ri c }))
-
-  pub threading : F ≡ firstCell → Threaded g ms 0
-  threading first = record {
-    frame = record {
-      proper = proper;
-      order = record { pos-heap = place-heap F top; pos-reg = place-reg F top };
-      first = first;
-      room = omega (arith, s .high, k .len);
-      len = omega (arith, s .small, k .len);
-      small = small;
-    };
-    at = threaded-zero g (cell ms) marked-cell;
+  before : SweptTo g 0 0 (cell ws)
+  before = record {
+    at = λ c h.
+        rw (
+          spot-ahead g 0 c (omega arith),
+          whole-l g 0 c (omega arith),
+          last-zero g c,
+          ahead-r g 0 0 c (omega arith),
+        ) (old-cell c);
+    dead = λ c f l h. old-cell c;
   }
 
-  -- ---- the new addresses
-
-  abbrev new : ℕ → ℕ
-  new c = newAddress F (reached F ws top) c
-
-  pub addr-new : (c : ℕ) → F ≤ c → addr g c ≡ new c
-  addr-new zero f = absurd (let z : ⊥ = omega arith in z)
-  addr-new (suc c) f = go (ℕ-discrete F (suc c)) (decode (secondWord ms c) .used) refl (addr-new c)
-    where
-      go : Dec (F ≡ suc c) → (b : Bool) → g .live c ≡ b → (F ≤ c → addr g c ≡ new c) → addr g (suc c) ≡ new (suc c)
-      go (yes e) b q ih = omega (arith, count-le g proper (suc c), ap new e, new-first F ws top p s)
-      go (no n) true q ih =
-          omega (arith, ih (omega arith), count-true (g .live) c q, new-after F ws top p s c (k .only c q))
-      go (no n) false q ih =
-          omega (
-            arith,
-            ih (omega arith),
-            count-false (g .live) c q,
-            new-skip F ws top p s c (λ r. true≢false (sym (k .all c r) ∙ q)),
-          )
-
-  pub addr-last : addr g top ≡ collectedTop F ws top
-  addr-last = addr-new top (s .low) ∙ new-last F ws top p s
+  pub begun : F ≡ firstCell → Begun g ws top packs
+  begun first = record {
+    phase = record {
+      frame = record {
+        proper = proper;
+        first = first;
+        room = omega (arith, s .high);
+        len = omega (arith, s .small);
+        small = first-small;
+      };
+      at = before;
+    };
+    ends = refl;
+    mode = refl;
+  }

@@ -1,189 +1,294 @@
--- The chain of m undone, over any set P of cells that has m and its masters: whatever the order of linking, and
--- whether or not the cells outside P have moved. `unlink-hit` is the step, `chain-head` says where it is taken,
--- `chain-end` when the chain is gone, `undoing-next` that the next cell's chain is then whole. Assumes nothing.
+-- The chain of m undone, in its turn. `unlink-hit` is the step, `chain-head` says where it is taken, `chain-end` when the
+-- chain is gone, `unlink-none` that a cell without holders has none. With the cells goes what the sweep knows of them.
+-- Assumes nothing.
 use mathlib.Core.Path.{_≡_, refl, sym, _∙_, ap, subst}
-use mathlib.Core.Logic.{_≢_}
+use mathlib.Core.Logic.{_≢_, _⊎_, inl, inr}
 use mathlib.Core.Bool.{Bool, true, false, cond, _&&_, true≢false}
-use Prim.Native.Nat.{ℕ, zero, suc, _≤_}
+use Prim.Native.Nat.{ℕ, zero, suc, _-_, _≤_, _<_, min}
 use native.Mathlib.Omega.{arith}
-use native.Mathlib.Decide.{ℕ-discrete}
-use lib.Dec.{eqb, leb·suc-suc}
-use borrow.Author.Tests.{eqb-true, eqb-false, le-ltb, le-leb, lt-leb, eq-eqb, ne-eqb}
-use Rattle.collect.specs.Cells.{Cell, val}
-use Rattle.collect.specs.Chain.{Heap, Ordered, Proper, master, addr, base, last, mended, slR, slL, slideCell}
-use Rattle.collect.specs.Chain.{Undoing}
+use native.Mathlib.Decide.{decLt, ℕ-discrete}
+use lib.Dec.{eqb, leb}
+use borrow.Author.Tests.{eqb-true, eq-eqb, le-ltb, lt-leb, le-leb}
+use Rattle.collect.specs.Cells.{Cell, val, ptr}
+use Rattle.collect.specs.Chain.{Heap, holder, Proper, pos, turn, place, span, last, mended, heldL, heldR}
+use Rattle.collect.specs.Chain.{sweepL, sweepCell, oldCell, spot, Stands, SweptTo, Known}
 use Rattle.collect.specs.Step.{Unlinked}
 use Rattle.collect.proofs.Counting.{both-true, leb-suc}
-use Rattle.collect.proofs.Order.{master-low, last-miss}
+use Rattle.collect.proofs.Order.{turn-pos, pos-turn, pos-other, pos-holder, holder-live, ri-other, ri-live}
+use Rattle.collect.proofs.Places.{place-own, place-up, place-run}
+use Rattle.collect.proofs.Spots.{holds, last-hit, last-miss, ahead-r, next-l, later-l, past-l, past-r}
+use Rattle.collect.proofs.Spots.{other-l, other-r, spot-ahead, spot-past, spot-other}
 
--- the cell at place x is a master of m
-abbrev pub mastered : Heap → ℕ → ℕ → Bool
-mastered g m x = master g (g .turn x) && eqb (g .ri (g .turn x)) m
+-- ---- a mended holder
 
--- ---- the two fields
+module _ (g : Heap) (j : ℕ) where
+  mended-same : (x c : ℕ) → pos g c ≢ x → mended g j (suc x) c ≡ mended g j x c
+  unfolding mended
+  mended-same x c n = rw (leb-suc (pos g c) x n)
 
-module _ (g : Heap) (m : ℕ) where
-  pub slL-at : (x : ℕ) → slL g m x m ≡ last g m x
-  unfolding slL
-  slL-at x = rw (eq-eqb m m refl)
-
-  pub slL-off : (x c : ℕ) → c ≢ m → slL g m x c ≡ last g c (g .T)
-  unfolding slL
-  slL-off x c n = rw (ne-eqb c m n)
-
-  pub slL-whole : (c : ℕ) → slL g m (g .T) c ≡ last g c (g .T)
-  unfolding slL
-  slL-whole c = go (eqb c m)
+  -- only the holders of the cell whose turn it is are mended
+  mended-off : (x c : ℕ) → pos g (g .ri c) ≢ j → mended g j (suc x) c ≡ mended g j x c
+  unfolding mended
+  mended-off x c n = go (leb (suc x) (pos g c)) (leb x (pos g c))
     where
-      go : (b : Bool) → last g c (cond b (g .T) (g .T)) ≡ last g c (g .T)
-      go true = refl
-      go false = refl
+      go : (a b : Bool) → cond a (leb (pos g (g .ri c)) j) (leb (suc (pos g (g .ri c))) j)
+          ≡ cond b (leb (pos g (g .ri c)) j) (leb (suc (pos g (g .ri c))) j)
+      go true true = refl
+      go true false = sym (leb-suc j (pos g (g .ri c)) (λ e. n (sym e)))
+      go false true = leb-suc j (pos g (g .ri c)) (λ e. n (sym e))
+      go false false = refl
 
-  pub slL-self : slL g m 0 m ≡ val (base g m)
-  unfolding last
-  slL-self = slL-at 0
+  mended-yes : (c : ℕ) → pos g (g .ri c) ≡ j → mended g j (pos g c) c ≡ true
+  unfolding mended
+  mended-yes c e = rw (le-leb (pos g c) (pos g c) (omega arith), le-leb (pos g (g .ri c)) j (omega arith))
 
-  slR-todo : (c : ℕ) → master g c ≡ true → g .ri c ≡ m → slR g m (suc (g .pos c)) c ≡ last g m (g .pos c)
-  unfolding slR mended
-  slR-todo c h e = rw (h, lt-leb (suc (g .pos c)) (g .pos c) (omega arith), le-ltb (g .ri c) m (omega arith), e)
+  mended-no : (c : ℕ) → pos g (g .ri c) ≡ j → mended g j (suc (pos g c)) c ≡ false
+  unfolding mended
+  mended-no c e =
+      rw (lt-leb (suc (pos g c)) (pos g c) (omega arith), le-ltb (pos g (g .ri c)) j (omega arith))
 
-  slR-done : (c : ℕ) → master g c ≡ true → g .ri c ≡ m → slR g m (g .pos c) c ≡ val (addr g m)
-  unfolding slR mended
-  slR-done c h e = rw (h, le-leb (g .pos c) (g .pos c) (omega arith), le-leb (g .ri c) m (omega arith), e)
+  heldL-same : (x c : ℕ) → mended g j (suc x) c ≡ mended g j x c → heldL g j (suc x) c ≡ heldL g j x c
+  unfolding heldL
+  heldL-same x c e = rw e
 
-  slR-same : (x c : ℕ) → g .pos c ≢ x → slR g m (suc x) c ≡ slR g m x c
-  unfolding slR mended
-  slR-same x c n = rw (leb-suc (g .pos c) x n)
+  heldR-same : (x c : ℕ) → mended g j (suc x) c ≡ mended g j x c → heldR g j (suc x) c ≡ heldR g j x c
+  unfolding heldR
+  heldR-same x c e = rw e
 
-  slR-miss : (c : ℕ) → (master g c && eqb (g .ri c) m) ≡ false → slR g m (suc (g .pos c)) c ≡ slR g m (g .pos c) c
-  unfolding slR mended
-  slR-miss c e = go (master g c) refl
+  pub heldL-yes : (x c : ℕ) → mended g j x c ≡ true → heldL g j x c ≡ val (place g (g .ri c) - span g c)
+  unfolding heldL
+  heldL-yes x c e = rw e
+
+  pub heldL-no : (x c : ℕ) → mended g j x c ≡ false → heldL g j x c ≡ val (span g c)
+  unfolding heldL
+  heldL-no x c e = rw e
+
+  pub heldR-yes : (x c : ℕ) → mended g j x c ≡ true → heldR g j x c ≡ val (place g (g .ri c))
+  unfolding heldR
+  heldR-yes x c e = rw e
+
+  pub heldR-no : (x c : ℕ) → mended g j x c ≡ false → heldR g j x c ≡ last g (g .ri c) (pos g c)
+  unfolding heldR
+  heldR-no x c e = rw e
+
+module _ (g : Heap) (s : Proper g) (m : ℕ) where
+  abbrev j : ℕ
+  j = pos g m
+
+  -- a cell's form, one place down the chain
+  form-same : (x c : ℕ) → (holder g c ≡ true → mended g j (suc x) c ≡ mended g j x c)
+      → (c ≡ m → last g m (suc x) ≡ last g m x) → sweepCell g j (suc x) c ≡ sweepCell g j x c
+  form-same x c e k = go (decLt (pos g c) j) (holder g c) refl (ℕ-discrete c m)
     where
-      go : (b : Bool) → master g c ≡ b → slR g m (suc (g .pos c)) c ≡ slR g m (g .pos c) c
-      go false h = rw h
-      go true h =
+      go : Dec (pos g c < j) → (b : Bool) → holder g c ≡ b → Dec (c ≡ m)
+          → sweepCell g j (suc x) c ≡ sweepCell g j x c
+      go (yes p) true h d =
           rw (
-            h,
-            lt-leb (suc (g .pos c)) (g .pos c) (omega arith),
-            le-leb (g .pos c) (g .pos c) (omega arith),
-            leb-suc m (g .ri c) (λ q. eqb-false (g .ri c) m (rw h at e) (sym q)),
+            past-l g j (suc x) c p h,
+            past-l g j x c p h,
+            past-r g j (suc x) c p h,
+            past-r g j x c p h,
+            heldL-same g j x c (e h),
+            heldR-same g j x c (e h),
           )
+      go (yes p) false h d =
+          rw (other-l g j (suc x) c p h, other-l g j x c p h, other-r g j (suc x) c h, other-r g j x c h)
+      go (no p) b h (yes q) =
+          let w : pos g c ≡ j = ap (pos g) q in
+          rw (ahead-r g j (suc x) c (omega arith), ahead-r g j x c (omega arith), next-l g j (suc x) c w, next-l g j x c w)
+          (rw (q, k q))
+      go (no p) b h (no q) =
+          let w : j < pos g c = (let z = pos-other g s c m q in omega arith) in
+          rw (ahead-r g j (suc x) c (omega arith), ahead-r g j x c (omega arith), later-l g j (suc x) c w, later-l g j x c w)
 
-  -- m's masters all mended is none of the next cell's mended
-  slR-turn : Proper g → (c : ℕ) → slR g m 0 c ≡ slR g (suc m) (g .T) c
-  unfolding slR mended
-  slR-turn s c = go (master g c) refl
+  -- the cell at place x in the order is no holder of m
+  skip-mended : (x c : ℕ) → holds g m x ≡ false → holder g c ≡ true → mended g j (suc x) c ≡ mended g j x c
+  skip-mended x c e h = go (ℕ-discrete (pos g c) x)
     where
-      go : (b : Bool) → master g c ≡ b → slR g m 0 c ≡ slR g (suc m) (g .T) c
-      go false h = rw h
-      go true h =
-          rw (
-            h,
-            le-leb 0 (g .pos c) (omega arith),
-            lt-leb (g .T) (g .pos c) (s .order .pos-low c (master-low g c s h)),
-            leb·suc-suc (g .ri c) m,
-          )
+      go : Dec (pos g c ≡ x) → mended g j (suc x) c ≡ mended g j x c
+      go (no n) = mended-same g j x c n
+      go (yes q) = mended-off g j x c (λ w. true≢false (sym (held w) ∙ e))
+        where
+          here : turn g x ≡ c
+          here = ap (turn g) (sym q) ∙ turn-pos g s c
 
-module _ (g : Heap) (o : Ordered g) (P : ℕ → Type 0) (m : ℕ) where
-  -- the cell at place x is no master of m
-  pub unlink-skip : (x : ℕ) (M : ℕ → Cell) → mastered g m x ≡ false → Undoing g P m (suc x) M → Undoing g P m x M
-  unlink-skip x M e t c h = t c h ∙ rw (l (ℕ-discrete c m), r (ℕ-discrete c (g .turn x)))
-    where
-      l : Dec (c ≡ m) → slL g m (suc x) c ≡ slL g m x c
-      l (yes q) = rw (q, slL-at g m (suc x), slL-at g m x, last-miss g m x e)
-      l (no n) = rw (slL-off g m (suc x) c n, slL-off g m x c n)
+          held : pos g (g .ri c) ≡ j → holds g m x ≡ true
+          held w =
+              let z : g .ri c ≡ m = sym (turn-pos g s (g .ri c)) ∙ ap (turn g) w ∙ turn-pos g s m in
+              rw (here, h, z) (eq-eqb m m refl)
 
-      at : slR g m (suc x) (g .turn x) ≡ slR g m x (g .turn x)
-      at =
-          subst (λ (y : ℕ). slR g m (suc y) (g .turn x) ≡ slR g m y (g .turn x)) (o .pos-turn x)
-          (slR-miss g m (g .turn x) e)
+  pub record Undone (x low : ℕ) (M : ℕ → Cell) : Type 0 where
+    pub cells : SweptTo g j x M
+    pub known : Known g j x low m
 
-      r : Dec (c ≡ g .turn x) → slR g m (suc x) c ≡ slR g m x c
-      r (yes q) = rw q at
-      r (no n) = slR-same g m x c (λ q. n (sym (o .turn-pos c) ∙ ap (g .turn) q))
+  unlink-skip : (x low : ℕ) (M : ℕ → Cell) → holds g m x ≡ false → Undone (suc x) low M → Undone x low M
+  unlink-skip x low M e u = record {
+    cells = record {
+      at = λ c h. u .cells .at c h ∙ form-same x c (skip-mended x c e) (λ q. last-miss g m x e);
+      dead = u .cells .dead;
+    };
+    known = record {
+      reached = u .known .reached;
+      covers = λ b h p q. u .known .covers b h p (skip-mended x b e h ∙ q);
+    };
+  }
 
-  -- the master k, at its place in the order, is taken off
-  pub unlink-hit : (k : ℕ) (M M′ : ℕ → Cell) → P m → P k → k ≢ m → master g k ≡ true → g .ri k ≡ m
-      → Undoing g P m (suc (g .pos k)) M → Unlinked M M′ m k (addr g m) → Undoing g P m (g .pos k) M′
-  unlink-hit k M M′ pm pk off h e t w c p = go (ℕ-discrete c m) (ℕ-discrete c k)
-    where
-      away : (x : ℕ) → x ≢ k → g .pos x ≢ g .pos k
-      away x n q = n (sym (o .turn-pos x) ∙ ap (g .turn) q ∙ o .turn-pos k)
-
-      go : Dec (c ≡ m) → Dec (c ≡ k) → M′ c ≡ slideCell g m (g .pos k) c
-      go (yes q) d =
-          rw q (w .at-m ∙ rw (
-            t m pm,
-            t k pk,
-            slR-todo g m k h e,
-            slL-at g m (g .pos k),
-            slR-same g m (g .pos k) m (away m (λ y. off (sym y))),
-          ))
-      go (no n) (yes q) =
-          rw q (w .at-k ∙ rw (
-            t k pk,
-            slR-done g m k h e,
-            slL-off g m (suc (g .pos k)) k off,
-            slL-off g m (g .pos k) k off,
-          ))
-      go (no n) (no y) =
-          w .rest c n y ∙ t c p
-          ∙ rw (slL-off g m (suc (g .pos k)) c n, slL-off g m (g .pos k) c n, slR-same g m (g .pos k) c (away c y))
-
-  -- where the chain leads on, its head is the last master of m before place x
-  pub record Head (x : ℕ) (M : ℕ → Cell) : Type 0 where
+  -- where the chain leads on, its head is the last holder of m before place x
+  pub record Head (x low : ℕ) (M : ℕ → Cell) : Type 0 where
     pub k : ℕ
-    pub master : master g k ≡ true
+    pub holder : holder g k ≡ true
     pub names : g .ri k ≡ m
-    pub is : last g m x .num ≡ k
-    pub at : Undoing g P m (suc (g .pos k)) M
+    pub is : last g m x .num ≡ place g k
+    pub at : Undone (suc (pos g k)) low M
 
-  pub chain-head : (x : ℕ) (M : ℕ → Cell) → Undoing g P m x M → last g m x .tag ≡ true → Head x M
+  pub chain-head : (x low : ℕ) (M : ℕ → Cell) → Undone x low M → last g m x .tag ≡ true → Head x low M
   unfolding last
-  chain-head zero M t e = absurd (true≢false (sym e))
-  chain-head (suc x) M t e = go (mastered g m x) refl (chain-head x M)
+  chain-head zero low M u e = absurd (true≢false (sym e))
+  chain-head (suc x) low M u e = go (holds g m x) refl (chain-head x low M)
     where
-      go : (b : Bool) → mastered g m x ≡ b → (Undoing g P m x M → last g m x .tag ≡ true → Head x M) → Head (suc x) M
-      go true q ih = record {
-        k = g .turn x;
-        master = both-true (master g (g .turn x)) (eqb (g .ri (g .turn x)) m) q .0;
-        names = eqb-true (g .ri (g .turn x)) m (both-true (master g (g .turn x)) (eqb (g .ri (g .turn x)) m) q .1);
-        is = rw q;
-        at = subst (λ (y : ℕ). Undoing g P m (suc y) M) (sym (o .pos-turn x)) t;
-      }
+      go : (b : Bool) → holds g m x ≡ b → (Undone x low M → last g m x .tag ≡ true → Head x low M) → Head (suc x) low M
+      go true q ih =
+          let p = both-true (holder g (turn g x)) (eqb (g .ri (turn g x)) m) q in
+          record {
+            k = turn g x;
+            holder = p .0;
+            names = eqb-true (g .ri (turn g x)) m (p .1);
+            is = rw q;
+            at = subst (λ (y : ℕ). Undone (suc y) low M) (sym (pos-turn g s x)) u;
+          }
       go false q ih =
-          let h = ih (unlink-skip x M q t) (rw q at e) in
-          record { k = h .k; master = h .master; names = h .names; is = rw q (h .is); at = h .at }
+          let h = ih (unlink-skip x low M q u) (rw q at e) in
+          record { k = h .k; holder = h .holder; names = h .names; is = rw q (h .is); at = h .at }
 
-  -- where it does not, no master is left
-  pub chain-end : (x : ℕ) (M : ℕ → Cell) → Undoing g P m x M → last g m x .tag ≡ false → Undoing g P m 0 M
+  -- where it does not, no holder is left
+  pub chain-end : (x low : ℕ) (M : ℕ → Cell) → Undone x low M → last g m x .tag ≡ false → Undone 0 low M
   unfolding last
-  chain-end zero M t e = t
-  chain-end (suc x) M t e = go (mastered g m x) refl (chain-end x M)
+  chain-end zero low M u e = u
+  chain-end (suc x) low M u e = go (holds g m x) refl (chain-end x low M)
     where
-      go : (b : Bool) → mastered g m x ≡ b → (Undoing g P m x M → last g m x .tag ≡ false → Undoing g P m 0 M)
-          → Undoing g P m 0 M
+      go : (b : Bool) → holds g m x ≡ b → (Undone x low M → last g m x .tag ≡ false → Undone 0 low M) → Undone 0 low M
       go true q ih = absurd (true≢false (rw q at e))
-      go false q ih = ih (unlink-skip x M q t) (rw q at e)
+      go false q ih = ih (unlink-skip x low M q u) (rw q at e)
 
-  -- a cell without masters
-  pub unlink-none : (x : ℕ) (M : ℕ → Cell) → ((j : ℕ) → mastered g m j ≡ false) → Undoing g P m x M → Undoing g P m 0 M
-  unlink-none zero M n t = t
-  unlink-none (suc x) M n t = unlink-none x M n (unlink-skip x M (n x) t)
+  -- a cell without holders
+  pub unlink-none : (x low : ℕ) (M : ℕ → Cell) → ((b : ℕ) → holder g b ≡ true → g .ri b ≢ m) → Undone x low M
+      → Undone 0 low M
+  unlink-none zero low M n u = u
+  unlink-none (suc x) low M n u = unlink-none x low M n (unlink-skip x low M (miss (holds g m x) refl) u)
+    where
+      miss : (b : Bool) → holds g m x ≡ b → holds g m x ≡ false
+      miss false q = q
+      miss true q =
+          let p = both-true (holder g (turn g x)) (eqb (g .ri (turn g x)) m) q in
+          absurd (n (turn g x) (p .0) (eqb-true (g .ri (turn g x)) m (p .1)))
 
--- an unmarked heap cell has no masters
-pub unmastered : (g : Heap) → Proper g → (m : ℕ) → g .live m ≡ false → (x : ℕ) → mastered g m x ≡ false
-unmastered g s m e x = go (mastered g m x) refl
-  where
-    go : (b : Bool) → mastered g m x ≡ b → mastered g m x ≡ false
-    go false q = q
-    go true q =
-        let p = both-true (master g (g .turn x)) (eqb (g .ri (g .turn x)) m) q in
-        let w : g .ri (g .turn x) ≡ m = eqb-true (g .ri (g .turn x)) m (p .1) in
-        let low : g .li (g .turn x) ≤ m = omega (arith, s .ends (g .turn x) (p .0)) in
-        absurd (true≢false (sym (s .kept (g .turn x) m (p .0) low (omega arith)) ∙ e))
+  -- the holder k is taken off
+  module _ (k : ℕ) (h : holder g k ≡ true) (e : g .ri k ≡ m) where
+    turned : pos g k < j
+    turned = subst (λ (x : ℕ). pos g k < pos g x) e (pos-holder g k s h)
 
--- m's chain is gone: the next cell's is whole, at all cells but m
-pub undoing-next : (g : Heap) → Proper g → (P : ℕ → Type 0) (m : ℕ) (M : ℕ → Cell) → Undoing g P m 0 M
-    → (c : ℕ) → P c → c ≢ m → M c ≡ slideCell g (suc m) (g .T) c
-undoing-next g s P m M u c p n = u c p ∙ rw (slL-whole g (suc m) c, slL-off g m 0 c n, slR-turn g m s c)
+    off : k ≢ m
+    off q = ri-other g k s h (e ∙ sym q)
+
+    stands-k : Stands g j k
+    stands-k f p = holder-live g k h f
+
+    stands-m : Stands g j m
+    stands-m f p = absurd (omega arith)
+
+    -- it stands elsewhere than m, below T, and its length less one is no more than m's place
+    pub unlink-apart : place g k ≢ m
+    unlink-apart q =
+        spot-other g s j k m stands-k stands-m off
+        (spot-past g j k turned ∙ q ∙ sym (spot-ahead g j m (omega arith)))
+
+    pub unlink-low : place g k < g .T
+    unlink-low = go (decLt k (g .F))
+      where
+        go : Dec (k < g .F) → place g k < g .T
+        go (yes p) = omega (arith, place-own g s k p, s .FT)
+        go (no p) = place-up g s k (holder-live g k h (omega arith)) .1
+
+    pub unlink-span : (span g k ≤ place g m) × (span g k ≤ m)
+    unlink-span = (omega (arith, place-run g s k h, ap (place g) e), omega (arith, e))
+
+    -- what its first word is
+    pub unlink-first : (low : ℕ) (M : ℕ → Cell) → Undone (suc (pos g k)) low M → M (place g k) .l ≡ val (span g k)
+    unlink-first low M u =
+        subst (λ (x : ℕ). M x .l ≡ sweepL g j (suc (pos g k)) k) (spot-past g j k turned)
+        (ap (λ (x : Cell). x .l) (u .cells .at k stands-k))
+        ∙ past-l g j (suc (pos g k)) k turned h ∙ heldL-no g j (suc (pos g k)) k (mended-no g j k (ap (pos g) e))
+
+    live-m : g .live m ≡ true
+    live-m = subst (λ (x : ℕ). g .live x ≡ true) e (ri-live g k s h)
+
+    pub unlink-hit : (low : ℕ) (M M′ : ℕ → Cell) → Undone (suc (pos g k)) low M → Unlinked M M′ m (place g k) (place g m)
+        → Undone (pos g k) (min (m - span g k) low) M′
+    unlink-hit low M M′ u w = record {
+      cells = record { at = λ c p. at c p (ℕ-discrete c m) (ℕ-discrete c k); dead = dead };
+      known = record { reached = reached; covers = λ b p q r. covers b p q r (ℕ-discrete b k) };
+    }
+      where
+        mk-m : M m ≡ sweepCell g j (suc (pos g k)) m
+        mk-m = subst (λ (x : ℕ). M x ≡ sweepCell g j (suc (pos g k)) m) (spot-ahead g j m (omega arith))
+            (u .cells .at m stands-m)
+
+        mk-k : M (place g k) ≡ sweepCell g j (suc (pos g k)) k
+        mk-k = subst (λ (x : ℕ). M x ≡ sweepCell g j (suc (pos g k)) k) (spot-past g j k turned)
+            (u .cells .at k stands-k)
+
+        on : pos g (g .ri k) ≡ j
+        on = ap (pos g) e
+
+        at : (c : ℕ) → Stands g j c → Dec (c ≡ m) → Dec (c ≡ k) → M′ (spot g j c) ≡ sweepCell g j (pos g k) c
+        at c p (yes q) d =
+            rw (q, spot-ahead g j m (omega arith)) (w .at-m ∙ rw (
+              mk-m,
+              mk-k,
+              past-r g j (suc (pos g k)) k turned h,
+              heldR-no g j (suc (pos g k)) k (mended-no g j k on),
+              e,
+              next-l g j (pos g k) m refl,
+              ahead-r g j (suc (pos g k)) m (omega arith),
+              ahead-r g j (pos g k) m (omega arith),
+            ))
+        at c p (no n) (yes q) =
+            rw (q, spot-past g j k turned) (w .at-k ∙ rw (
+              mk-k,
+              past-l g j (suc (pos g k)) k turned h,
+              heldL-no g j (suc (pos g k)) k (mended-no g j k on),
+              past-l g j (pos g k) k turned h,
+              past-r g j (pos g k) k turned h,
+              heldL-yes g j (pos g k) k (mended-yes g j k on),
+              heldR-yes g j (pos g k) k (mended-yes g j k on),
+              e,
+            ))
+        at c p (no n) (no y) =
+            w .rest (spot g j c)
+            (λ q. spot-other g s j c m p stands-m n (q ∙ sym (spot-ahead g j m (omega arith))))
+            (λ q. spot-other g s j c k p stands-k y (q ∙ sym (spot-past g j k turned)))
+            ∙ u .cells .at c p
+            ∙ form-same (pos g k) c (λ z. mended-same g j (pos g k) c (pos-other g s c k y)) (λ q. absurd (n q))
+
+        dead : (c : ℕ) → g .F ≤ c → g .live c ≡ false → ((y : ℕ) → g .live y ≡ true → place g y ≢ c)
+            → M′ c ≡ oldCell g c
+        dead c f l bare =
+            w .rest c (λ q. true≢false (sym live-m ∙ ap (g .live) (sym q) ∙ l)) (λ q. away q (decLt k (g .F)))
+            ∙ u .cells .dead c f l bare
+          where
+            away : c ≡ place g k → Dec (k < g .F) → ⊥
+            away q (yes r) = omega (arith, place-own g s k r)
+            away q (no r) = bare k (holder-live g k h (omega arith)) (sym q)
+
+        reached : (y : ℕ) → min (m - span g k) low ≤ y → y < m → g .live y ≡ true
+        reached y p q = go (decLt y low)
+          where
+            go : Dec (y < low) → g .live y ≡ true
+            go (no r) = u .known .reached y (omega arith) q
+            go (yes r) = s .kept k y h (omega (arith, s .ends k h, e)) (omega (arith, e))
+
+        covers : (b : ℕ) → holder g b ≡ true → pos g b < j → mended g j (pos g k) b ≡ true → Dec (b ≡ k)
+            → min (m - span g k) low ≤ g .li b
+        covers b p q r (yes z) = rw z (omega (arith, s .ends k h, e))
+        covers b p q r (no z) =
+            omega (arith, u .known .covers b p q (mended-same g j (pos g k) b (pos-other g s b k z) ∙ r))

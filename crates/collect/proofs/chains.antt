@@ -1,3 +1,3 @@
 -- What the functions on chains make of the words. Assumes nothing.
-pub mod Linked
-pub mod Released
+pub mod Linking
+pub mod Releasing

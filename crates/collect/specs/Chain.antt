@@ -1,15 +1,22 @@
--- A marked store apart from its words, and its cells in closed form while chains are built and undone (000, 3.2 to
--- 3.5). A master of cell k is a register or marked cell, a bracket with contents, whose right end is k. The chain of
--- k starts in k's left field, runs through the right fields of k's masters, from the last linked to the first, and ends
--- in what stood in k's left field before. Assumes nothing.
+-- A sound store apart from its words, and its cells in closed form while the sweep links and mends them (000, 3.2 to
+-- 3.5). A holder of cell k is a register or reached cell, a bracket with contents, whose right end is k. The chain of k
+-- starts in k's left field, runs through the right fields of k's holders, from the last linked to the first, and ends
+-- in k's own left end or code. In order:
+--   Heap       the store
+--   Proper     what soundness and reaching say of it
+--   pos, turn  the order of the sweep;  place  where a cell stands after its turn
+--   last       the chain of a cell, from its head
+--   sweepCell  a cell after j turns;  SweptTo  all of them
+-- Assumes nothing.
 use mathlib.Core.Path.{_≡_}
+use mathlib.Core.Logic.{_≢_}
 use mathlib.Core.Bool.{Bool, true, false, cond, not, _&&_, _||_}
 use Prim.Native.Nat.{ℕ, zero, suc, _+_, _-_, _≤_, _<_}
 use lib.Dec.{ltb, leb, eqb}
 use Rattle.collect.specs.Cells.{Link, Cell, val, ptr, mk}
 
--- The store as it is marked: registers below F, heap cells from F up to T; which cells are brackets, their ends, and
--- which heap cells are marked. And the order in which masters are linked: each cell's place, and each place's cell.
+-- Registers below F, heap cells from F up to T; which cells are brackets, their ends, which heap cells are reached and
+-- the new addresses of these. And whether the sweep packs the reached cells against T or leaves them where they are.
 pub record Heap : Type 0 where
   pub F : ℕ
   pub T : ℕ
@@ -17,94 +24,101 @@ pub record Heap : Type 0 where
   pub live : ℕ → Bool
   pub li : ℕ → ℕ
   pub ri : ℕ → ℕ
-  pub pos : ℕ → ℕ
-  pub turn : ℕ → ℕ
+  pub new : ℕ → ℕ
+  pub packs : Bool
 
 -- a bracket with contents, by its flag and its right end
 abbrev pub full : Bool → ℕ → Bool
 full b r = b && not (eqb r 0)
 
--- a register or marked cell that is a bracket with contents
-unfoldable pub master : Heap → ℕ → Bool
-master g c = (ltb c (g .F) || g .live c) && full (g .br c) (g .ri c)
+-- a register or reached cell that is a bracket with contents
+unfoldable pub holder : Heap → ℕ → Bool
+holder g c = (ltb c (g .F) || g .live c) && full (g .br c) (g .ri c)
 
--- Every cell has one place in the order, and those below T have the first T places.
-pub record Ordered (g : Heap) : Type 0 where
-  pub turn-pos : (c : ℕ) → g .turn (g .pos c) ≡ c
-  pub pos-turn : (j : ℕ) → g .pos (g .turn j) ≡ j
-  pub pos-low : (c : ℕ) → c < g .T → g .pos c < g .T
-
--- What marking and soundness give: all that a master holds is marked, and lies below it if it is a heap cell.
+-- All that a holder holds is reached, and lies below it if it is a heap cell; a reached cell has a holder; and the new
+-- addresses count the reached cells.
 pub record Proper (g : Heap) : Type 0 where
-  pub order : Ordered g
   pub some : 0 < g .F
   pub FT : g .F ≤ g .T
   pub heap : (c : ℕ) → g .live c ≡ true → (g .F ≤ c) × (c < g .T)
-  pub ends : (c : ℕ) → master g c ≡ true → (g .F ≤ g .li c) × (g .li c ≤ g .ri c) × (g .ri c < g .T)
-  pub down : (c : ℕ) → master g c ≡ true → g .F ≤ c → g .ri c < c
-  pub kept : (c j : ℕ) → master g c ≡ true → g .li c ≤ j → j ≤ g .ri c → g .live j ≡ true
+  pub ends : (c : ℕ) → holder g c ≡ true → (g .F ≤ g .li c) × (g .li c ≤ g .ri c) × (g .ri c < g .T)
+  pub down : (c : ℕ) → holder g c ≡ true → g .F ≤ c → g .ri c < c
+  pub kept : (c j : ℕ) → holder g c ≡ true → g .li c ≤ j → j ≤ g .ri c → g .live j ≡ true
+  pub held : (c : ℕ) → g .live c ≡ true → (b : ℕ) × (holder g b ≡ true) × (g .li b ≤ c) × (c ≤ g .ri b)
+  pub first : g .new (g .F) ≡ g .F
+  pub after : (c : ℕ) → g .live c ≡ true → g .new (suc c) ≡ suc (g .new c)
+  pub skip : (c : ℕ) → g .live c ≡ false → g .new (suc c) ≡ g .new c
 
--- The order of 000, 3.5 in this setting: the heap upward, the registers last. A cell comes before its masters.
-pub record HeapFirst (g : Heap) : Type 0 where
-  pub pos-heap : (c : ℕ) → g .F ≤ c → c < g .T → g .pos c ≡ c - g .F
-  pub pos-reg : (c : ℕ) → c < g .F → g .pos c ≡ c + (g .T - g .F)
+-- The order of the sweep: the registers, then the heap from the top down. A holder has its turn before what it holds.
+unfoldable pub pos : Heap → ℕ → ℕ
+pos g c = cond (ltb c (g .F)) c (cond (ltb c (g .T)) (g .F + (g .T - suc c)) c)
 
--- how many cells below c are in f, and where a marked cell goes
-unfoldable pub count : (ℕ → Bool) → ℕ → ℕ
-count f zero = 0
-count f (suc c) = cond (f c) (suc (count f c)) (count f c)
+unfoldable pub turn : Heap → ℕ → ℕ
+turn g j = cond (ltb j (g .F)) j (cond (ltb j (g .T)) (g .T - suc (j - g .F)) j)
 
-abbrev pub addr : Heap → ℕ → ℕ
-addr g c = g .F + count (g .live) c
+-- where a register or reached cell stands after its turn
+unfoldable pub place : Heap → ℕ → ℕ
+place g c = cond (ltb c (g .F)) c (cond (g .packs) (g .new c + (g .T - g .new (g .T))) c)
 
--- what the left field holds, its chain apart: of a master its length less one
-unfoldable pub base : Heap → ℕ → ℕ
-base g c = cond (master g c) (g .ri c - g .li c) (g .li c)
+-- a holder's length less one
+abbrev pub span : Heap → ℕ → ℕ
+span g c = g .ri c - g .li c
 
--- The left field of k when the first j cells in order are linked: it leads to the last of them whose right end is k.
+-- The left field of k, its turn ahead, when the first j cells in order are linked: it leads to the last of them that
+-- holds up to k.
 unfoldable pub last : Heap → ℕ → ℕ → Link
-last g k zero = val (base g k)
-last g k (suc j) = cond (master g (g .turn j) && eqb (g .ri (g .turn j)) k) (ptr (g .turn j)) (last g k j)
+last g k zero = val (g .li k)
+last g k (suc j) =
+    cond (holder g (turn g j) && eqb (g .ri (turn g j)) k) (ptr (place g (turn g j))) (last g k j)
 
--- A cell when the first j in order are linked. A master has its left end until its turn.
-unfoldable pub thL : Heap → ℕ → ℕ → Link
-thL g j c = cond (master g c && leb j (g .pos c)) (val (g .li c)) (last g c j)
-
-unfoldable pub thR : Heap → ℕ → ℕ → Link
-thR g j c = cond (master g c && ltb (g .pos c) j) (last g (g .ri c) (g .pos c)) (val (g .ri c))
-
-abbrev pub threadCell : Heap → ℕ → ℕ → Cell
-threadCell g j c = mk (g .br c) (g .live c) (thL g j c) (thR g j c)
-
-abbrev pub LinkedTo : Heap → ℕ → (ℕ → Cell) → Type 0
-LinkedTo g j M = (c : ℕ) → M c ≡ threadCell g j c
-
--- While the chain of m is undone, of m's masters those from place x on have their new right end, and so have the
--- masters of the cells below m. At x = T the chain is whole, at x = 0 gone.
+-- The first j cells have had their turn, and the chain of the next one is undone down to place x in the order: whole at
+-- x = j, gone at x = 0. A holder is mended when it is off the chain of its right end.
 unfoldable pub mended : Heap → ℕ → ℕ → ℕ → Bool
-mended g m x c = cond (leb x (g .pos c)) (leb (g .ri c) m) (ltb (g .ri c) m)
+mended g j x c = cond (leb x (pos g c)) (leb (pos g (g .ri c)) j) (ltb (pos g (g .ri c)) j)
 
-unfoldable pub slR : Heap → ℕ → ℕ → ℕ → Link
-slR g m x c =
-    cond (master g c) (cond (mended g m x c) (val (addr g (g .ri c))) (last g (g .ri c) (g .pos c))) (val (g .ri c))
+-- its two fields after its turn: its length less one and a link, then the places of its ends
+unfoldable pub heldL : Heap → ℕ → ℕ → ℕ → Link
+heldL g j x c = val (cond (mended g j x c) (place g (g .ri c) - span g c) (span g c))
 
-unfoldable pub slL : Heap → ℕ → ℕ → ℕ → Link
-slL g m x c = last g c (cond (eqb c m) x (g .T))
+unfoldable pub heldR : Heap → ℕ → ℕ → ℕ → Link
+heldR g j x c = cond (mended g j x c) (val (place g (g .ri c))) (last g (g .ri c) (pos g c))
 
-abbrev pub slideCell : Heap → ℕ → ℕ → ℕ → Cell
-slideCell g m x c = mk (g .br c) (g .live c) (slL g m x c) (slR g m x c)
+-- the fields of any cell
+unfoldable pub sweepL : Heap → ℕ → ℕ → ℕ → Link
+sweepL g j x c =
+    cond (ltb (pos g c) j) (cond (holder g c) (heldL g j x c) (val (g .li c))) (last g c (cond (eqb (pos g c) j) x j))
 
--- the cells of the set P are so
-abbrev pub Undoing : Heap → (ℕ → Type 0) → ℕ → ℕ → (ℕ → Cell) → Type 0
-Undoing g P m x M = (c : ℕ) → P c → M c ≡ slideCell g m x c
+unfoldable pub sweepR : Heap → ℕ → ℕ → ℕ → Link
+sweepR g j x c = cond (holder g c && ltb (pos g c) j) (heldR g j x c) (val (g .ri c))
 
--- a register or marked cell at the end: both ends are new addresses
-unfoldable pub finalCell : Heap → ℕ → Cell
-finalCell g c =
-    mk (g .br c) false (val (cond (master g c) (addr g (g .li c)) (g .li c)))
-    (val (cond (master g c) (addr g (g .ri c)) (g .ri c)))
+abbrev pub sweepCell : Heap → ℕ → ℕ → ℕ → Cell
+sweepCell g j x c = mk (g .br c) false (sweepL g j x c) (sweepR g j x c)
 
--- The cells from m on and the registers are where they were, those below m have moved.
-pub record MovedTo (g : Heap) (m x : ℕ) (M : ℕ → Cell) : Type 0 where
-  pub ahead : Undoing g (λ c. g .F ≤ c → m ≤ c) m x M
-  pub moved : (c : ℕ) → g .live c ≡ true → c < m → M (addr g c) ≡ finalCell g c
+-- a cell as it was before the sweep
+abbrev pub oldCell : Heap → ℕ → Cell
+oldCell g c = mk (g .br c) false (val (g .li c)) (val (g .ri c))
+
+-- where a cell stands after j turns, and the cells that stand: all but the unreached ones whose turn is over
+unfoldable pub spot : Heap → ℕ → ℕ → ℕ
+spot g j c = cond (ltb (pos g c) j) (place g c) c
+
+abbrev pub Stands : Heap → ℕ → ℕ → Type 0
+Stands g j c = g .F ≤ c → pos g c < j → g .live c ≡ true
+
+-- An unreached cell at which none is placed stays as it was.
+pub record SweptTo (g : Heap) (j x : ℕ) (M : ℕ → Cell) : Type 0 where
+  pub at : (c : ℕ) → Stands g j c → M (spot g j c) ≡ sweepCell g j x c
+  pub dead : (c : ℕ) → g .F ≤ c → g .live c ≡ false → ((y : ℕ) → g .live y ≡ true → place g y ≢ c)
+      → M c ≡ oldCell g c
+
+-- What the sweep knows when the cells from c up have had their turn: those from `low` up to c are reached, and no mended
+-- holder reaches below `low`.
+pub record Known (g : Heap) (j x low c : ℕ) : Type 0 where
+  pub reached : (y : ℕ) → low ≤ y → y < c → g .live y ≡ true
+  pub covers : (b : ℕ) → holder g b ≡ true → pos g b < j → mended g j x b ≡ true → low ≤ g .li b
+
+-- a register or reached cell at the end: both ends are places
+unfoldable pub placedCell : Heap → ℕ → Cell
+placedCell g c =
+    mk (g .br c) false (val (cond (holder g c) (place g (g .li c)) (g .li c)))
+    (val (cond (holder g c) (place g (g .ri c)) (g .ri c)))

@@ -1,7 +1,5 @@
 -- The definitions that the contracts of `collect` cite. In order:
 --   Cells    a cell's fields as links
---   Phases   what the words are in each phase of collecting
---   Marking  the steps of marking
 --   Chain    the cells in closed form while chains stand
 --   Step     what one step makes of them
 --   Passes   what the passes ask for and leave
@@ -9,8 +7,6 @@
 --   Unique   the claim that collecting's statement leaves no second outcome
 -- Assumes nothing.
 pub mod Cells
-pub mod Phases
-pub mod Marking
 pub mod Chain
 pub mod Step
 pub mod Passes

@@ -1,127 +1,165 @@
--- What the passes of compacting ask for and leave, on words. Each phase is a record over the heap g that the words
--- hold, and the invariant of the pass that keeps it:
---   Threaded  the first j cells in order are linked to the chains of their right ends
---   Sliding   the heap cells below m have moved, and the next one goes to `new`
--- A pass is asked for some g in its phase, and leaves every such g in the next. Assumes nothing.
+-- What the functions of the collector ask for and leave, on words. A phase is a record over the heap g that the words
+-- hold; a function is asked for some g in its phase, and leaves every such g in the next. In order: the sweep down
+-- (linking, releasing, a cell's turn, the loops), then the pass up that lowers what the sweep has packed.
+-- Assumes nothing.
 use mathlib.Core.Path.{_≡_}
 use mathlib.Core.Logic.{_≢_}
-use mathlib.Core.Bool.{Bool, true, false, cond, _||_}
+use mathlib.Core.Bool.{Bool, true, false, cond}
 use mathlib.Core.List.{List}
 use Prim.Native.Nat.{ℕ, suc, _+_, _-_, _*_, _^_, _≤_, _<_}
 use lib.Dec.{ltb}
 use lib.ListN.{length}
 use Rattle.words.specs.Cell.{firstWord, secondWord, putCell}
-use Rattle.words.specs.Second.{decode}
+use Rattle.words.specs.Second.{decode, plain}
 use Rattle.meaning.specs.Limits.{firstCell, limit}
 use Rattle.collect.specs.Cells.{linked, cell}
-use Rattle.collect.specs.Chain.{Heap, full, Proper, HeapFirst, addr, base, LinkedTo, MovedTo}
-use Rattle.collect.specs.Step.{settle, Laid}
+use Rattle.collect.specs.Chain.{Heap, full, Proper, pos, place, SweptTo, Known}
+use Rattle.collect.specs.Step.{Laid, Linked, lowered}
 
 -- The words s have room for the heap g, and every number of it fits 28 bits.
 pub record Frame (g : Heap) (s : List ℕ) : Type 0 where
   pub proper : Proper g
-  pub order : HeapFirst g
   pub first : g .F ≡ firstCell
   pub room : 2 * g .T ≤ length s
   pub len : length s ≤ 2 * limit
-  pub small : (c : ℕ) → base g c < 2 ^ 28
+  pub small : (c : ℕ) → g .li c < 2 ^ 28
 
 -- a second word of a bracket with contents
 abbrev pub fullWord : ℕ → Bool
 fullWord w = full (decode w .br) (decode w .ri)
 
--- ---- threading
+-- a second word without mark and chains
+abbrev pub PlainWord : ℕ → Type 0
+PlainWord w = decode w ≡ plain (decode w .br) (decode w .ri)
 
--- the first j cells in order are on the chains of their right ends
-pub record Threaded (g : Heap) (s : List ℕ) (j : ℕ) : Type 0 where
-  pub frame : Frame g s
-  pub at : LinkedTo g j (cell s)
+-- ---- a cell put down
 
--- m, a bracket with contents and the second word w, can be linked to its right end
-pub record Linkable (s : List ℕ) (m w : ℕ) : Type 0 where
-  pub word : w ≡ secondWord s m
+-- the bracket with the words a and w can be linked to its right end, and stand at m
+pub record Linkable (s : List ℕ) (m a w : ℕ) : Type 0 where
   pub m-in : 2 * m + 1 < length s
   pub k-in : 2 * decode w .ri + 1 < length s
   pub len : length s ≤ 2 * limit
   pub apart : m ≢ decode w .ri
   pub small : firstWord s (decode w .ri) < 2 ^ 28
   pub bare : decode w .lc ≡ false
-  pub order : firstWord s m ≤ decode w .ri
+  pub order : a ≤ decode w .ri
 
--- it is the turn of m, a register or marked cell with the second word w
-pub record Turn (g : Heap) (s : List ℕ) (m w : ℕ) : Type 0 where
-  pub phase : Threaded g s (g .pos m)
-  pub here : m < g .T
-  pub live : (ltb m (g .F) || g .live m) ≡ true
-  pub word : w ≡ secondWord s m
+abbrev pub Links : List ℕ → List ℕ → ℕ → ℕ → ℕ → Type 0
+Links s s′ m a w = Linked (cell s) (cell s′) m (decode w .ri) (linked a (decode w))
 
--- asked for and left by the turn
-abbrev pub MyTurn : List ℕ → ℕ → ℕ → Type 0
-MyTurn s m w = (g : Heap) × Turn g s m w
+-- the cell with the words a and w can stand at m
+pub record Standable (s : List ℕ) (m a w : ℕ) : Type 0 where
+  pub m-in : 2 * m + 1 < length s
+  pub bare : PlainWord w
+  pub link : fullWord w ≡ true → Linkable s m a w
 
-abbrev pub Turned : List ℕ → List ℕ → ℕ → ℕ → Type 0
-Turned s s′ m w = (g : Heap) → Turn g s m w → Threaded g s′ (suc (g .pos m))
+-- it does: linked, if it has contents
+pub record Stood (s s′ : List ℕ) (m a w : ℕ) : Type 0 where
+  pub held : fullWord w ≡ true → Links s s′ m a w
+  pub laid : fullWord w ≡ false → Laid (cell s) (cell s′) m (linked a (decode w))
 
--- asked for and left by the pass over the heap cells below `top`
-abbrev pub MarkedHeap : List ℕ → ℕ → Type 0
-MarkedHeap s top = (g : Heap) × Threaded g s 0 × (g .T ≡ top)
+-- ---- the sweep
 
-abbrev pub ThreadsHeap : List ℕ → List ℕ → ℕ → Type 0
-ThreadsHeap s s′ top = (g : Heap) → Threaded g s 0 → g .T ≡ top → Threaded g s′ (g .T - g .F)
-
--- and by the pass over the registers
-abbrev pub ThreadedHeap : List ℕ → Type 0
-ThreadedHeap s = (g : Heap) × Threaded g s (g .T - g .F)
-
-abbrev pub ThreadsRegisters : List ℕ → List ℕ → Type 0
-ThreadsRegisters s s′ = (g : Heap) → Threaded g s (g .T - g .F) → Threaded g s′ (g .T)
-
--- ---- sliding
-
--- the marked cells below m have moved, and the next one goes to `new`
-pub record Sliding (g : Heap) (s : List ℕ) (m new : ℕ) : Type 0 where
+-- the first j cells in order have had their turn
+pub record Sweeping (g : Heap) (s : List ℕ) (j : ℕ) : Type 0 where
   pub frame : Frame g s
-  pub place : new ≡ addr g m
-  pub at : MovedTo g m (g .T) (cell s)
+  pub at : SweptTo g j j (cell s)
 
--- the chain of m, a marked cell with the second word w, is whole
-pub record Chained (g : Heap) (s : List ℕ) (m w new : ℕ) : Type 0 where
-  pub phase : Sliding g s m new
-  pub live : g .live m ≡ true
-  pub word : w ≡ secondWord s m
+-- it is the turn of the reached cell c, whose second word is w, and whose place is `to`
+pub record Turn (g : Heap) (s : List ℕ) (c w to low : ℕ) : Type 0 where
+  pub phase : Sweeping g s (pos g c)
+  pub live : g .live c ≡ true
+  pub word : w ≡ secondWord s c
+  pub goes : to ≡ place g c
+  pub known : Known g (pos g c) (pos g c) low c
 
-abbrev pub Releasable : List ℕ → ℕ → ℕ → ℕ → Type 0
-Releasable s m w new = (g : Heap) × Chained g s m w new
+abbrev pub MyTurn : List ℕ → ℕ → ℕ → ℕ → ℕ → Type 0
+MyTurn s c w to low = (g : Heap) × Turn g s c w to low
 
--- m's chain is undone, and the words a and b are those of m now, wherever they are put
-abbrev pub Releases : List ℕ → List ℕ → ℕ → ℕ → ℕ → ℕ → ℕ → Type 0
-Releases s s′ m w new a b = (g : Heap) → Chained g s m w new → MovedTo g m 0 (cell (putCell s′ m a b))
+-- its chain is undone; the words a and b are its own now, wherever they are put
+abbrev pub Releases : List ℕ → List ℕ → ℕ → ℕ → ℕ → ℕ → ℕ → ℕ → ℕ → Type 0
+Releases s s′ c w to low a b low′ =
+    (g : Heap) → Turn g s c w to low
+    → SweptTo g (pos g c) 0 (cell (putCell s′ c a b)) × Known g (pos g c) 0 low′ c
 
--- a cell with the words a and b, its chain undone, can be laid down at `new`
-pub record Layable (s : List ℕ) (new a b : ℕ) : Type 0 where
-  pub new-in : 2 * new + 1 < length s
-  pub bare : decode b .lc ≡ false
-  pub long : fullWord b ≡ true → a ≤ decode b .ri
+-- its turn is over
+abbrev pub Turned : List ℕ → List ℕ → ℕ → ℕ → ℕ → ℕ → ℕ → Type 0
+Turned s s′ c w to low low′ =
+    (g : Heap) → Turn g s c w to low
+    → Sweeping g s′ (suc (pos g c)) × Known g (suc (pos g c)) (suc (pos g c)) low′ c
 
--- it is laid down there
-abbrev pub Lays : List ℕ → List ℕ → ℕ → ℕ → ℕ → Type 0
-Lays s s′ new a b = Laid (cell s) (cell s′) new (linked a (decode b))
+-- the turns of the registers
+abbrev pub Untouched : List ℕ → Type 0
+Untouched s = (g : Heap) × Sweeping g s 0
 
--- asked for and left by the pass over the heap cells below `top`, which gives the new `top`
-abbrev pub Slidable : List ℕ → ℕ → Type 0
-Slidable s top = (g : Heap) × Sliding g s (g .F) (g .F) × (g .T ≡ top)
+abbrev pub HoldsRegisters : List ℕ → List ℕ → Type 0
+HoldsRegisters s s′ = (g : Heap) → Sweeping g s 0 → Sweeping g s′ (g .F)
 
-abbrev pub Slides : List ℕ → List ℕ → ℕ → ℕ → Type 0
-Slides s s′ top new = (g : Heap) → Sliding g s (g .F) (g .F) → g .T ≡ top → Sliding g s′ (g .T) new
+-- It is the turn of c, which has a chain, and no cell below it is known. Its place is d higher.
+pub record Head (g : Heap) (s : List ℕ) (c w d : ℕ) : Type 0 where
+  pub phase : Sweeping g s (pos g c)
+  pub low : g .F ≤ c
+  pub high : c < g .T
+  pub chain : decode w .lc ≡ true
+  pub word : w ≡ secondWord s c
+  pub goes : place g c ≡ c + d
+  pub known : Known g (pos g c) (pos g c) (suc c) (suc c)
 
--- ---- the rest
+abbrev pub AtHead : List ℕ → ℕ → ℕ → ℕ → Type 0
+AtHead s c w d = (g : Heap) × Head g s c w d
 
--- the registers are settled where they stand
-abbrev pub Settleable : List ℕ → Type 0
-Settleable s = (r : ℕ) → r < firstCell → Layable s r (firstWord s r) (secondWord s r)
+-- The cells from r up to c are reached and have had their turn, and no cell below them is known.
+pub record Passed (g : Heap) (s : List ℕ) (c r : ℕ) : Type 0 where
+  pub phase : Sweeping g s (suc (pos g r))
+  pub low : g .F ≤ r
+  pub high : r ≤ c
+  pub live : (y : ℕ) → r ≤ y → y ≤ c → g .live y ≡ true
+  pub known : Known g (suc (pos g r)) (suc (pos g r)) r r
 
-abbrev pub Settles : List ℕ → List ℕ → Type 0
-Settles s s′ = (c : ℕ) → cell s′ c ≡ cond (ltb c firstCell) (settle (cell s c)) (cell s c)
+abbrev pub Passes : List ℕ → List ℕ → ℕ → ℕ → ℕ → ℕ → Type 0
+Passes s s′ c w d r = (g : Heap) → Head g s c w d → Passed g s′ c r
+
+-- the whole sweep over the heap cells below `top`, which gives the number of unreached ones
+pub record Begun (g : Heap) (s : List ℕ) (top : ℕ) (packs : Bool) : Type 0 where
+  pub phase : Sweeping g s 0
+  pub ends : g .T ≡ top
+  pub mode : g .packs ≡ packs
+
+abbrev pub Sweepable : List ℕ → ℕ → Bool → Type 0
+Sweepable s top packs = (g : Heap) × Begun g s top packs
+
+abbrev pub Sweeps : List ℕ → List ℕ → ℕ → Bool → ℕ → Type 0
+Sweeps s s′ top packs dead =
+    (g : Heap) → Begun g s top packs → Sweeping g s′ (g .T) × (dead + g .new (g .T) ≡ g .T)
+
+-- ---- the pass up
+
+-- a cell with the words a and w can be put down at `to`, its ends d lower
+pub record Layable (s : List ℕ) (to a w d : ℕ) : Type 0 where
+  pub to-in : 2 * to + 1 < length s
+  pub bare : PlainWord w
+  pub far : fullWord w ≡ true → (d ≤ a) × (d ≤ decode w .ri)
+
+abbrev pub Lays : List ℕ → List ℕ → ℕ → ℕ → ℕ → ℕ → Type 0
+Lays s s′ to a w d = Laid (cell s) (cell s′) to (lowered d (linked a (decode w)))
+
+-- the heap cells from d past the first one up to `top` move down by d, and so do their ends
+pub record Lowerable (s : List ℕ) (top d : ℕ) : Type 0 where
+  pub some : firstCell + d ≤ top
+  pub room : 2 * top ≤ length s
+  pub len : length s ≤ 2 * limit
+  pub cells : (i : ℕ) → firstCell + d ≤ i → i < top → Layable s (i - d) (firstWord s i) (secondWord s i) d
+
+pub record Lowers (s s′ : List ℕ) (top d : ℕ) : Type 0 where
+  pub down : (i : ℕ) → firstCell + d ≤ i → i < top → cell s′ (i - d) ≡ lowered d (cell s i)
+  pub rest : (c : ℕ) → (firstCell ≤ c → top ≤ c + d) → cell s′ c ≡ cell s c
+
+-- the registers stay where they are
+abbrev pub Settleable : List ℕ → ℕ → Type 0
+Settleable s d = (r : ℕ) → r < firstCell → Layable s r (firstWord s r) (secondWord s r) d
+
+abbrev pub Settles : List ℕ → List ℕ → ℕ → Type 0
+Settles s s′ d = (c : ℕ) → cell s′ c ≡ cond (ltb c firstCell) (lowered d (cell s c)) (cell s c)
 
 -- the cells from m up to n are two zero words, the others as they were
 pub record Cleared (s s′ : List ℕ) (m n : ℕ) : Type 0 where

@@ -1,5 +1,5 @@
--- What one step of the collector makes of the cells: a master linked, a master taken off a chain, a cell laid down.
--- Assumes nothing.
+-- What one step of the collector makes of the cells: a cell put down, a holder linked, a holder taken off a chain, a
+-- cell lowered. Assumes nothing.
 use mathlib.Core.Path.{_≡_}
 use mathlib.Core.Logic.{_≢_}
 use mathlib.Core.Bool.{false, cond}
@@ -7,23 +7,25 @@ use Prim.Native.Nat.{ℕ, _-_}
 use Rattle.collect.specs.Chain.{full}
 use Rattle.collect.specs.Cells.{Cell, val, ptr, mk}
 
--- Master m has its length less one put in, and is linked to its right end k.
-pub record Joined (M M′ : ℕ → Cell) (m k : ℕ) : Type 0 where
-  pub at-m : M′ m ≡ mk (M m .br) (M m .used) (val (k - M m .l .num)) (M k .l)
+-- The cell x is put down at m, and nothing else changes.
+pub record Laid (M M′ : ℕ → Cell) (m : ℕ) (x : Cell) : Type 0 where
+  pub at : M′ m ≡ x
+  pub rest : (c : ℕ) → c ≢ m → M′ c ≡ M c
+
+-- The holder x is put down at m with its length less one, and linked to its right end k.
+pub record Linked (M M′ : ℕ → Cell) (m k : ℕ) (x : Cell) : Type 0 where
+  pub at-m : M′ m ≡ mk (x .br) (x .used) (val (k - x .l .num)) (M k .l)
   pub at-k : M′ k ≡ mk (M k .br) (M k .used) (ptr m) (M k .r)
   pub rest : (c : ℕ) → c ≢ m → c ≢ k → M′ c ≡ M c
 
--- The first master k of m's chain is taken off it and given its new right end.
-pub record Unlinked (M M′ : ℕ → Cell) (m k new : ℕ) : Type 0 where
+-- The first holder k of m's chain is taken off it and given its ends, the right one `to`.
+pub record Unlinked (M M′ : ℕ → Cell) (m k to : ℕ) : Type 0 where
   pub at-m : M′ m ≡ mk (M m .br) (M m .used) (M k .r) (M m .r)
-  pub at-k : M′ k ≡ mk (M k .br) (M k .used) (M k .l) (val new)
+  pub at-k : M′ k ≡ mk (M k .br) (M k .used) (val (to - M k .l .num)) (val to)
   pub rest : (c : ℕ) → c ≢ m → c ≢ k → M′ c ≡ M c
 
--- A cell as it is laid down, its chain undone: the mark off, and the left end again from the length less one.
-unfoldable pub settle : Cell → Cell
-settle c = mk (c .br) false (cond (full (c .br) (c .r .num)) (val (c .r .num - c .l .num)) (c .l)) (c .r)
-
--- The cell x is laid down at `new`.
-pub record Laid (M M′ : ℕ → Cell) (new : ℕ) (x : Cell) : Type 0 where
-  pub at : M′ new ≡ settle x
-  pub rest : (c : ℕ) → c ≢ new → M′ c ≡ M c
+-- a cell on no chain with both ends d lower, if it has contents
+unfoldable pub lowered : ℕ → Cell → Cell
+lowered d x =
+    mk (x .br) (x .used) (val (cond (full (x .br) (x .r .num)) (x .l .num - d) (x .l .num)))
+    (val (cond (full (x .br) (x .r .num)) (x .r .num - d) (x .r .num)))

@@ -1,43 +1,28 @@
-// The collector by chains: the three passes of 000, 3.5, in place, without a second array and without recursion.
-// Registers never move and references in the heap point down, so the mending of forward references while chains are
-// built, of 000, 3.5, has nothing to do here.
+// The collector by chains (000, 3.2 to 3.5), in place, without a second array and without recursion. References in the
+// heap point down and registers never move, so one sweep down can mark, link and mend; one pass up then moves the cells.
 //
-//     Sound ──mark──> Marked ──thread──> Threaded ──slide──> Sliding m ──settle──> registers ──clear──> Sound
+//     Sound ──sweep──> Swept ──lower_heap──> Lowered ──lower_registers──> Settled ──clear──> Sound
 //
-// Marked     `used` is on exactly the reached cells, and nothing else has changed.
-// Threaded   the cells that have had their turn, the heap upward and the registers last, are on the chains of their
-//            right ends.
-// Sliding m  the marked cells below m are at their new addresses, which their masters hold; the other chains stand.
+// In the sweep a bracket is, in turn: as it was; on the chain of its right end, with its length less one in place of its
+// left end; off that chain, both ends mended. No cell is marked: what has a chain, or lies within a run, is reached.
 //
-// In Threaded and Sliding, li of a marked bracket is its length less one or, under lc, the first of its chain; never
-// its left end. A chain runs through ri, under rc; its last ri carries the first word of the cell whose chain it is.
-// The phases are definitions of specs/Phases.antt and specs/Passes.antt, and the loops' invariants.
+// Swept    the reached cells lie in order below `top`, without gaps, and both ends of a reference are where the cells
+//          that it named lie now.
+// Lowered  they have moved down to the first heap cell, and their ends by as much.
+// Settled  so have the registers' ends.
+// The phases are definitions of specs/Chain.antt and specs/Passes.antt, and the loops' invariants.
 ghost use mathlib.Core.Path.{_≡_};
 ghost use Rattle.meaning.specs.Limits.{firstCell};
 ghost use Rattle.meaning.specs.Sound.{Sound};
 ghost use Rattle.meaning.specs.Reach.{live};
 ghost use Rattle.meaning.specs.Collected.{collected, collectedTop};
 ghost use Rattle.meaning.specs.Check.{collectIn};
-ghost use Rattle.collect.specs.Phases.{MarkedStore, Compacts};
 ghost use Rattle.collect.specs.Answers.{collectedIn};
 use store::Checked;
 
 mod chains;
-mod marks;
-mod slide;
-
-// Moves the marked cells of a marked store together and gives the new `top`; the marks are off then.
-fn compact(ws: &mut [u32], top: usize) -> usize
-    requires { ⌜ MarkedStore (now ws) top ⌝ }
-    ensures { λ r. ⌜ Compacts (now (ws .entry)) top (now (ws .exit)) r ⌝ }
-{
-    slide::thread_heap(ws, top);
-    slide::thread_registers(ws);
-    let new = slide::slide(ws, top);
-    slide::settle_registers(ws);
-    slide::clear(ws, new, top);
-    new
-}
+mod lower;
+mod sweep;
 
 // Collects a sound store and gives the new `top`.
 pub fn gather(ws: &mut [u32], top: usize) -> usize
@@ -45,8 +30,14 @@ pub fn gather(ws: &mut [u32], top: usize) -> usize
     ensures { λ r. ⌜ (now (ws .exit) ≡ collected firstCell (now (ws .entry)) top)
         × (r ≡ collectedTop firstCell (now (ws .entry)) top) ⌝ }
 {
-    marks::mark(ws, top);
-    compact(ws, top)
+    let dead = sweep::sweep(ws, top, true);
+    if dead == 0 {
+        return top;
+    }
+    lower::lower_heap(ws, top, dead);
+    lower::lower_registers(ws, dead as u32);
+    lower::clear(ws, top - dead, top);
+    top - dead
 }
 
 // The number of reached heap cells of a sound store. Every word ends as it began.
@@ -54,8 +45,8 @@ pub fn live(ws: &mut [u32], top: usize) -> usize
     requires { ⌜ Sound firstCell (now ws) top ⌝ }
     ensures { λ r. ⌜ (now (ws .exit) ≡ now (ws .entry)) × (r ≡ live firstCell (now (ws .entry)) top) ⌝ }
 {
-    marks::mark(ws, top);
-    marks::unmark(ws, top)
+    let dead = sweep::sweep(ws, top, false);
+    top - meaning::FIRST_CELL - dead
 }
 
 // What collecting answers: live and the new `top`, or why it is refused.

@@ -14,15 +14,10 @@ use Rattle.meaning.specs.Limits.{codeTest, limit}
 use Rattle.meaning.specs.Sound.{IsCode, Cell, code, hollow, ends, fst, snd, bracketOf, cellOf, at, IsBracket}
 use Rattle.meaning.specs.Sound.{isEmpty, isFull, IsTerm, isSymbol, isBracket, Sound}
 
--- All that the code needs to know of the limit: an address fits half a word, which leaves marking the other half of a
--- bracket's first word.
-pub limit-halves : limit ≤ 65536
-unfolding limit
-limit-halves = omega arith
-
--- so it fits the 28 bits of a right end
+-- All that the code needs to know of the limit: an address fits the 28 bits of a right end.
 pub limit-fits : limit ≤ 268435456
-limit-fits = omega (arith, limit-halves)
+unfolding limit
+limit-fits = omega arith
 
 -- a code fits the 28 bits in which it sits for a while
 pub code-fits : (a : ℕ) → IsCode a → a < 268435456

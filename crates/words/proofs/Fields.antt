@@ -4,20 +4,12 @@ use mathlib.Core.Bool.{Bool, true, false}
 use Prim.Native.Nat.{ℕ, _+_, _*_, _/_, _%_, _^_, _<_}
 use native.Mathlib.Omega.{arith}
 use native.Mathlib.Nat.{lt-of-le-of-lt}
-use lib.Bits.{bitAnd, bitOr, or-zero-r, or-shifted, and-le-l}
-use Rattle.words.specs.Second.{bit, flag, decode, withRi, withUsed, withLc, withRc, plain}
+use lib.Bits.{bitAnd, bitOr, or-zero-r, and-le-l}
+use Rattle.words.specs.Second.{bit, flag, decode, withRi, withLc, withRc}
 use Rattle.words.proofs.Laws.{ri-lt, encode-decode, decodes, bit-le}
 use Rattle.words.proofs.Masks.{read, or-bit, and-not-bit, and-not-low, low-bits, or-low}
 
 module _ {w : ℕ} (h : w < 2 ^ 32) where
-  pub used-on : decode (bitOr w (2 ^ 30)) ≡ withUsed true (decode w)
-  unfolding decode
-  used-on = decodes (omega (arith, encode-decode w h, or-bit 30 w)) (ri-lt w)
-
-  pub used-off : decode (bitAnd w 0xbfff_ffff) ≡ withUsed false (decode w)
-  unfolding decode
-  used-off = decodes (omega (arith, encode-decode w h, and-not-bit 1 30 h)) (ri-lt w)
-
   pub lc-on : decode (bitOr w (2 ^ 29)) ≡ withLc true (decode w)
   unfolding decode
   lc-on = decodes (omega (arith, encode-decode w h, or-bit 29 w)) (ri-lt w)
@@ -64,7 +56,3 @@ module _ {w : ℕ} (h : w < 2 ^ 32) where
       let x : ℕ = bitAnd w 0xe000_0000 in
       let free : x % 2 ^ 28 ≡ 0 = omega (arith, and-not-low 3 29 h) in
       right-put h false (omega (arith, or-low 28 x free l)) l
-
--- a number under the mark, and no other flag
-pub marked-put : (n : ℕ) → n < 2 ^ 28 → decode (bitOr (2 ^ 30) n) ≡ withUsed true (plain false n)
-marked-put n l = decodes {s = withUsed true (plain false n)} (or-shifted 1 30 n (omega arith)) l

@@ -2,6 +2,5 @@
 pub mod Laws
 pub mod Masks
 pub mod Plain
-pub mod Notes
 pub mod Cells
 mod Fields

@@ -12,12 +12,6 @@ firstWord ws c = getD ws (2 * c) 0
 abbrev pub secondWord : List ℕ → ℕ → ℕ
 secondWord ws c = getD ws (2 * c + 1) 0
 
--- the store with the words of cell c replaced by a and b, and with one of the two replaced
+-- the store with the words of cell c replaced by a and b
 abbrev pub putCell : List ℕ → ℕ → ℕ → ℕ → List ℕ
 putCell ws c a b = set (set ws (2 * c) a) (2 * c + 1) b
-
-abbrev pub putFirst : List ℕ → ℕ → ℕ → List ℕ
-putFirst ws c a = set ws (2 * c) a
-
-abbrev pub putSecond : List ℕ → ℕ → ℕ → List ℕ
-putSecond ws c b = set ws (2 * c + 1) b

@@ -1,5 +1,4 @@
--- The definitions that the contracts of `words` cite: a cell's second word as fields, a bracket's first word while it
--- has a note, and the two words of a cell of a store. Assumes nothing.
+-- The definitions that the contracts of `words` cite: a cell's second word as fields, and the two words of a cell of a
+-- store. Assumes nothing.
 pub mod Second
-pub mod First
 pub mod Cell

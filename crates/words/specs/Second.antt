@@ -31,9 +31,6 @@ encode s = bit (s .br) * 2 ^ 31 + bit (s .used) * 2 ^ 30 + bit (s .lc) * 2 ^ 29 
 abbrev pub withRi : ℕ → Second → Second
 withRi n s = record { br = s .br; used = s .used; lc = s .lc; rc = s .rc; ri = n }
 
-abbrev pub withUsed : Bool → Second → Second
-withUsed b s = record { br = s .br; used = b; lc = s .lc; rc = s .rc; ri = s .ri }
-
 abbrev pub withLc : Bool → Second → Second
 withLc b s = record { br = s .br; used = s .used; lc = b; rc = s .rc; ri = s .ri }
 

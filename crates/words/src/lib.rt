@@ -1,27 +1,21 @@
 // A cell's two words. This is the only crate that knows which bit says what: the second word is taken apart and put
-// together here, by masks and shifts, and a cell of a lent store is read and written here.
+// together here, by masks and shifts, and a cell of a lent store is read and written here. The mark, bit 30, is neither
+// set nor read: it is 0 between calls, and the collector needs none.
 ghost use mathlib.Core.Path.{_≡_};
 ghost use mathlib.Core.Bool.{true, false, _&&_, not};
 ghost use Prim.Native.Nat.{_+_, _*_, _<_, _^_};
 ghost use lib.Dec.{eqb};
 ghost use lib.ListN.{length};
-ghost use Rattle.words.specs.Cell.{firstWord, secondWord, putCell, putFirst, putSecond};
-ghost use Rattle.words.specs.Second.{Second, bit, decode, withRi, withUsed, withLc, withRc};
-ghost use Rattle.words.specs.Second.{plain, bracketTo};
-ghost use Rattle.words.specs.First.{noteOf, leftOf, withNote};
+ghost use Rattle.words.specs.Cell.{firstWord, secondWord, putCell};
+ghost use Rattle.words.specs.Second.{decode, withRi, withLc, withRc, plain, bracketTo};
 
 const BRACKET: u32 = 1 << 31;
-
-const USED: u32 = 1 << 30;
 
 const LEFT_CHAIN: u32 = 1 << 29;
 
 const RIGHT_CHAIN: u32 = 1 << 28;
 
 const RIGHT_END: u32 = 0x0fff_ffff;
-
-// What a left end takes of a bracket's first word; the bits above it are spare.
-const LEFT_END: u32 = 0xffff;
 
 // The second word of an empty bracket.
 pub const EMPTY: u32 = 1 << 31;
@@ -30,19 +24,6 @@ pub fn is_bracket(w: u32) -> bool
     ensures { λ r. ⌜ r ≡ decode w .br ⌝ }
 {
     w & BRACKET != 0
-}
-
-pub fn is_used(w: u32) -> bool
-    ensures { λ r. ⌜ r ≡ decode w .used ⌝ }
-{
-    w & USED != 0
-}
-
-// 1 where w has the mark, else 0.
-pub fn used_bit(w: u32) -> u32
-    ensures { λ r. ⌜ r ≡ bit (decode w .used) ⌝ }
-{
-    (w & USED) >> 30
 }
 
 pub fn has_left_chain(w: u32) -> bool
@@ -57,15 +38,12 @@ pub fn right_end(w: u32) -> u32
     w & RIGHT_END
 }
 
-// Whether w is the second word of a bracket with contents, whatever its mark and chains.
+// Whether w, a second word without mark and chains, is that of a bracket with contents.
 pub fn is_full(w: u32) -> bool
+    requires { ⌜ decode w ≡ plain (decode w .br) (decode w .ri) ⌝ }
     ensures { λ r. ⌜ r ≡ (decode w .br && not (eqb (decode w .ri) 0)) ⌝ }
 {
-    if w & BRACKET != 0 {
-        w & RIGHT_END != 0
-    } else {
-        false
-    }
+    EMPTY < w
 }
 
 // The second word, between calls, of a bracket with the right end r.
@@ -74,18 +52,6 @@ pub fn bracket_to(r: u32) -> u32
     ensures { λ v. ⌜ v ≡ bracketTo r ⌝ }
 {
     BRACKET | r
-}
-
-pub fn set_used(w: u32) -> u32
-    ensures { λ v. ⌜ decode v ≡ withUsed true (decode w) ⌝ }
-{
-    w | USED
-}
-
-pub fn clear_used(w: u32) -> u32
-    ensures { λ v. ⌜ decode v ≡ withUsed false (decode w) ⌝ }
-{
-    w & !USED
 }
 
 pub fn set_left_chain(w: u32) -> u32
@@ -119,37 +85,6 @@ pub fn with_right_end(w: u32, r: u32) -> u32
     (w & !(RIGHT_CHAIN | RIGHT_END)) | r
 }
 
-// While cells are being marked, a bracket's first word has a note above its left end, and a symbol's second word has
-// one where a bracket has its right end.
-
-pub fn note(a: u32) -> u32
-    ensures { λ r. ⌜ r ≡ noteOf a ⌝ }
-{
-    a >> 16
-}
-
-pub fn left_end(a: u32) -> u32
-    ensures { λ r. ⌜ r ≡ leftOf a ⌝ }
-{
-    a & LEFT_END
-}
-
-// The first word a with the note n, whatever note it had.
-pub fn with_note(a: u32, n: u32) -> u32
-    requires { ⌜ n < 2 ^ 16 ⌝ }
-    ensures { λ v. ⌜ v ≡ withNote n (leftOf a) ⌝ }
-{
-    (a & LEFT_END) | (n << 16)
-}
-
-// The second word of a marked symbol with the note n.
-pub fn marked_symbol(n: u32) -> u32
-    requires { ⌜ n < 2 ^ 28 ⌝ }
-    ensures { λ v. ⌜ decode v ≡ withUsed true (plain false n) ⌝ }
-{
-    USED | n
-}
-
 // The words of cell c.
 pub fn first_word(ws: &[u32], c: usize) -> u32
     requires { ⌜ 2 * c + 1 < length (now ws) ⌝ }
@@ -170,20 +105,5 @@ pub fn put_cell(ws: &mut [u32], c: usize, first: u32, second: u32)
     ensures { λ _. ⌜ now (ws .exit) ≡ putCell (now (ws .entry)) c first second ⌝ }
 {
     ws[2 * c] = first;
-    ws[2 * c + 1] = second;
-}
-
-// One word of the two.
-pub fn put_first(ws: &mut [u32], c: usize, first: u32)
-    requires { ⌜ 2 * c + 1 < length (now ws) ⌝ }
-    ensures { λ _. ⌜ now (ws .exit) ≡ putFirst (now (ws .entry)) c first ⌝ }
-{
-    ws[2 * c] = first;
-}
-
-pub fn put_second(ws: &mut [u32], c: usize, second: u32)
-    requires { ⌜ 2 * c + 1 < length (now ws) ⌝ }
-    ensures { λ _. ⌜ now (ws .exit) ≡ putSecond (now (ws .entry)) c second ⌝ }
-{
     ws[2 * c + 1] = second;
 }

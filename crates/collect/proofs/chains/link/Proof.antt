@@ -2,20 +2,20 @@
 use borrow.Author.Needs.{needs}
 use native.Mathlib.Omega.{arith}
 use Rattle.meaning.proofs.Cells.{limit-fits}
-use Rattle.collect.proofs.chains.Linked.{link-words}
+use Rattle.collect.proofs.chains.Linking.{link-words}
 use Rattle.collect.proofs.chains.link.Statement.{statement}
 use Rattle.collect.proofs.chains.link.Tie as tie
 
 take-left-link-requires : tie.Need-take-left-link-requires
 take-left-link-requires c κs =
     let d = c .before .before .before in
-    let a = d .before .before .before .before .before .before in
-    rw (d .first-word2 .ensures, d .before .before .before .before .right-end .ensures) (a .pre .small)
+    let a = d .before .before .before .before in
+    rw (d .first-word .ensures, d .before .before .right-end .ensures) (a .pre .small)
 
 cast-put-cell : tie.Need-cast-put-cell
 cast-put-cell c =
     let f = c .before .before .before .before .before .before .before .before in
-    let a = f .before .before .before .before .before .before in
+    let a = f .before .before .before .before in
     omega (arith, a .pre .m-in, a .pre .len, limit-fits)
 
 returns : tie.Need-returns
@@ -24,11 +24,10 @@ returns c =
     let p₁ = p₂ .before .before .before .before .before in
     let v = p₁ .before .before .before in
     let b = v .before .before in
-    let f = b .before .before in
-    let r = f .before .before in
+    let r = b .before .before in
     let a = r .before .before in
     link-words (a .pre) (p₁ .before .take-left-link .result) (p₂ .before .set-left-chain .result)
-    (r .right-end .ensures) (f .first-word .ensures) (b .first-word2 .ensures) (v .second-word .ensures)
+    (r .right-end .ensures) (b .first-word .ensures) (v .second-word .ensures)
     (p₁ .before .take-left-link .ensures) (p₂ .before .set-left-chain .ensures) (p₁ .put-cell .ensures)
     (p₂ .put-cell2 .ensures)
 
@@ -36,6 +35,6 @@ pub link-spec : {M : Type 1} → statement M
 link-spec =
     tie.close
     (tie.spec
-    (λ c κs. search needs) (λ c. search needs) (λ c κs. search needs) (λ c κs. search needs) (λ c κs. search needs)
+    (λ c κs. search needs) (λ c. search needs) (λ c κs. search needs) (λ c κs. search needs)
     (λ c. search needs) take-left-link-requires (λ c κs. search needs) cast-put-cell (λ c κs. search needs)
     (λ c κs. search needs) (λ c. search needs) returns)
