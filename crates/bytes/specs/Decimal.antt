@@ -1,4 +1,4 @@
--- Numbers in decimal, as bytes. Assumes nothing.
+-- Numbers in decimal, as bytes ("one line `status value` a call, then `top N`"). Assumes nothing.
 use mathlib.Core.Bool.{true, false}
 use mathlib.Core.List.{List, [], _∷_, _++_}
 use Prim.Native.Nat.{ℕ, zero, suc, _+_, _/_, _%_}
@@ -9,5 +9,6 @@ abbrev pub digits : ℕ → ℕ → List ℕ
 digits zero n = []
 digits (suc k) n = elim (ltb n 10) [ true ↦ (48 + n) ∷ [] | false ↦ digits k (n / 10) ++ ((48 + n % 10) ∷ []) ]
 
+-- n + 1 steps are always enough
 unfoldable pub decimal : ℕ → List ℕ
 decimal n = digits (suc n) n

@@ -11,7 +11,7 @@ pub record Space : Type 0 where
   pub place : ℕ
   pub short : Bool
 
--- written up to a place, all that was to be written
+-- written up to a place, with every byte so far
 abbrev pub upTo : List ℕ → ℕ → Space
 upTo out n = record { bytes = out; place = n; short = false }
 
