@@ -1,6 +1,6 @@
 -- Laws of decimal digits. In order:
 --   by-digits                   what holds of one digit, and of a number if it holds of the number less its last digit
---   decimal-one, decimal-more   the digits of a number
+--   decimal-one, decimal-more   the digits of a number; decimal-rows
 --   length-most                 a number below 10 to the d has at most d digits; word-digits, long-digits
 --   decimal-back                they stand for the number
 --   only-digits, no-leading-zero
@@ -15,7 +15,8 @@ use lib.Dec.{ltb}
 use lib.ListN.{length, getD, length-append}
 use borrow.Author.Tests.{lt-ltb, le-ltb, ltb-true, ltb-false}
 use Rattle.bytes.specs.Decimal.{digits, decimal}
-use Rattle.bytes.specs.Claims.{valueAfter, DecimalBack, AllDigits, OnlyDigits, NoLeadingZero}
+use Rattle.bytes.specs.Claims.{DecimalRows, valueAfter, DecimalBack, AllDigits, OnlyDigits}
+use Rattle.bytes.specs.Claims.{NoLeadingZero}
 
 module _ (P : ℕ → Type 0) (one : (n : ℕ) → n < 10 → P n) (more : (n : ℕ) → 10 ≤ n → P (n / 10) → P n) where
   by-steps : (k n : ℕ) → n < k → P n
@@ -62,6 +63,10 @@ pub decimal-more : (n : ℕ) → 10 ≤ n → decimal n ≡ decimal (n / 10) ++ 
 unfolding decimal
 decimal-more n h =
     digits-more n n h ∙ ap (λ (x : List ℕ). x ++ ((48 + n % 10) ∷ [])) (digits-enough (n / 10) n (omega arith))
+
+pub decimal-rows : DecimalRows
+unfolding decimal
+decimal-rows = (refl, refl)
 
 -- ---- how many they are
 

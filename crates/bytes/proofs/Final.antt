@@ -1,6 +1,6 @@
 -- The claims of specs/Claims, each with its proof. Nothing else stands here. Assumes nothing.
-use Rattle.bytes.specs.Claims.{BytesLength, WordsBack, BytesBack, DecimalBack, OnlyDigits, NoLeadingZero}
-use Rattle.bytes.specs.Claims.{WriteFits, WriteShort, WriteStops, PaddedAt, FilledFits}
+use Rattle.bytes.specs.Claims.{BytesLength, WordsBack, BytesBack, DecimalRows, DecimalBack, OnlyDigits}
+use Rattle.bytes.specs.Claims.{NoLeadingZero, WriteFits, WriteShort, WriteStops, PaddedAt, FilledFits}
 use Rattle.bytes.proofs.Endian as endian
 use Rattle.bytes.proofs.Decimals as decimals
 use Rattle.bytes.proofs.Spaces as spaces
@@ -14,6 +14,9 @@ words-back = endian.words-back
 
 pub bytes-back : BytesBack
 bytes-back = endian.bytes-back
+
+pub decimal-rows : DecimalRows
+decimal-rows = decimals.decimal-rows
 
 pub decimal-back : DecimalBack
 decimal-back = decimals.decimal-back

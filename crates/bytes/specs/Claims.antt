@@ -21,6 +21,12 @@ WordsBack = (ws : List ℕ) → wordsOf (bytesOf ws) ≡ ws
 abbrev pub BytesBack : Type 0
 BytesBack = (bs : List ℕ) → length bs % 4 ≡ 0 → ((i : ℕ) → getD bs i 0 < 256) → bytesOf (wordsOf bs) ≡ bs
 
+-- a number with a 0 inside, and the largest word, computed
+abbrev pub DecimalRows : Type 0
+DecimalRows =
+    (decimal 101 ≡ 49 ∷ 48 ∷ 49 ∷ [])
+    × (decimal 4294967295 ≡ 52 ∷ 50 ∷ 57 ∷ 52 ∷ 57 ∷ 54 ∷ 55 ∷ 50 ∷ 57 ∷ 53 ∷ [])
+
 -- the number that digits stand for, after those that stand for a
 abbrev pub valueAfter : ℕ → List ℕ → ℕ
 valueAfter a [] = a
