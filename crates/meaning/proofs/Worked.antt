@@ -1,5 +1,6 @@
 -- The table of stores to try is right: one computation.
 -- Assumes nothing.
+use Rattle.bytes.specs.Decimal.{decimal}
 use Rattle.meaning.specs.Limits.{firstCell, limit, codeTest, programCells, programBytes}
 use Rattle.meaning.specs.Sound.{at}
 use Rattle.meaning.specs.Reach.{reached, live}
@@ -11,7 +12,7 @@ use Rattle.meaning.specs.Call.{openTerm, openFirst, codeTerm, codeFirst}
 use Rattle.meaning.specs.Call.{newSymbol, newBracket, newRunOf, newRun, sought, planOf, lacks, roomWords, roomTop}
 use Rattle.meaning.specs.Call.{withRoom, carry, perform, stepAfter, step}
 use Rattle.meaning.specs.Batch.{then}
-use Rattle.meaning.specs.Program.{decimal, written, refusal, served, program}
+use Rattle.meaning.specs.Program.{written, refusal, served, program}
 use Rattle.meaning.specs.Rows.{verdictTest, doneTest, ranTest, rowTest, p1, p1Lines, p2, p3, p6, lone, rows}
 use Rattle.meaning.specs.Rows.{RowsRight}
 

@@ -2,33 +2,14 @@
 -- Assumes nothing.
 use mathlib.Core.Bool.{cond, _||_}
 use mathlib.Core.List.{List, [], _∷_, _++_}
-use Prim.Native.Nat.{ℕ, zero, suc, _+_, _-_, _*_, _/_, _%_}
+use Prim.Native.Nat.{ℕ, _-_, _%_}
 use lib.Dec.{ltb}
 use lib.ListN.{length, getD, drop}
+use Rattle.bytes.specs.Little.{wordsOf}
+use Rattle.bytes.specs.Decimal.{decimal}
 use Rattle.meaning.specs.Limits.{programCells, programBytes}
 use Rattle.meaning.specs.Check.{fresh}
 use Rattle.meaning.specs.Batch.{Ran, runs}
-
--- little-endian words of bytes; what is left of less than four bytes is left out
-abbrev pub wordsOf : List ℕ → List ℕ
-wordsOf [] = []
-wordsOf (a ∷ []) = []
-wordsOf (a ∷ b ∷ []) = []
-wordsOf (a ∷ b ∷ c ∷ []) = []
-wordsOf (a ∷ b ∷ c ∷ d ∷ bs) = (a + 256 * b + 65536 * c + 16777216 * d) ∷ wordsOf bs
-
--- and bytes of words
-abbrev pub bytesOf : List ℕ → List ℕ
-bytesOf [] = []
-bytesOf (w ∷ ws) = w % 256 ∷ w / 256 % 256 ∷ w / 65536 % 256 ∷ w / 16777216 ∷ bytesOf ws
-
--- n in decimal without leading zeros: k digits are enough where n is below 10 to the k
-abbrev pub digits : ℕ → ℕ → List ℕ
-digits zero n = []
-digits (suc k) n = cond (ltb n 10) ((48 + n) ∷ []) (digits k (n / 10) ++ ((48 + n % 10) ∷ []))
-
-unfoldable pub decimal : ℕ → List ℕ
-decimal n = digits (suc n) n
 
 -- a line `status value` for each two answers
 abbrev pub linesOf : List ℕ → List ℕ

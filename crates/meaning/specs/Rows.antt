@@ -5,9 +5,11 @@ use mathlib.Core.List.{List, [], _∷_, _++_}
 use Prim.Native.Nat.{ℕ, _+_, _-_}
 use lib.Dec.{eqb, T}
 use Rattle.words.specs.Second.{bracketTo}
+use Rattle.bytes.specs.Little.{bytesOf}
+use Rattle.bytes.specs.Decimal.{decimal}
 use Rattle.meaning.specs.Check.{Verdict, check, Done, fresh, hollows, collectIn}
 use Rattle.meaning.specs.Batch.{Ran, runs}
-use Rattle.meaning.specs.Program.{program, decimal, bytesOf}
+use Rattle.meaning.specs.Program.{program}
 
 -- a store and `top`, then: the calls, the answers, the store and `top` after them; or the store and `top` once
 -- collected, with live; or the check's status and value. Or what the program reads, and what it writes.

@@ -4,13 +4,12 @@ use mathlib.Core.Path.{_≡_, refl, sym, ap, ap₂, _∙_}
 use mathlib.Core.List.{List, [], _∷_, _++_, append-nil}
 use Prim.Native.Nat.{ℕ, _+_, _-_, _*_, _/_, _%_, _≤_}
 use native.Mathlib.Omega.{arith}
-use lib.Dec.{ltb, leb}
 use lib.ListN.{length, take, replicate, length-replicate}
 use lib.Seq.{length-take-le}
 use borrow.Author.Tests.{le-ltb, le-leb}
 use Rattle.meaning.specs.Limits.{firstCell, limit, callsLimit, programCells, programBytes}
 use Rattle.meaning.specs.Sound.{Sound, capacity}
-use Rattle.meaning.specs.Check.{Done, done, check, lengthTest, fresh, freshIn}
+use Rattle.meaning.specs.Check.{Done, done, lengthTest, fresh, freshIn}
 use Rattle.meaning.specs.Batch.{Ran, runs, Outcome, ended, callsTest, batchOf, batch}
 use Rattle.meaning.specs.Call.{step}
 use Rattle.meaning.specs.Program.{linesOf, written, served}

@@ -6,8 +6,9 @@ use Prim.Native.Nat.{ℕ, _-_, _%_, _≤_, _<_}
 use lib.Dec.{ltb}
 use lib.ListN.{length, getD, drop}
 use borrow.Author.Tests.{lt-ltb, le-ltb}
+use Rattle.bytes.specs.Little.{wordsOf}
 use Rattle.meaning.specs.Limits.{firstCell, programCells, programBytes}
-use Rattle.meaning.specs.Program.{wordsOf, refusal, served, program}
+use Rattle.meaning.specs.Program.{refusal, served, program}
 
 module _ (input : List ℕ) where
   pub too-short : length input < 4 → program firstCell input ≡ refusal 1 0

@@ -1,6 +1,5 @@
 // What the program writes for what it reads: the input's first word is a capacity and the others are calls; a batch of
 // them is run on a fresh store, and its answers become lines. Nothing here reads or writes a file.
-mod reading;
 mod running;
 mod writing;
 
@@ -27,7 +26,7 @@ pub fn serve(input: &[u8], out: &mut [u8; OUTPUT]) -> usize
     if input.len() < 4 {
         return writing::refuse(out, 1); // no capacity
     }
-    let cells = reading::word_at(input, 0) as usize;
+    let cells = bytes::reading::word(input, 0) as usize;
     if cells < meaning::FIRST_CELL {
         return writing::refuse(out, 1); // too few cells
     }

@@ -1,6 +1,5 @@
 // A batch on a fresh store in a buffer of the program's own. Each function lends its arrays once, to the next one.
 use crate::ANSWERS;
-use crate::reading;
 use crate::writing;
 use calls::Ran;
 use meaning::PROGRAM_BYTES;
@@ -10,12 +9,13 @@ ghost use mathlib.Core.Path.{_≡_};
 ghost use mathlib.Core.List.{[], _++_};
 ghost use Prim.Native.Nat.{_+_, _*_, _≤_};
 ghost use lib.ListN.{length, drop};
+ghost use Rattle.bytes.specs.Little.{wordsOf};
 ghost use Rattle.meaning.specs.Limits.{firstCell};
 ghost use Rattle.meaning.specs.Sound.{capacity};
-ghost use Rattle.meaning.specs.Program.{linesOf, wordsOf, served};
+ghost use Rattle.meaning.specs.Program.{linesOf, served};
 ghost use Rattle.store.specs.Answers.{madeIn};
 ghost use Rattle.calls.specs.Answers.{ranIn};
-ghost use Rattle.serve.specs.Put.{Put};
+ghost use Rattle.serve.specs.Front.{Front};
 ghost use Rattle.serve.specs.Lines.{topLine};
 ghost use Rattle.serve.specs.Lent.{Lent, Served, Whole};
 
@@ -58,7 +58,7 @@ fn report_fresh(ws: &mut [u32], calls: &[u32], answers: &mut [u32], out: &mut [u
     requires { ⌜ Lent (now ws) (now calls) (now answers) ⌝ }
     requires { ⌜ 11 * length (now answers) + 25 ≤ length (now out) ⌝ }
     ensures { λ r.
-        ⌜ Put (now (out .entry)) 0 (served firstCell (capacity (now (ws .entry))) (now (calls .entry)))
+        ⌜ Front (now (out .entry)) (served firstCell (capacity (now (ws .entry))) (now (calls .entry)))
         (now (out .exit)) r ⌝ }
 {
     let top = run_fresh(ws, calls, answers);
@@ -68,7 +68,7 @@ fn report_fresh(ws: &mut [u32], calls: &[u32], answers: &mut [u32], out: &mut [u
 // A store of `cells` cells is a part of a buffer of zeros.
 fn serve_words(cells: usize, calls: &[u32], out: &mut [u8]) -> usize
     requires { ⌜ Served cells (now calls) (length (now out)) ⌝ }
-    ensures { λ r. ⌜ Put (now (out .entry)) 0 (served firstCell cells (now (calls .entry))) (now (out .exit)) r ⌝ }
+    ensures { λ r. ⌜ Front (now (out .entry)) (served firstCell cells (now (calls .entry))) (now (out .exit)) r ⌝ }
 {
     let mut buffer = [0u32; 2 * PROGRAM_CELLS];
     let mut answers = [0u32; ANSWERS];
@@ -80,10 +80,11 @@ fn serve_words(cells: usize, calls: &[u32], out: &mut [u8]) -> usize
 pub fn serve_calls(cells: usize, input: &[u8], out: &mut [u8]) -> usize
     requires { ⌜ Whole cells (length (now input)) (length (now out)) ⌝ }
     ensures { λ r.
-        ⌜ Put (now (out .entry)) 0 (served firstCell cells (drop 1 (wordsOf (now (input .entry)))))
+        ⌜ Front (now (out .entry)) (served firstCell cells (drop 1 (wordsOf (now (input .entry)))))
         (now (out .exit)) r ⌝ }
 {
     let mut words = [0u32; PROGRAM_BYTES / 4];
-    let n = reading::words_in(input, &mut words);
+    bytes::reading::fill_words(&mut words, input);
+    let n = input.len() / 4;
     serve_words(cells, &words[1..n], out)
 }

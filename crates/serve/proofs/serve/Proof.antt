@@ -1,7 +1,6 @@
 -- `serve::serve` meets its contract: the tests are made in the order of the definition. Assumes nothing.
 use native.Mathlib.Omega.{arith}
 use Rattle.meaning.specs.Limits.{programCells, programBytes}
-use Rattle.serve.proofs.Putting.{put-front}
 use Rattle.serve.proofs.Spacing.{refusal-short}
 use Rattle.serve.proofs.Tests.{too-short, too-small, too-large, too-long, broken, right}
 use borrow.Author.Needs.{needs}
@@ -15,7 +14,7 @@ returns : tie.Need-returns
 returns c =
     let args = c .before .before .before .before .args in
     let if1 = c .before .before .if1 in
-    put-front _ (too-short (args .input .now) (if1 .taken)) (c .refuse .ensures)
+    rw (too-short (args .input .now) (if1 .taken)) (c .refuse .ensures)
 
 refuse-requires-2 : tie.Need-refuse-requires-2
 refuse-requires-2 c κs = omega (arith, refusal-short 1 (omega arith), c .refuse-arg2 .given .0 .1)
@@ -24,10 +23,9 @@ returns-2 : tie.Need-returns-2
 returns-2 c =
     let args = c .before .before .before .before .before .before .args in
     let if1 = c .before .before .before .before .if1 in
-    let word-at = c .before .before .before .word-at in
+    let word = c .before .before .before .word in
     let if2 = c .before .before .if2 in
-    put-front _ (too-small (args .input .now) (if1 .left) (word-at .result) (word-at .ensures) (if2 .taken))
-    (c .refuse2 .ensures)
+    rw (too-small (args .input .now) (if1 .left) (word .result) (word .ensures) (if2 .taken)) (c .refuse2 .ensures)
 
 refuse-requires-3 : tie.Need-refuse-requires-3
 refuse-requires-3 c κs = omega (arith, refusal-short 1 (omega arith), c .refuse-arg3 .given .0 .1)
@@ -37,11 +35,10 @@ unfolding programCells programBytes
 returns-3 c =
     let args = c .before .before .before .before .before .before .before .args in
     let if1 = c .before .before .before .before .before .if1 in
-    let word-at = c .before .before .before .before .word-at in
+    let word = c .before .before .before .before .word in
     let if2 = c .before .before .before .if2 in
     let if3 = c .before .before .if3 in
-    put-front _
-    (too-large (args .input .now) (if1 .left) (word-at .result) (word-at .ensures) (if2 .left) (if3 .taken))
+    rw (too-large (args .input .now) (if1 .left) (word .result) (word .ensures) (if2 .left) (if3 .taken))
     (c .refuse3 .ensures)
 
 refuse-requires-4 : tie.Need-refuse-requires-4
@@ -52,12 +49,11 @@ unfolding programCells programBytes
 returns-4 c =
     let args = c .before .before .before .before .before .before .before .before .args in
     let if1 = c .before .before .before .before .before .before .if1 in
-    let word-at = c .before .before .before .before .before .word-at in
+    let word = c .before .before .before .before .before .word in
     let if2 = c .before .before .before .before .if2 in
     let if3 = c .before .before .before .if3 in
     let if4 = c .before .before .if4 in
-    put-front _
-    (too-long (args .input .now) (if1 .left) (word-at .result) (word-at .ensures) (if2 .left) (if3 .left)
+    rw (too-long (args .input .now) (if1 .left) (word .result) (word .ensures) (if2 .left) (if3 .left)
     (if4 .taken))
     (c .refuse4 .ensures)
 
@@ -69,13 +65,12 @@ unfolding programCells programBytes
 returns-5 c =
     let args = c .before .before .before .before .before .before .before .before .before .args in
     let if1 = c .before .before .before .before .before .before .before .if1 in
-    let word-at = c .before .before .before .before .before .before .word-at in
+    let word = c .before .before .before .before .before .before .word in
     let if2 = c .before .before .before .before .before .if2 in
     let if3 = c .before .before .before .before .if3 in
     let if4 = c .before .before .before .if4 in
     let if5 = c .before .before .if5 in
-    put-front _
-    (broken (args .input .now) (if1 .left) (word-at .result) (word-at .ensures) (if2 .left) (if3 .left) (if4 .left)
+    rw (broken (args .input .now) (if1 .left) (word .result) (word .ensures) (if2 .left) (if3 .left) (if4 .left)
     (omega (arith, if5 .taken)))
     (c .refuse5 .ensures)
 
@@ -95,13 +90,12 @@ unfolding programCells programBytes
 returns-6 c =
     let args = c .before .before .before .before .before .before .before .before .before .args in
     let if1 = c .before .before .before .before .before .before .before .if1 in
-    let word-at = c .before .before .before .before .before .before .word-at in
+    let word = c .before .before .before .before .before .before .word in
     let if2 = c .before .before .before .before .before .if2 in
     let if3 = c .before .before .before .before .if3 in
     let if4 = c .before .before .before .if4 in
     let if5 = c .before .before .if5 in
-    put-front _
-    (right (args .input .now) (if1 .left) (word-at .result) (word-at .ensures) (if2 .left) (if3 .left) (if4 .left)
+    rw (right (args .input .now) (if1 .left) (word .result) (word .ensures) (if2 .left) (if3 .left) (if4 .left)
     (omega (arith, if5 .left)))
     (c .serve-calls .ensures)
 

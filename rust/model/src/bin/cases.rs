@@ -22,17 +22,18 @@ use mathlib.Core.Bool.{Bool, true, false, _&&_}
 use mathlib.Core.List.{List, [], _∷_}
 use Prim.Native.Nat.{ℕ}
 use lib.Dec.{eqb, T}
+use Rattle.bytes.specs.Decimal.{decimal}
 use Rattle.meaning.specs.Limits.{firstCell, limit, codeTest, callsLimit, programCells, programBytes}
 use Rattle.meaning.specs.Sound.{at}
 use Rattle.meaning.specs.Reach.{reached, live}
 use Rattle.meaning.specs.Collected.{newAddress, collectedOf, collected, collectedTop}
-use Rattle.meaning.specs.Check.{Verdict, Done, only, done, refused, bracketTest, termTest, cellTest, lengthTest, topTest}
+use Rattle.meaning.specs.Check.{Verdict, Done, bracketTest, termTest, cellTest, lengthTest, topTest}
 use Rattle.meaning.specs.Check.{verdictAt, check, fresh, freshIn, collectIn, Span, spanOf, lookSpan}
 use Rattle.meaning.specs.Call.{ops, opAt, uses, wrong11, wrong12, wrong13, fault, put, copy, share, head, rest}
 use Rattle.meaning.specs.Call.{openTerm, openFirst, codeTerm, codeFirst, newSymbol, newBracket, newRunOf, newRun}
 use Rattle.meaning.specs.Call.{sought, planOf, lacks, roomWords, roomTop, withRoom, carry, perform, stepAfter, step}
-use Rattle.meaning.specs.Batch.{then, Outcome, asLent, ended, callsTest, batchOf, batch}
-use Rattle.meaning.specs.Program.{decimal, written, refusal, served, program}
+use Rattle.meaning.specs.Batch.{Outcome, ended, callsTest, batchOf, batch}
+use Rattle.meaning.specs.Program.{written, refusal, served, program}
 use Rattle.meaning.specs.Rows.{same}
 
 data Case : Type 0 where
@@ -71,11 +72,11 @@ every (c ∷ cs) = right c && every cs
 /// The definitions that the cases unfold.
 const UNFOLDING: &str = "\
 unfolding limit codeTest callsLimit programCells programBytes at reached live newAddress collectedOf collected
-    collectedTop only done refused bracketTest termTest cellTest lengthTest topTest verdictAt check fresh freshIn
-    collectIn spanOf lookSpan ops opAt uses wrong11 wrong12 wrong13 fault put copy share head rest openTerm openFirst
-    codeTerm codeFirst newSymbol newBracket newRunOf newRun sought planOf lacks roomWords roomTop withRoom carry
-    perform stepAfter step then asLent ended callsTest batchOf batch decimal written refusal served program verdict
-    outcome left span right every";
+    collectedTop bracketTest termTest cellTest lengthTest topTest verdictAt check fresh freshIn collectIn spanOf
+    lookSpan ops opAt uses wrong11 wrong12 wrong13 fault put copy share head rest openTerm openFirst codeTerm
+    codeFirst newSymbol newBracket newRunOf newRun sought planOf lacks roomWords roomTop withRoom carry perform
+    stepAfter step ended callsTest batchOf batch decimal written refusal served program verdict outcome left span
+    right every";
 
 /// A list of numbers in antt.
 fn list<T: std::fmt::Display>(numbers: &[T]) -> String {

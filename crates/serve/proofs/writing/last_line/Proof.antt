@@ -1,28 +1,22 @@
 -- `serve::writing::last_line` meets its contract. Assumes nothing.
-use native.Mathlib.Omega.{arith}
+use mathlib.Core.List.{[], _∷_, _++_}
+use Rattle.bytes.specs.Decimal.{decimal}
+use Rattle.bytes.proofs.Spaces.{write-then}
 use Rattle.meaning.specs.Program.{written}
-use Rattle.serve.proofs.Putting.{put-then, put-length}
-use Rattle.serve.proofs.Spacing.{topLine-length}
 use borrow.Author.Needs.{needs}
 use Rattle.serve.proofs.writing.last_line.Statement.{statement}
 use Rattle.serve.proofs.writing.last_line.Tie as tie
 
-text-requires : tie.Need-text-requires
-text-requires c κs = omega (arith, topLine-length (c .before .before .before .args .top))
-
-field-requires : tie.Need-field-requires
-field-requires c κs =
-    let args = c .before .before .before .before .before .before .before .args in
-    let text = c .before .before .before .text in
-    omega (arith, topLine-length (args .top), put-length (text .ensures), text .ensures .next)
-
 returns : tie.Need-returns
+unfolding written
 returns c =
-    let text = c .before .before .before .before .before .before .text in
+    let args = c .before .before .before .before .before .before .before .before .before .before .args in
+    let put-bytes = c .before .before .before .before .before .before .put-bytes in
     let field = c .before .before .field in
-    unfold written in put-then (text .ensures) (field .ensures)
+    write-then (116 ∷ 111 ∷ 112 ∷ 32 ∷ []) (decimal (args .top) ++ (10 ∷ [])) _ _ _ (put-bytes .ensures)
+    (field .ensures)
 
 pub last-line-spec : {M : Type 1} → statement M
 last-line-spec =
     tie.close (tie.spec
-    (λ c. search needs) text-requires field-requires (λ c. search needs) returns)
+    (λ c. search needs) (λ c κs. search needs) (λ c κs. search needs) (λ c. search needs) returns)

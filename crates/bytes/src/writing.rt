@@ -1,0 +1,102 @@
+// A lent space of bytes, written from left to right. Where a byte does not fit, the pen is short, and from then on
+// nothing is written. Each function takes the pen, writes its bytes and gives the pen as it is after them.
+ghost use mathlib.Core.Path.{_≡_};
+ghost use mathlib.Core.List.{List, [], _∷_};
+ghost use Prim.Native.Nat.{ℕ};
+ghost use lib.ListN.{length, take};
+ghost use Rattle.bytes.specs.Little.{bytesOf};
+ghost use Rattle.bytes.specs.Decimal.{decimal};
+ghost use Rattle.bytes.specs.Space.{blank, putByte, write, filled};
+ghost use Rattle.bytes.specs.Pens.{space};
+
+// Where the next byte goes, and whether a byte did not fit.
+pub struct Pen {
+    pub place: usize,
+    pub short: bool,
+}
+
+// At the start of the space.
+pub fn start() -> Pen
+    ensures { λ r. ⌜ ((out : List ℕ) → space out r ≡ blank out) ⌝ }
+{
+    Pen {
+        place: 0,
+        short: false,
+    }
+}
+
+// One byte.
+pub fn put(out: &mut [u8], pen: Pen, b: u8) -> Pen
+    ensures { λ r. ⌜ space (now (out .exit)) r ≡ putByte b (space (now (out .entry)) pen) ⌝ }
+{
+    if pen.short {
+        return pen;
+    }
+    let place = pen.place;
+    if place < out.len() {
+        out[place] = b;
+        return Pen {
+            place: place + 1,
+            short: false,
+        };
+    }
+    Pen { place, short: true }
+}
+
+// The bytes of s.
+pub fn put_bytes(out: &mut [u8], pen: Pen, s: &[u8]) -> Pen
+    ensures { λ r. ⌜ space (now (out .exit)) r ≡ write (now (s .entry)) (space (now (out .entry)) pen) ⌝ }
+{
+    let mut next = pen;
+    let mut i: usize = 0;
+    while i < s.len() {
+        next = put(out, next, s[i]);
+        i += 1;
+    }
+    next
+}
+
+// n in decimal: the digits of n / 10 first, then the last one. It ends because n falls.
+pub fn put_decimal(out: &mut [u8], pen: Pen, n: usize) -> Pen
+    ensures { λ r. ⌜ space (now (out .exit)) r ≡ write (decimal n) (space (now (out .entry)) pen) ⌝ }
+{
+    if n < 10 {
+        return put(out, pen, b'0' + n as u8);
+    }
+    let next = put_decimal(out, pen, n / 10);
+    put(out, next, b'0' + (n % 10) as u8)
+}
+
+// The four bytes of a word, the lowest first.
+pub fn put_word(out: &mut [u8], pen: Pen, w: u32) -> Pen
+    ensures { λ r. ⌜ space (now (out .exit)) r ≡ write (bytesOf (w ∷ [])) (space (now (out .entry)) pen) ⌝ }
+{
+    let p = put(out, pen, (w % 256) as u8);
+    let q = put(out, p, (w / 256 % 256) as u8);
+    let r = put(out, q, (w / 65536 % 256) as u8);
+    put(out, r, (w / 16777216) as u8)
+}
+
+// The bytes of words.
+pub fn put_words(out: &mut [u8], pen: Pen, ws: &[u32]) -> Pen
+    ensures { λ r. ⌜ space (now (out .exit)) r ≡ write (bytesOf (now (ws .entry))) (space (now (out .entry)) pen) ⌝ }
+{
+    let mut next = pen;
+    let mut i: usize = 0;
+    while i < ws.len() {
+        next = put_word(out, next, ws[i]);
+        i += 1;
+    }
+    next
+}
+
+// Zeros from a place on.
+pub fn zero_from(out: &mut [u8], from: usize)
+    ensures { λ _. ⌜ now (out .exit) ≡ filled (length (now (out .entry))) (take from (now (out .entry))) ⌝ }
+{
+    let mut i = from;
+    while i < out.len() {
+        out[i] = 0;
+        i += 1;
+    }
+}
