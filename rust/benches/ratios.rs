@@ -12,7 +12,7 @@ use std::time::{Duration, Instant};
 use std::{env, fs, hint::black_box, iter};
 
 use zelmotar::{raw, Call};
-use zelmotar_model::ordinary::{self, Bits, Bytes, Linear, Marks, Ordinary};
+use zelmotar_model::ordinary::{Checks, Marks, Ordinary, Usual, WithBits, WithSweep};
 use zelmotar_model::plain::{self, Cell, Reply, HEAP, MOST_CELLS};
 
 /// Words and `top`.
@@ -197,13 +197,13 @@ impl<'a> Work<'a> {
     }
 
     /// The ordinary store at this work.
-    fn ordinary<M: Marks + 'a>(self) -> Contender<'a> {
-        let mut tables = Ordinary::<M>::new();
+    fn ordinary<C: Checks + 'a, M: Marks + 'a>(self, store: Ordinary<C, M>) -> Contender<'a> {
+        let mut store = store;
         match self {
-            Work::Check => Box::new(|words, top, _| ordinary::check(words, top)),
-            Work::Collect => Box::new(move |words, top, _| tables.collect(words, top)),
+            Work::Check => Box::new(move |words, top, _| store.check(words, top)),
+            Work::Collect => Box::new(move |words, top, _| store.collect(words, top)),
             Work::Live | Work::Run(_) => {
-                Box::new(move |words, top, answers| tables.run(words, top, self.calls(), answers))
+                Box::new(move |words, top, answers| store.run(words, top, self.calls(), answers))
             }
         }
     }
@@ -213,12 +213,12 @@ impl<'a> Work<'a> {
     fn contenders(self, walks: bool) -> Columns<Contender<'a>> {
         let library = Some(self.library());
         match self {
-            Work::Check => [library, Some(self.ordinary::<Bytes>()), None, None],
+            Work::Check => [library, Some(self.ordinary(Usual::default())), None, None],
             _ => [
                 library,
-                walks.then(|| self.ordinary::<Bytes>()),
-                walks.then(|| self.ordinary::<Bits>()),
-                Some(self.ordinary::<Linear>()),
+                walks.then(|| self.ordinary(Usual::default())),
+                walks.then(|| self.ordinary(WithBits::default())),
+                Some(self.ordinary(WithSweep::default())),
             ],
         }
     }

@@ -1,209 +1,37 @@
 //! The same store written for speed, the measure of the benchmarks.
 //!
 //! It is what one writes who may use memory beside the store: marks in a side table and a table of
-//! new addresses, all kept from call to call so that nothing is allocated twice. There are three
-//! ways of marking, and nothing else differs:
+//! new addresses, all kept from call to call so that nothing is allocated twice. A store chooses how
+//! it checks and how it marks, and nothing else differs:
 //!
-//! - [`Bytes`], the usual way: a byte a cell, and runs on an explicit stack.
-//! - [`Bits`]: a bit a cell and the same stack. It passes over what is marked 64 cells at a time
-//!   where runs overlap.
-//! - [`Linear`]: an address a cell and no stack. It looks at every cell once, however runs overlap.
+//! - [`Usual`] checks cell by cell and marks a byte a cell.
+//! - [`WithBits`] checks cell by cell and marks a bit a cell.
+//! - [`WithSweep`] checks cell by cell and marks in one sweep.
 //!
 //! Statuses, values and words are those of [`plain`](crate::plain); a test holds them equal.
 
+mod checks;
+mod marks;
+
+pub use checks::{Checks, OneByOne};
+pub use marks::{BitSet, ByteSet, Linear, Marks, Set, Walk};
+
 use crate::plain::{Reply, BRACKET, HEAP, MOST_CALL_WORDS, MOST_CELLS, MOST_CODE};
 
-/// A way of marking.
-pub trait Marks: Default {
-    /// Marks what is reached in a sound store, nothing else, and gives its number.
-    fn mark(&mut self, words: &[u32], top: usize) -> usize;
-    /// Whether heap cell `c` is marked.
-    fn has(&self, c: usize) -> bool;
-}
-
-/// A set of cells.
-pub trait Set: Default {
-    /// Empties the set and makes room for `cells` cells.
-    fn reset(&mut self, cells: usize);
-    /// Adds cells `l` to `r` and hands those that were not in it to `fresh`.
-    fn add(&mut self, l: usize, r: usize, fresh: impl FnMut(usize));
-    /// Whether cell `c` is in it.
-    fn has(&self, c: usize) -> bool;
-}
-
-/// A byte for each cell.
+/// The store with a check, a way of marking and the side tables of the collector.
 #[derive(Debug, Default)]
-pub struct ByteSet(Vec<bool>);
-
-impl Set for ByteSet {
-    fn reset(&mut self, cells: usize) {
-        self.0.clear();
-        self.0.resize(cells, false);
-    }
-
-    fn add(&mut self, l: usize, r: usize, mut fresh: impl FnMut(usize)) {
-        for (i, mark) in self.0[l..=r].iter_mut().enumerate() {
-            if !*mark {
-                *mark = true;
-                fresh(l + i);
-            }
-        }
-    }
-
-    fn has(&self, c: usize) -> bool {
-        self.0[c]
-    }
-}
-
-/// A bit for each cell.
-#[derive(Debug, Default)]
-pub struct BitSet(Vec<u64>);
-
-impl Set for BitSet {
-    fn reset(&mut self, cells: usize) {
-        self.0.clear();
-        self.0.resize(cells.div_ceil(64), 0);
-    }
-
-    fn add(&mut self, l: usize, r: usize, mut fresh: impl FnMut(usize)) {
-        for block in l / 64..=r / 64 {
-            let from = if block == l / 64 { !0 << (l % 64) } else { !0 };
-            let upto = if block == r / 64 { !0 >> (63 - r % 64) } else { !0 };
-            let mut new = from & upto & !self.0[block];
-            self.0[block] |= new;
-            while new != 0 {
-                fresh(64 * block + new.trailing_zeros() as usize);
-                new &= new - 1;
-            }
-        }
-    }
-
-    fn has(&self, c: usize) -> bool {
-        self.0[c / 64] >> (c % 64) & 1 == 1
-    }
-}
-
-/// Marking run by run: the cells met are in a set, the runs still to go through on a stack.
-#[derive(Debug, Default)]
-pub struct Walk<S> {
-    met: S,
-    runs: Vec<(usize, usize)>,
-}
-
-/// The walk with a byte for each cell.
-pub type Bytes = Walk<ByteSet>;
-/// The walk with a bit for each cell.
-pub type Bits = Walk<BitSet>;
-
-impl<S: Set> Marks for Walk<S> {
-    fn mark(&mut self, words: &[u32], top: usize) -> usize {
-        self.met.reset(top);
-        self.runs.clear();
-        self.runs.extend((0..HEAP).filter_map(|register| ends(words, register)));
-        let mut live = 0;
-        while let Some((l, r)) = self.runs.pop() {
-            let runs = &mut self.runs;
-            self.met.add(l, r, |c| {
-                live += 1;
-                runs.extend(ends(words, c));
-            });
-        }
-        live
-    }
-
-    fn has(&self, c: usize) -> bool {
-        self.met.has(c)
-    }
-}
-
-/// Marking in one sweep down.
-///
-/// The table has, for each cell, the lowest left end of the reached runs that end there, and after
-/// the sweep that of those that end there or above.
-#[derive(Debug, Default)]
-pub struct Linear(Vec<u32>);
-
-impl Linear {
-    /// Enters the run of the reached holder at `c`.
-    #[inline]
-    fn enter(&mut self, words: &[u32], c: usize) {
-        if let Some((l, r)) = ends(words, c) {
-            self.0[r] = self.0[r].min(l as u32);
-        }
-    }
-}
-
-impl Marks for Linear {
-    fn mark(&mut self, words: &[u32], top: usize) -> usize {
-        self.0.clear();
-        self.0.resize(top, u32::MAX);
-        (0..HEAP).for_each(|register| self.enter(words, register));
-        let (mut lowest, mut live) = (u32::MAX, 0);
-        // Contents lie below their bracket, so all runs over a cell are entered when it is met.
-        for c in (HEAP..top).rev() {
-            lowest = lowest.min(self.0[c]);
-            self.0[c] = lowest;
-            if self.has(c) {
-                live += 1;
-                self.enter(words, c);
-            }
-        }
-        live
-    }
-
-    fn has(&self, c: usize) -> bool {
-        self.0[c] as usize <= c
-    }
-}
-
-/// Side tables of the collector.
-#[derive(Debug, Default)]
-pub struct Ordinary<M> {
+pub struct Ordinary<C, M> {
+    checks: C,
     marks: M,
     place: Vec<u32>,
 }
 
-/// Whether two words are a bracket in order. `limit` is the cell's own address, or `top` in a
-/// register.
-fn bracket_in_order(first: u32, second: u32, limit: u32) -> bool {
-    // Any stray flag puts the right end beyond every limit.
-    let right = second ^ BRACKET;
-    if right == 0 {
-        first == 0
-    } else {
-        HEAP as u32 <= first && first <= right && right < limit
-    }
-}
-
-/// The first damaged cell.
-fn damaged(words: &[u32], top: usize) -> Option<usize> {
-    let (registers, heap) = words.split_at(2 * HEAP);
-    let (heap, beyond) = heap.split_at(2 * (top - HEAP));
-    let register = |cell: &[u32]| bracket_in_order(cell[0], cell[1], top as u32);
-    if let Some(c) = registers.chunks_exact(2).position(|cell| !register(cell)) {
-        return Some(c);
-    }
-    for (c, cell) in (HEAP as u32..).zip(heap.chunks_exact(2)) {
-        let symbol = cell[1] == 0 && cell[0] <= MOST_CODE;
-        if !symbol && !bracket_in_order(cell[0], cell[1], c) {
-            return Some(c as usize);
-        }
-    }
-    beyond.iter().position(|&word| word != 0).map(|i| top + i / 2)
-}
-
-/// The check.
-pub fn check(words: &[u32], top: usize) -> Reply {
-    let n = words.len();
-    let (status, value) = if n % 2 != 0 || !(2 * HEAP..=2 * MOST_CELLS).contains(&n) {
-        (1, 0)
-    } else if top < HEAP || top > n / 2 {
-        (2, 0)
-    } else {
-        damaged(words, top).map_or((0, 0), |c| (3, c as u32))
-    };
-    Reply { status, value, top }
-}
+/// The usual store.
+pub type Usual = Ordinary<OneByOne, Walk<ByteSet>>;
+/// The usual store but for a bit a cell.
+pub type WithBits = Ordinary<OneByOne, Walk<BitSet>>;
+/// The usual store but for one sweep.
+pub type WithSweep = Ordinary<OneByOne, Linear>;
 
 /// The ends of a bracket with contents.
 #[inline]
@@ -264,10 +92,18 @@ fn misspelt(call: &[u32]) -> u32 {
     }
 }
 
-impl<M: Marks> Ordinary<M> {
-    /// No tables yet.
-    pub fn new() -> Self {
-        Ordinary { marks: M::default(), place: Vec::new() }
+impl<C: Checks, M: Marks> Ordinary<C, M> {
+    /// The check.
+    pub fn check(&self, words: &[u32], top: usize) -> Reply {
+        let n = words.len();
+        let (status, value) = if n % 2 != 0 || !(2 * HEAP..=2 * MOST_CELLS).contains(&n) {
+            (1, 0)
+        } else if top < HEAP || top > n / 2 {
+            (2, 0)
+        } else {
+            self.checks.damaged(words, top).map_or((0, 0), |c| (3, c as u32))
+        };
+        Reply { status, value, top }
     }
 
     /// Collects a sound store and gives the new `top`.
@@ -304,7 +140,7 @@ impl<M: Marks> Ordinary<M> {
 
     /// Collecting alone.
     pub fn collect(&mut self, words: &mut [u32], top: usize) -> Reply {
-        let checked = check(words, top);
+        let checked = self.check(words, top);
         if checked.status != 0 {
             return checked;
         }
@@ -398,7 +234,7 @@ impl<M: Marks> Ordinary<M> {
         calls: &[u32],
         answers: &mut [u32],
     ) -> Reply {
-        let checked = check(words, top);
+        let checked = self.check(words, top);
         if checked.status != 0 {
             return checked;
         }

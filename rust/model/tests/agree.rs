@@ -1,6 +1,6 @@
 //! The three parts of the model, held against each other and against the rules said word for word.
 
-use zelmotar_model::ordinary::{self, Bits, Bytes, Linear, Marks, Ordinary};
+use zelmotar_model::ordinary::{Checks, Marks, Ordinary, Usual, WithBits, WithSweep};
 use zelmotar_model::plain::{self, HEAP};
 use zelmotar_model::random::Random;
 use zelmotar_model::trees::Trees;
@@ -106,8 +106,8 @@ fn plain_calls_mean_what_trees_say() {
 }
 
 /// Holds the quick store against the plain one on one batch and on collecting alone.
-fn same_as_plain<M: Marks>(
-    tables: &mut Ordinary<M>,
+fn same_as_plain<C: Checks, M: Marks>(
+    quick: &mut Ordinary<C, M>,
     words: &[u32],
     top: usize,
     calls: &[u32],
@@ -116,19 +116,19 @@ fn same_as_plain<M: Marks>(
     let mut ours = (words.to_vec(), answers.to_vec());
     let mut theirs = ours.clone();
     let expected = plain::run(&mut theirs.0, top, calls, &mut theirs.1);
-    assert_eq!(tables.run(&mut ours.0, top, calls, &mut ours.1), expected);
+    assert_eq!(quick.run(&mut ours.0, top, calls, &mut ours.1), expected);
     assert_eq!(ours, theirs);
     let (mut ours, mut theirs) = (words.to_vec(), words.to_vec());
-    assert_eq!(tables.collect(&mut ours, top), plain::collect(&mut theirs, top));
+    assert_eq!(quick.collect(&mut ours, top), plain::collect(&mut theirs, top));
     assert_eq!(ours, theirs);
-    assert_eq!(ordinary::check(words, top), plain::check(words, top));
+    assert_eq!(quick.check(words, top), plain::check(words, top));
 }
 
 #[test]
 fn the_quick_store_is_the_plain_store() {
     let mut random = Random::of("quick");
-    let (mut bytes, mut bits) = (Ordinary::<Bytes>::new(), Ordinary::<Bits>::new());
-    let mut linear = Ordinary::<Linear>::new();
+    let (mut usual, mut bits) = (Usual::default(), WithBits::default());
+    let mut sweep = WithSweep::default();
     for _ in 0..20_000 {
         let capacity = make::capacity(&mut random);
         let runs = random.pick(&[Runs::Short, Runs::Any]);
@@ -139,8 +139,8 @@ fn the_quick_store_is_the_plain_store() {
         let count = random.below(12);
         let calls = make::calls(&mut random, count);
         let answers = make::answers(&mut random, calls.len());
-        same_as_plain(&mut bytes, &words, top, &calls, &answers);
+        same_as_plain(&mut usual, &words, top, &calls, &answers);
         same_as_plain(&mut bits, &words, top, &calls, &answers);
-        same_as_plain(&mut linear, &words, top, &calls, &answers);
+        same_as_plain(&mut sweep, &words, top, &calls, &answers);
     }
 }
