@@ -12,7 +12,7 @@ use std::time::{Duration, Instant};
 use std::{env, fs, hint::black_box, iter};
 
 use zelmotar::{raw, Call};
-use zelmotar_model::ordinary::{Checks, Marks, Ordinary, Usual, WithBits, WithSweep};
+use zelmotar_model::ordinary::{Better, Checks, Marks, Ordinary, Usual, WithBits};
 use zelmotar_model::plain::{self, Cell, Reply, HEAP, MOST_CELLS};
 
 /// Words and `top`.
@@ -21,7 +21,7 @@ type Lent = (Vec<u32>, usize);
 /// Something that works on a store: words, `top` and an answer space go in.
 type Contender<'a> = Box<dyn FnMut(&mut [u32], usize, &mut [u32]) -> Reply + 'a>;
 
-/// The library, then the ordinary store with bytes, with bits and linear. A column may be empty.
+/// The library, the ordinary store, the one with bits and the better one. A column may be empty.
 type Columns<T> = [Option<T>; 4];
 
 /// Calls in a timed batch.
@@ -208,17 +208,22 @@ impl<'a> Work<'a> {
         }
     }
 
-    /// All at this work. A check marks nothing, so one ordinary store does for it. Without `walks`
-    /// those are left out that go through every run.
+    /// All at this work, but no two that do the same: a check marks nothing. Without `walks` those
+    /// are left out that go through every run.
     fn contenders(self, walks: bool) -> Columns<Contender<'a>> {
         let library = Some(self.library());
         match self {
-            Work::Check => [library, Some(self.ordinary(Usual::default())), None, None],
+            Work::Check => [
+                library,
+                Some(self.ordinary(Usual::default())),
+                None,
+                Some(self.ordinary(Better::default())),
+            ],
             _ => [
                 library,
                 walks.then(|| self.ordinary(Usual::default())),
                 walks.then(|| self.ordinary(WithBits::default())),
-                Some(self.ordinary(WithSweep::default())),
+                Some(self.ordinary(Better::default())),
             ],
         }
     }
@@ -295,7 +300,7 @@ fn table(title: &str) {
     println!("\n{title}\n");
     println!(
         "| work | library, µs | per cell, ns | ordinary, µs | ratio | ordinary with bits, µs | ratio \
-         | ordinary linear, µs | ratio |"
+         | better, µs | ratio |"
     );
     println!("|---|--:|--:|--:|--:|--:|--:|--:|--:|");
 }

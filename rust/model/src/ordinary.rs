@@ -2,18 +2,15 @@
 //!
 //! It is what one writes who may use memory beside the store: marks in a side table and a table of
 //! new addresses, all kept from call to call so that nothing is allocated twice. A store chooses how
-//! it checks and how it marks, and nothing else differs:
-//!
-//! - [`Usual`] checks cell by cell and marks a byte a cell.
-//! - [`WithBits`] checks cell by cell and marks a bit a cell.
-//! - [`WithSweep`] checks cell by cell and marks in one sweep.
+//! it [checks](Checks) and how it [marks](Marks), and nothing else differs. There are three:
+//! [`Usual`], [`WithBits`] and [`Better`].
 //!
 //! Statuses, values and words are those of [`plain`](crate::plain); a test holds them equal.
 
 mod checks;
 mod marks;
 
-pub use checks::{Checks, OneByOne};
+pub use checks::{ByBlocks, Checks, OneByOne};
 pub use marks::{BitSet, ByteSet, Linear, Marks, Set, Walk};
 
 use crate::plain::{Reply, BRACKET, HEAP, MOST_CALL_WORDS, MOST_CELLS, MOST_CODE};
@@ -26,12 +23,12 @@ pub struct Ordinary<C, M> {
     place: Vec<u32>,
 }
 
-/// The usual store.
+/// The usual store: checked cell by cell, marked with a byte a cell.
 pub type Usual = Ordinary<OneByOne, Walk<ByteSet>>;
-/// The usual store but for a bit a cell.
+/// The usual store with a bit a cell in place of the byte.
 pub type WithBits = Ordinary<OneByOne, Walk<BitSet>>;
-/// The usual store but for one sweep.
-pub type WithSweep = Ordinary<OneByOne, Linear>;
+/// The better store: checked by blocks, marked in one sweep.
+pub type Better = Ordinary<ByBlocks, Linear>;
 
 /// The ends of a bracket with contents.
 #[inline]
@@ -109,8 +106,8 @@ impl<C: Checks, M: Marks> Ordinary<C, M> {
     /// Collects a sound store and gives the new `top`.
     fn compact(&mut self, words: &mut [u32], top: usize) -> usize {
         self.marks.mark(words, top);
-        self.place.clear();
-        self.place.resize(top, 0);
+        // An address is written before it is read, so what an earlier collection left may stay.
+        self.place.resize(self.place.len().max(top), 0);
         let mut next = HEAP;
         // Contents lie below their bracket, so their new addresses are known when it moves.
         for c in HEAP..top {

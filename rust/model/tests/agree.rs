@@ -1,6 +1,6 @@
 //! The three parts of the model, held against each other and against the rules said word for word.
 
-use zelmotar_model::ordinary::{Checks, Marks, Ordinary, Usual, WithBits, WithSweep};
+use zelmotar_model::ordinary::{Better, Checks, Marks, Ordinary, Usual, WithBits};
 use zelmotar_model::plain::{self, HEAP};
 use zelmotar_model::random::Random;
 use zelmotar_model::trees::Trees;
@@ -128,7 +128,7 @@ fn same_as_plain<C: Checks, M: Marks>(
 fn the_quick_store_is_the_plain_store() {
     let mut random = Random::of("quick");
     let (mut usual, mut bits) = (Usual::default(), WithBits::default());
-    let mut sweep = WithSweep::default();
+    let mut better = Better::default();
     for _ in 0..20_000 {
         let capacity = make::capacity(&mut random);
         let runs = random.pick(&[Runs::Short, Runs::Any]);
@@ -141,6 +141,6 @@ fn the_quick_store_is_the_plain_store() {
         let answers = make::answers(&mut random, calls.len());
         same_as_plain(&mut usual, &words, top, &calls, &answers);
         same_as_plain(&mut bits, &words, top, &calls, &answers);
-        same_as_plain(&mut sweep, &words, top, &calls, &answers);
+        same_as_plain(&mut better, &words, top, &calls, &answers);
     }
 }
