@@ -30,6 +30,9 @@ pub type WithBits = Ordinary<OneByOne, Walk<BitSet>>;
 /// The better store: checked by blocks, marked in one sweep.
 pub type Better = Ordinary<ByBlocks, Linear>;
 
+/// Both words of an empty bracket.
+const EMPTY: [u32; 2] = [0, BRACKET];
+
 /// The ends of a bracket with contents.
 #[inline]
 fn ends(words: &[u32], c: usize) -> Option<(usize, usize)> {
@@ -89,11 +92,27 @@ fn misspelt(call: &[u32]) -> u32 {
     }
 }
 
+/// Whether a slice of `n` words may hold a store.
+fn fits(n: usize) -> bool {
+    n % 2 == 0 && (2 * HEAP..=2 * MOST_CELLS).contains(&n)
+}
+
+/// A fresh store, or refusal 1. Nothing is checked or marked, so it is the same for all.
+pub fn fresh(words: &mut [u32]) -> Reply {
+    if !fits(words.len()) {
+        return Reply { status: 1, value: 0, top: 0 };
+    }
+    let (registers, rest) = words.split_at_mut(2 * HEAP);
+    registers.chunks_exact_mut(2).for_each(|cell| cell.copy_from_slice(&EMPTY));
+    rest.fill(0);
+    Reply { status: 0, value: 0, top: HEAP }
+}
+
 impl<C: Checks, M: Marks> Ordinary<C, M> {
     /// The check.
     pub fn check(&self, words: &[u32], top: usize) -> Reply {
         let n = words.len();
-        let (status, value) = if n % 2 != 0 || !(2 * HEAP..=2 * MOST_CELLS).contains(&n) {
+        let (status, value) = if !fits(n) {
             (1, 0)
         } else if top < HEAP || top > n / 2 {
             (2, 0)
@@ -101,6 +120,14 @@ impl<C: Checks, M: Marks> Ordinary<C, M> {
             self.checks.damaged(words, top).map_or((0, 0), |c| (3, c as u32))
         };
         Reply { status, value, top }
+    }
+
+    /// A look at a register: the part of the words that holds its cells, as offsets.
+    pub fn look(&self, words: &[u32], top: usize, register: usize) -> (usize, usize) {
+        if register >= HEAP || self.check(words, top).status != 0 {
+            return (0, 0);
+        }
+        ends(words, register).map_or((0, 0), |(l, r)| (2 * l, 2 * r + 2))
     }
 
     /// Collects a sound store and gives the new `top`.
@@ -207,7 +234,7 @@ impl<C: Checks, M: Marks> Ordinary<C, M> {
         }
         let (d, a, b) = (call[1] as usize, call[2] as usize, call[3] as usize);
         match call[0] {
-            0 => set(words, d, [0, BRACKET]),
+            0 => set(words, d, EMPTY),
             1 => set(words, d, pair(words, a)),
             2 => self.lay(words, top, d, |_| [call[2], 0])?,
             3 => self.lay(words, top, d, |words| pair(words, a))?,
@@ -261,7 +288,7 @@ fn first(words: &mut [u32], operation: u32, d: usize, a: usize) -> Result<usize,
     let [first, second] = pair(words, l);
     match operation {
         5 => set(words, d, on(l, l)),
-        6 if l == r => set(words, d, [0, BRACKET]),
+        6 if l == r => set(words, d, EMPTY),
         6 => set(words, d, on(l + 1, r)),
         7 if second != 0 => set(words, d, [first, second]),
         9 if second == 0 => return Ok(first as usize),

@@ -1,6 +1,6 @@
 //! The three parts of the model, held against each other and against the rules said word for word.
 
-use zelmotar_model::ordinary::{Better, Checks, Marks, Ordinary, Usual, WithBits};
+use zelmotar_model::ordinary::{self, Better, Checks, Marks, Ordinary, Usual, WithBits};
 use zelmotar_model::plain::{self, HEAP};
 use zelmotar_model::random::Random;
 use zelmotar_model::trees::Trees;
@@ -105,7 +105,7 @@ fn plain_calls_mean_what_trees_say() {
     }
 }
 
-/// Holds the quick store against the plain one on one batch and on collecting alone.
+/// Holds the quick store against the plain one: one batch, collecting alone, check and looks.
 fn same_as_plain<C: Checks, M: Marks>(
     quick: &mut Ordinary<C, M>,
     words: &[u32],
@@ -122,6 +122,9 @@ fn same_as_plain<C: Checks, M: Marks>(
     assert_eq!(quick.collect(&mut ours, top), plain::collect(&mut theirs, top));
     assert_eq!(ours, theirs);
     assert_eq!(quick.check(words, top), plain::check(words, top));
+    for register in 0..=HEAP {
+        assert_eq!(quick.look(words, top, register), plain::look(words, top, register));
+    }
 }
 
 #[test]
@@ -142,5 +145,16 @@ fn the_quick_store_is_the_plain_store() {
         same_as_plain(&mut usual, &words, top, &calls, &answers);
         same_as_plain(&mut bits, &words, top, &calls, &answers);
         same_as_plain(&mut better, &words, top, &calls, &answers);
+    }
+}
+
+#[test]
+fn the_quick_fresh_store_is_the_plain_one() {
+    let mut random = Random::of("fresh");
+    for n in 0..=8200 {
+        let mut ours: Vec<u32> = (0..n).map(|_| random.word()).collect();
+        let mut theirs = ours.clone();
+        assert_eq!(ordinary::fresh(&mut ours), plain::fresh(&mut theirs));
+        assert_eq!(ours, theirs);
     }
 }
