@@ -52,7 +52,8 @@ fn random_sound_stores_are_sound() {
     let mut random = Random::of("sound stores");
     for _ in 0..5_000 {
         let capacity = make::capacity(&mut random);
-        let (words, top) = make::sound(&mut random, capacity, Runs::Any);
+        let runs = random.pick(&[Runs::Short, Runs::Recent, Runs::Any]);
+        let (words, top) = make::sound(&mut random, capacity, runs);
         assert_eq!(plain::check(&words, top).status, 0, "{words:?} {top}");
     }
 }
@@ -134,7 +135,7 @@ fn the_quick_store_is_the_plain_store() {
     let mut better = Better::default();
     for _ in 0..20_000 {
         let capacity = make::capacity(&mut random);
-        let runs = random.pick(&[Runs::Short, Runs::Any]);
+        let runs = random.pick(&[Runs::Short, Runs::Recent, Runs::Any]);
         let (mut words, mut top) = make::sound(&mut random, capacity, runs);
         if random.one_in(3) {
             make::damage(&mut random, &mut words, &mut top);
