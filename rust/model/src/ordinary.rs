@@ -58,6 +58,36 @@ fn on(l: usize, r: usize) -> [u32; 2] {
     [l as u32, BRACKET | r as u32]
 }
 
+/// The cell at `c` with its ends at their new addresses.
+#[inline]
+fn mended(words: &[u32], place: &[u32], c: usize) -> [u32; 2] {
+    match ends(words, c) {
+        Some((l, r)) => [place[l], BRACKET | place[r]],
+        None => pair(words, c),
+    }
+}
+
+/// Packs the marked cells low, fills `place` with the new addresses and gives the new `top`. Both
+/// slices end at the old one.
+fn slide(words: &mut [u32], place: &mut [u32], marks: &impl Marks) -> usize {
+    let mut next = HEAP;
+    // Contents lie below their bracket, so their new addresses are known when it moves.
+    for c in HEAP..place.len() {
+        place[c] = next as u32;
+        if marks.has(c) {
+            let moved = mended(words, place, c);
+            set(words, next, moved);
+            next += 1;
+        }
+    }
+    for register in 0..HEAP {
+        let moved = mended(words, place, register);
+        set(words, register, moved);
+    }
+    words[2 * next..].fill(0);
+    next
+}
+
 /// Which operand words of an operation are registers and which are unused, as bits: d 1, a 2, b 4.
 const USES: [(u32, u32); 12] = [
     (1, 6), // CLEAR d
@@ -135,31 +165,7 @@ impl<C: Checks, M: Marks> Ordinary<C, M> {
         self.marks.mark(words, top);
         // An address is written before it is read, so what an earlier collection left may stay.
         self.place.resize(self.place.len().max(top), 0);
-        let mut next = HEAP;
-        // Contents lie below their bracket, so their new addresses are known when it moves.
-        for c in HEAP..top {
-            self.place[c] = next as u32;
-            if self.marks.has(c) {
-                let moved = self.mended(words, c);
-                set(words, next, moved);
-                next += 1;
-            }
-        }
-        for register in 0..HEAP {
-            let moved = self.mended(words, register);
-            set(words, register, moved);
-        }
-        words[2 * next..2 * top].fill(0);
-        next
-    }
-
-    /// The cell at `c` with its ends at their new addresses.
-    #[inline]
-    fn mended(&self, words: &[u32], c: usize) -> [u32; 2] {
-        match ends(words, c) {
-            Some((l, r)) => [self.place[l], BRACKET | self.place[r]],
-            None => pair(words, c),
-        }
+        slide(&mut words[..2 * top], &mut self.place[..top], &self.marks)
     }
 
     /// Collecting alone.
