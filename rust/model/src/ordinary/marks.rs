@@ -113,13 +113,11 @@ impl<S: Set> Marks for Walk<S> {
 #[derive(Debug, Default)]
 pub struct Linear(Vec<u32>);
 
-impl Linear {
-    /// Enters the run of the reached holder at `c`.
-    #[inline]
-    fn enter(&mut self, words: &[u32], c: usize) {
-        if let Some((l, r)) = ends(words, c) {
-            self.0[r] = self.0[r].min(l as u32);
-        }
+/// Enters the run of the reached holder at `c`.
+#[inline]
+fn enter(words: &[u32], low: &mut [u32], c: usize) {
+    if let Some((l, r)) = ends(words, c) {
+        low[r] = low[r].min(l as u32);
     }
 }
 
@@ -127,15 +125,16 @@ impl Marks for Linear {
     fn mark(&mut self, words: &[u32], top: usize) -> usize {
         self.0.clear();
         self.0.resize(top, u32::MAX);
-        (0..HEAP).for_each(|register| self.enter(words, register));
+        let (words, low) = (&words[..2 * top], &mut self.0[..top]);
+        (0..HEAP).for_each(|register| enter(words, low, register));
         let (mut lowest, mut live) = (u32::MAX, 0);
         // Contents lie below their bracket, so all runs over a cell are entered when it is met.
         for c in (HEAP..top).rev() {
-            lowest = lowest.min(self.0[c]);
-            self.0[c] = lowest;
-            if self.has(c) {
+            lowest = lowest.min(low[c]);
+            low[c] = lowest;
+            if lowest as usize <= c {
                 live += 1;
-                self.enter(words, c);
+                enter(words, low, c);
             }
         }
         live
