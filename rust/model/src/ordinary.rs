@@ -1,8 +1,8 @@
 //! The same store written for speed, the measure of the benchmarks.
 //!
 //! It is what one writes who may use memory beside the store: marks in a side table and a table of
-//! new addresses, all kept from call to call so that nothing is allocated twice. A store chooses how
-//! it [checks](Checks) and how it [marks](Marks), and nothing else differs. There are three:
+//! new addresses, all kept from call to call so that nothing is allocated twice. A store chooses
+//! how it [checks](Checks) and how it [marks](Marks), and nothing else differs. There are three:
 //! [`Usual`], [`WithBits`] and [`Better`].
 //!
 //! Statuses, values and words are those of [`plain`](crate::plain); a test holds them equal.

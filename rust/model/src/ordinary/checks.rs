@@ -1,8 +1,8 @@
 //! Two ways of looking for damage in a store whose length and `top` are in range.
 //!
 //! - [`OneByOne`], the usual way: cell by cell, and it stops at the first that is damaged.
-//! - [`ByBlocks`]: all cells of a block, and then it asks whether any was damaged. No test waits for
-//!   another, so the compiler makes vectors of them, and there is no branch to guess wrong.
+//! - [`ByBlocks`]: all cells of a block, and then it asks whether any was damaged. No test waits
+//!   for another, so the compiler makes vectors of them, and there is no branch to guess wrong.
 
 use crate::plain::{BRACKET, HEAP, MOST_CODE};
 
