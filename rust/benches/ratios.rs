@@ -9,7 +9,7 @@
 //! must leave the same words and give the same answers.
 
 use std::time::{Duration, Instant};
-use std::{env, fs, hint::black_box, iter};
+use std::{env, fs, hint::black_box};
 
 use zelmotar::{raw, Call};
 use zelmotar_model::make::{self, Runs};
@@ -32,6 +32,8 @@ const BATCH: usize = 1024;
 const ROW_TIME: Duration = Duration::from_millis(60);
 /// Rounds in a row, even where they take longer than that.
 const LEAST_ROUNDS: usize = 5;
+/// Capacities at which growth is shown, below the limit. The limit comes last.
+const SIZES: [usize; 4] = [64, 512, 4096, 16384];
 /// Beyond this capacity growth leaves out what would take too long: batches of many calls, and
 /// walks where runs overlap.
 const ALL_UP_TO: usize = 4096;
@@ -392,13 +394,13 @@ fn stores() {
     rows(Work::Run(&symbol_calls()), &full);
 }
 
-/// One kind of store at capacities from 64 cells to the largest, each twice the one before.
+/// One kind of store at growing capacities.
 fn growth(title: &str, store: impl Fn(usize) -> Lent, works: &[Work], overlaps: bool) {
     table(title);
     for &work in works {
-        for cells in iter::successors(Some(64), |cells| Some(2 * cells)) {
+        for cells in SIZES.into_iter().filter(|&cells| cells < MOST_CELLS).chain([MOST_CELLS]) {
             let large = cells > ALL_UP_TO;
-            if cells > MOST_CELLS || large && matches!(work, Work::Run(_)) {
+            if large && matches!(work, Work::Run(_)) {
                 break;
             }
             row(work, &format!("{cells} cells"), &store(cells), !(large && overlaps));
