@@ -68,7 +68,8 @@ fn mended(words: &[u32], place: &[u32], c: usize) -> [u32; 2] {
 }
 
 /// Packs the marked cells low, fills `place` with the new addresses and gives the new `top`. Both
-/// slices end at the old one.
+/// slices end at the old one. As arguments they are known to lie apart, so that the loop need not
+/// look again where they are.
 fn slide(words: &mut [u32], place: &mut [u32], marks: &impl Marks) -> usize {
     let mut next = HEAP;
     // Contents lie below their bracket, so their new addresses are known when it moves.
