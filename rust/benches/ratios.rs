@@ -1,27 +1,29 @@
-//! How long the library takes, measured against the ordinary store of the model in the same run.
+//! How long the library takes, measured against the ordinary stores of the model in the same run.
 //!
 //! Run it with `cargo bench --bench ratios`. It prints the tables of `docs/BENCHMARKS.md`; with
-//! `-- growth` behind, those of growth alone, and with `-- stores` all but those. The ordinary store may use memory beside the store; it
-//! marks a byte for each cell, a bit for each cell, or in one sweep over the cells.
+//! `-- growth` behind, those of growth alone, and with `-- stores` all but those. The ordinary
+//! stores may use memory beside the store: the usual one, the usual one with bits, the better one.
 //!
 //! Contenders take turns on the same stores. Each call gets a copy of the store that was written
 //! just before, and the least time of all rounds counts. Before anything is timed, all contenders
 //! must leave the same words and give the same answers.
 
 use std::time::{Duration, Instant};
-use std::{env, fs, hint::black_box, iter};
+use std::{env, fs, hint::black_box};
 
 use zelmotar::{raw, Call};
-use zelmotar_model::ordinary::{self, Bits, Bytes, Linear, Marks, Ordinary};
+use zelmotar_model::make::{self, Runs};
+use zelmotar_model::ordinary::{self, Better, Checks, Marks, Ordinary, Usual, WithBits};
 use zelmotar_model::plain::{self, Cell, Reply, HEAP, MOST_CELLS};
+use zelmotar_model::random::Random;
 
-/// Words and `top`.
+/// Words and `top` of a store.
 type Lent = (Vec<u32>, usize);
 
 /// Something that works on a store: words, `top` and an answer space go in.
 type Contender<'a> = Box<dyn FnMut(&mut [u32], usize, &mut [u32]) -> Reply + 'a>;
 
-/// The library, then the ordinary store with bytes, with bits and linear. A column may be empty.
+/// The library, the ordinary store, the one with bits and the better one. A column may be empty.
 type Columns<T> = [Option<T>; 4];
 
 /// Calls in a timed batch.
@@ -30,11 +32,15 @@ const BATCH: usize = 1024;
 const ROW_TIME: Duration = Duration::from_millis(60);
 /// Rounds in a row, even where they take longer than that.
 const LEAST_ROUNDS: usize = 5;
-/// Beyond this capacity growth leaves out what would take too long: batches of many calls, and walks
-/// where runs overlap.
+/// Capacities at which growth is shown, below the limit. The limit comes last.
+const SIZES: [usize; 4] = [64, 512, 4096, 16384];
+/// Beyond this capacity growth leaves out what would take too long: batches of many calls, and
+/// walks where runs overlap.
 const ALL_UP_TO: usize = 4096;
 
-/// Registers that the timed calls use; the stores leave them empty.
+/// Registers in which the stores keep what is live.
+const KEPT: usize = 12;
+/// Registers that the timed calls use.
 const SCRATCH: [u32; 4] = [12, 13, 14, 15];
 
 fn empty_store(capacity: usize) -> Lent {
@@ -59,20 +65,20 @@ fn site(capacity: usize, each: usize) -> Lent {
 
 /// A full store of groups of four cells, of which one in `one_in` is live.
 ///
-/// A group is a bracket around an earlier group, then three symbols. The live groups form twelve
-/// lists, one to a register.
+/// A group is a bracket around an earlier group, then three symbols. The live groups form lists,
+/// one to a register.
 fn lists(capacity: usize, one_in: usize) -> Lent {
     let (mut words, _) = empty_store(capacity);
-    let mut last = [Cell::Empty; 12];
+    let mut last = [Cell::Empty; KEPT];
     for (group, c) in (HEAP..capacity).step_by(4).enumerate() {
-        let list = group / one_in % last.len();
+        let list = group / one_in % KEPT;
         plain::put(&mut words, c, last[list]);
         (1..4).for_each(|i| plain::put(&mut words, c + i, Cell::Symbol(i as u32)));
         if group % one_in == 0 {
             last[list] = Cell::Bracket(c, c + 3);
         }
     }
-    (0..last.len()).for_each(|list| plain::put(&mut words, list, last[list]));
+    (0..KEPT).for_each(|list| plain::put(&mut words, list, last[list]));
     (words, capacity)
 }
 
@@ -82,6 +88,32 @@ fn half_dead(capacity: usize) -> Lent {
 
 fn all_live(capacity: usize) -> Lent {
     lists(capacity, 1)
+}
+
+/// The last two symbols of the store above, taken from their list: one is dead, the other is all
+/// that the last scratch register holds. A new symbol for that register takes the room of the dead
+/// one, and then the old one is dead.
+fn one_dead(capacity: usize) -> Lent {
+    let (mut words, top) = all_live(capacity);
+    let list_of_last = ((top - HEAP) / 4 - 1) % KEPT;
+    plain::put(&mut words, list_of_last, Cell::Bracket(top - 4, top - 3));
+    plain::put(&mut words, SCRATCH[3] as usize, Cell::Bracket(top - 1, top - 1));
+    (words, top)
+}
+
+/// A full store of cells drawn by lot: symbols, empty brackets and brackets over a few cells, most
+/// often over cells just below.
+fn random(capacity: usize) -> Lent {
+    let mut random = Random::of("benchmark");
+    let (mut words, _) = empty_store(capacity);
+    for c in HEAP..capacity {
+        plain::put(&mut words, c, make::heap_cell(&mut random, c, Runs::Recent));
+    }
+    for register in 0..KEPT {
+        let (l, r) = make::run(&mut random, capacity, Runs::Recent).expect("the heap has cells");
+        plain::put(&mut words, register, Cell::Bracket(l, r));
+    }
+    (words, capacity)
 }
 
 /// A full store of readings as text is laid: all their symbols, then the brackets side by side,
@@ -124,6 +156,11 @@ fn mixed_calls() -> Vec<u32> {
     group.iter().cycle().take(BATCH).flat_map(|call| call.words()).collect()
 }
 
+/// The same symbol for the last scratch register, again and again.
+fn symbol_calls() -> Vec<u32> {
+    Call::Symbol { d: SCRATCH[3], code: 65 }.words().repeat(BATCH)
+}
+
 /// A day in calls: readings of four feeds an hour, each a bracket of feed, unit and value. The list
 /// is filled up with calls that ask for the number of readings.
 fn day_calls() -> Vec<u32> {
@@ -156,7 +193,11 @@ fn day() -> Lent {
 /// What is timed, with the check that precedes it.
 #[derive(Clone, Copy)]
 enum Work<'a> {
+    /// A fresh store in place of the lent one.
+    Fresh,
     Check,
+    /// A look at register 0.
+    Look,
     Collect,
     /// A batch of one LIVE call.
     Live,
@@ -167,7 +208,9 @@ enum Work<'a> {
 impl<'a> Work<'a> {
     fn name(self) -> &'static str {
         match self {
+            Work::Fresh => "fresh",
             Work::Check => "check",
+            Work::Look => "look",
             Work::Collect => "collect",
             Work::Live => "live",
             Work::Run(_) => "run",
@@ -178,9 +221,9 @@ impl<'a> Work<'a> {
     fn calls(self) -> &'a [u32] {
         const LIVE: [u32; 4] = Call::Live.words();
         match self {
-            Work::Check | Work::Collect => &[],
             Work::Live => &LIVE,
             Work::Run(calls) => calls,
+            _ => &[],
         }
     }
 
@@ -188,7 +231,12 @@ impl<'a> Work<'a> {
     fn library(self) -> Contender<'a> {
         let told = |raw::Reply { status, value, top }| Reply { status, value, top };
         match self {
+            Work::Fresh => Box::new(move |words, _, _| told(raw::fresh(words))),
             Work::Check => Box::new(move |words, top, _| told(raw::check(words, top))),
+            Work::Look => Box::new(|words, top, _| {
+                let raw::Span { from, to } = raw::look(words, top, 0);
+                seen(from, to)
+            }),
             Work::Collect => Box::new(move |words, top, _| told(raw::collect(words, top))),
             Work::Live | Work::Run(_) => Box::new(move |words, top, answers| {
                 told(raw::run(words, top, self.calls(), answers))
@@ -196,55 +244,65 @@ impl<'a> Work<'a> {
         }
     }
 
-    /// The ordinary store at this work.
-    fn ordinary<M: Marks + 'a>(self) -> Contender<'a> {
-        let mut tables = Ordinary::<M>::new();
+    /// An ordinary store at this work.
+    fn ordinary<C: Checks + 'a, M: Marks + 'a>(self, mut store: Ordinary<C, M>) -> Contender<'a> {
         match self {
-            Work::Check => Box::new(|words, top, _| ordinary::check(words, top)),
-            Work::Collect => Box::new(move |words, top, _| tables.collect(words, top)),
+            Work::Fresh => Box::new(|words, _, _| ordinary::fresh(words)),
+            Work::Check => Box::new(move |words, top, _| store.check(words, top)),
+            Work::Look => Box::new(move |words, top, _| {
+                let (from, to) = store.look(words, top, 0);
+                seen(from, to)
+            }),
+            Work::Collect => Box::new(move |words, top, _| store.collect(words, top)),
             Work::Live | Work::Run(_) => {
-                Box::new(move |words, top, answers| tables.run(words, top, self.calls(), answers))
+                Box::new(move |words, top, answers| store.run(words, top, self.calls(), answers))
             }
         }
     }
 
-    /// All at this work. A check marks nothing, so one ordinary store does for it. Without `walks`
-    /// those are left out that go through every run.
+    /// All at this work, but no two that do the same: a fresh store takes no check, and a look no
+    /// marking. Without `walks` those are left out that go through every run.
     fn contenders(self, walks: bool) -> Columns<Contender<'a>> {
-        let library = Some(self.library());
-        match self {
-            Work::Check => [library, Some(self.ordinary::<Bytes>()), None, None],
-            _ => [
-                library,
-                walks.then(|| self.ordinary::<Bytes>()),
-                walks.then(|| self.ordinary::<Bits>()),
-                Some(self.ordinary::<Linear>()),
-            ],
-        }
+        let checks = !matches!(self, Work::Fresh);
+        let marks = checks && !matches!(self, Work::Check | Work::Look);
+        [
+            Some(self.library()),
+            walks.then(|| self.ordinary(Usual::default())),
+            (walks && marks).then(|| self.ordinary(WithBits::default())),
+            checks.then(|| self.ordinary(Better::default())),
+        ]
     }
 }
 
-/// Copies of a store, as many as stay in the nearer caches, on which work is timed together.
+/// What a look finds, as a reply.
+fn seen(from: usize, to: usize) -> Reply {
+    Reply { status: 0, value: from as u32, top: to }
+}
+
+/// Copies of a store on which work is timed together, and room for answers.
 struct Copies {
     words: Vec<Vec<u32>>,
     answers: Vec<u32>,
 }
 
 impl Copies {
+    /// As many as stay in the nearer caches, or one for a batch, which is long enough by itself.
     fn of(store: &Lent, work: Work) -> Copies {
-        let count = (1 << 16) / store.0.len();
-        let words = vec![store.0.clone(); count.clamp(1, 64)];
-        Copies { words, answers: vec![0; work.calls().len() / 2] }
+        let count = match work {
+            Work::Run(_) => 1,
+            _ => ((1 << 16) / store.0.len()).clamp(1, 64),
+        };
+        Copies { words: vec![store.0.clone(); count], answers: vec![0; work.calls().len() / 2] }
     }
 
-    /// The time of one call on one copy, each of which is written anew before.
-    fn time(&mut self, store: &Lent, contender: &mut Contender) -> Duration {
+    /// Microseconds of one call on one copy, each of which is written anew before.
+    fn time(&mut self, store: &Lent, contender: &mut Contender) -> f64 {
         self.words.iter_mut().for_each(|copy| copy.copy_from_slice(&store.0));
         let start = Instant::now();
         for copy in &mut self.words {
             black_box(contender(black_box(copy), store.1, &mut self.answers));
         }
-        start.elapsed() / self.words.len() as u32
+        1e6 * start.elapsed().as_secs_f64() / self.words.len() as f64
     }
 }
 
@@ -252,7 +310,7 @@ impl Copies {
 fn contest(store: &Lent, work: Work, mut contenders: Columns<Contender>) -> Columns<f64> {
     assert_same(store, work, &mut contenders);
     let mut copies = Copies::of(store, work);
-    let mut timed = contenders.map(|column| column.map(|contender| (contender, Duration::MAX)));
+    let mut timed = contenders.map(|column| column.map(|contender| (contender, f64::MAX)));
     let limit = ROW_TIME * timed.iter().flatten().count() as u32;
     let (start, mut rounds) = (Instant::now(), 0);
     while rounds < LEAST_ROUNDS || start.elapsed() < limit {
@@ -261,7 +319,7 @@ fn contest(store: &Lent, work: Work, mut contenders: Columns<Contender>) -> Colu
         }
         rounds += 1;
     }
-    timed.map(|column| column.map(|(_, least)| least.as_nanos() as f64 / 1000.0))
+    timed.map(|column| column.map(|(_, least)| least))
 }
 
 fn assert_same(store: &Lent, work: Work, contenders: &mut Columns<Contender>) {
@@ -275,6 +333,15 @@ fn assert_same(store: &Lent, work: Work, contenders: &mut Columns<Contender>) {
     assert!(after.windows(2).all(|pair| pair[0] == pair[1]), "contenders differ");
 }
 
+/// A time in microseconds, to the nanosecond where it is short.
+fn micros(time: f64) -> String {
+    if time < 1.0 {
+        format!("{time:.3}")
+    } else {
+        format!("{time:.2}")
+    }
+}
+
 /// Prints one row: the times, and the library's for each occupied cell and as a multiple of the
 /// others.
 fn row(work: Work, of: &str, store: &Lent, walks: bool) {
@@ -285,46 +352,55 @@ fn row(work: Work, of: &str, store: &Lent, walks: bool) {
         _ => format!(" {:.2}", 1000.0 * library / store.1 as f64),
     };
     let others = others.map(|other| match other {
-        Some(other) => format!(" {other:.2} | {:.2} |", library / other),
+        Some(other) => format!(" {} | {:.2} |", micros(other), library / other),
         None => " | |".to_string(),
     });
-    println!("| {}, {of} | {library:.2} |{per_cell} |{}", work.name(), others.concat());
+    println!("| {}, {of} | {} |{per_cell} |{}", work.name(), micros(library), others.concat());
 }
 
 fn table(title: &str) {
     println!("\n{title}\n");
     println!(
-        "| work | library, µs | per cell, ns | ordinary, µs | ratio | ordinary with bits, µs | ratio \
-         | ordinary linear, µs | ratio |"
+        "| work | library, µs | per cell, ns | ordinary, µs | ratio | ordinary with bits, µs \
+         | ratio | better, µs | ratio |"
     );
     println!("|---|--:|--:|--:|--:|--:|--:|--:|--:|");
 }
 
-/// The stores that a reader may have.
-fn stores() {
-    table("Five stores. `live` is a batch of one LIVE call, `run` is one of 1,024 calls.");
-    let stores = [
-        ("site", site(4096, 2000)),
-        ("half dead", half_dead(4096)),
-        ("all live", all_live(4096)),
-        ("readings", readings(4096)),
-        ("day", day()),
-    ];
-    for work in [Work::Check, Work::Collect, Work::Live] {
-        stores.iter().for_each(|(name, store)| row(work, name, store, true));
-    }
-    let calls = mixed_calls();
-    stores[..2].iter().for_each(|(name, store)| row(Work::Run(&calls), name, store, true));
-    row(Work::Run(&day_calls()), "day from its start", &empty_store(1024), true);
+/// A row for each of some named stores.
+fn rows(work: Work, stores: &[(&str, Lent)]) {
+    stores.iter().for_each(|(name, store)| row(work, name, store, true));
 }
 
-/// One kind of store at capacities from 64 cells to the largest, each twice the one before.
+/// The stores that a reader may have.
+fn stores() {
+    table("Stores. `live` is a batch of one LIVE call, `run` is one of 1,024 calls.");
+    let stores = [
+        ("day", day()),
+        ("half dead", half_dead(4096)),
+        ("site", site(4096, 2000)),
+        ("random", random(4096)),
+        ("all live", all_live(4096)),
+        ("readings", readings(4096)),
+    ];
+    rows(Work::Fresh, &[("64 cells", all_live(64)), ("4096 cells", all_live(4096))]);
+    rows(Work::Check, &stores);
+    rows(Work::Look, &stores[..2]);
+    rows(Work::Collect, &stores);
+    rows(Work::Live, &stores);
+    rows(Work::Run(&day_calls()), &[("day from its start", empty_store(1024))]);
+    rows(Work::Run(&mixed_calls()), &stores[1..4]);
+    let full = [("forced", one_dead(4096)), ("no room", all_live(4096))];
+    rows(Work::Run(&symbol_calls()), &full);
+}
+
+/// One kind of store at growing capacities.
 fn growth(title: &str, store: impl Fn(usize) -> Lent, works: &[Work], overlaps: bool) {
     table(title);
     for &work in works {
-        for cells in iter::successors(Some(64), |cells| Some(2 * cells)) {
+        for cells in SIZES.into_iter().filter(|&cells| cells < MOST_CELLS).chain([MOST_CELLS]) {
             let large = cells > ALL_UP_TO;
-            if cells > MOST_CELLS || large && matches!(work, Work::Run(_)) {
+            if large && matches!(work, Work::Run(_)) {
                 break;
             }
             row(work, &format!("{cells} cells"), &store(cells), !(large && overlaps));

@@ -7,11 +7,13 @@
 use crate::plain::{put, Cell, BRACKET, HEAP, MOST_CODE};
 use crate::random::Random;
 
-/// How long the runs of a random store are.
+/// How long the runs of a random store are, and where they lie.
 #[derive(Clone, Copy, Debug, PartialEq, Eq)]
 pub enum Runs {
     /// One to four cells.
     Short,
+    /// One to eight cells, more often those just below than those far down.
+    Recent,
     /// Anything that fits.
     Any,
 }
@@ -26,13 +28,18 @@ pub fn capacity(random: &mut Random) -> usize {
 }
 
 /// The ends of a run of cells from 16 up to but not including `limit`, or none if there is no cell.
-fn run(random: &mut Random, limit: usize, runs: Runs) -> Option<(usize, usize)> {
+pub fn run(random: &mut Random, limit: usize, runs: Runs) -> Option<(usize, usize)> {
     if limit <= HEAP {
         return None;
     }
-    let end = random.within(HEAP..=limit - 1);
+    let lowest = match runs {
+        Runs::Short | Runs::Any => HEAP,
+        Runs::Recent => random.within(HEAP..=limit - 1),
+    };
+    let end = random.within(lowest..=limit - 1);
     let other = match runs {
         Runs::Short => end.saturating_sub(random.below(4)).max(HEAP),
+        Runs::Recent => end.saturating_sub(random.below(8)).max(HEAP),
         Runs::Any => random.within(HEAP..=limit - 1),
     };
     Some((end.min(other), end.max(other)))

@@ -1,209 +1,37 @@
 //! The same store written for speed, the measure of the benchmarks.
 //!
 //! It is what one writes who may use memory beside the store: marks in a side table and a table of
-//! new addresses, all kept from call to call so that nothing is allocated twice. There are three
-//! ways of marking, and nothing else differs:
-//!
-//! - [`Bytes`], the usual way: a byte a cell, and runs on an explicit stack.
-//! - [`Bits`]: a bit a cell and the same stack. It passes over what is marked 64 cells at a time
-//!   where runs overlap.
-//! - [`Linear`]: an address a cell and no stack. It looks at every cell once, however runs overlap.
+//! new addresses, all kept from call to call so that nothing is allocated twice. A store chooses
+//! how it [checks](Checks) and how it [marks](Marks), and nothing else differs. There are three:
+//! [`Usual`], [`WithBits`] and [`Better`].
 //!
 //! Statuses, values and words are those of [`plain`](crate::plain); a test holds them equal.
 
+mod checks;
+mod marks;
+
+pub use checks::{ByBlocks, Checks, OneByOne};
+pub use marks::{BitSet, ByteSet, Linear, Marks, Set, Walk};
+
 use crate::plain::{Reply, BRACKET, HEAP, MOST_CALL_WORDS, MOST_CELLS, MOST_CODE};
 
-/// A way of marking.
-pub trait Marks: Default {
-    /// Marks what is reached in a sound store, nothing else, and gives its number.
-    fn mark(&mut self, words: &[u32], top: usize) -> usize;
-    /// Whether heap cell `c` is marked.
-    fn has(&self, c: usize) -> bool;
-}
-
-/// A set of cells.
-pub trait Set: Default {
-    /// Empties the set and makes room for `cells` cells.
-    fn reset(&mut self, cells: usize);
-    /// Adds cells `l` to `r` and hands those that were not in it to `fresh`.
-    fn add(&mut self, l: usize, r: usize, fresh: impl FnMut(usize));
-    /// Whether cell `c` is in it.
-    fn has(&self, c: usize) -> bool;
-}
-
-/// A byte for each cell.
+/// The store with a check, a way of marking and the side tables of the collector.
 #[derive(Debug, Default)]
-pub struct ByteSet(Vec<bool>);
-
-impl Set for ByteSet {
-    fn reset(&mut self, cells: usize) {
-        self.0.clear();
-        self.0.resize(cells, false);
-    }
-
-    fn add(&mut self, l: usize, r: usize, mut fresh: impl FnMut(usize)) {
-        for (i, mark) in self.0[l..=r].iter_mut().enumerate() {
-            if !*mark {
-                *mark = true;
-                fresh(l + i);
-            }
-        }
-    }
-
-    fn has(&self, c: usize) -> bool {
-        self.0[c]
-    }
-}
-
-/// A bit for each cell.
-#[derive(Debug, Default)]
-pub struct BitSet(Vec<u64>);
-
-impl Set for BitSet {
-    fn reset(&mut self, cells: usize) {
-        self.0.clear();
-        self.0.resize(cells.div_ceil(64), 0);
-    }
-
-    fn add(&mut self, l: usize, r: usize, mut fresh: impl FnMut(usize)) {
-        for block in l / 64..=r / 64 {
-            let from = if block == l / 64 { !0 << (l % 64) } else { !0 };
-            let upto = if block == r / 64 { !0 >> (63 - r % 64) } else { !0 };
-            let mut new = from & upto & !self.0[block];
-            self.0[block] |= new;
-            while new != 0 {
-                fresh(64 * block + new.trailing_zeros() as usize);
-                new &= new - 1;
-            }
-        }
-    }
-
-    fn has(&self, c: usize) -> bool {
-        self.0[c / 64] >> (c % 64) & 1 == 1
-    }
-}
-
-/// Marking run by run: the cells met are in a set, the runs still to go through on a stack.
-#[derive(Debug, Default)]
-pub struct Walk<S> {
-    met: S,
-    runs: Vec<(usize, usize)>,
-}
-
-/// The walk with a byte for each cell.
-pub type Bytes = Walk<ByteSet>;
-/// The walk with a bit for each cell.
-pub type Bits = Walk<BitSet>;
-
-impl<S: Set> Marks for Walk<S> {
-    fn mark(&mut self, words: &[u32], top: usize) -> usize {
-        self.met.reset(top);
-        self.runs.clear();
-        self.runs.extend((0..HEAP).filter_map(|register| ends(words, register)));
-        let mut live = 0;
-        while let Some((l, r)) = self.runs.pop() {
-            let runs = &mut self.runs;
-            self.met.add(l, r, |c| {
-                live += 1;
-                runs.extend(ends(words, c));
-            });
-        }
-        live
-    }
-
-    fn has(&self, c: usize) -> bool {
-        self.met.has(c)
-    }
-}
-
-/// Marking in one sweep down.
-///
-/// The table has, for each cell, the lowest left end of the reached runs that end there, and after
-/// the sweep that of those that end there or above.
-#[derive(Debug, Default)]
-pub struct Linear(Vec<u32>);
-
-impl Linear {
-    /// Enters the run of the reached holder at `c`.
-    #[inline]
-    fn enter(&mut self, words: &[u32], c: usize) {
-        if let Some((l, r)) = ends(words, c) {
-            self.0[r] = self.0[r].min(l as u32);
-        }
-    }
-}
-
-impl Marks for Linear {
-    fn mark(&mut self, words: &[u32], top: usize) -> usize {
-        self.0.clear();
-        self.0.resize(top, u32::MAX);
-        (0..HEAP).for_each(|register| self.enter(words, register));
-        let (mut lowest, mut live) = (u32::MAX, 0);
-        // Contents lie below their bracket, so all runs over a cell are entered when it is met.
-        for c in (HEAP..top).rev() {
-            lowest = lowest.min(self.0[c]);
-            self.0[c] = lowest;
-            if self.has(c) {
-                live += 1;
-                self.enter(words, c);
-            }
-        }
-        live
-    }
-
-    fn has(&self, c: usize) -> bool {
-        self.0[c] as usize <= c
-    }
-}
-
-/// Side tables of the collector.
-#[derive(Debug, Default)]
-pub struct Ordinary<M> {
+pub struct Ordinary<C, M> {
+    checks: C,
     marks: M,
     place: Vec<u32>,
 }
 
-/// Whether two words are a bracket in order. `limit` is the cell's own address, or `top` in a
-/// register.
-fn bracket_in_order(first: u32, second: u32, limit: u32) -> bool {
-    // Any stray flag puts the right end beyond every limit.
-    let right = second ^ BRACKET;
-    if right == 0 {
-        first == 0
-    } else {
-        HEAP as u32 <= first && first <= right && right < limit
-    }
-}
+/// The usual store: checked cell by cell, marked with a byte a cell.
+pub type Usual = Ordinary<OneByOne, Walk<ByteSet>>;
+/// The usual store with a bit a cell in place of the byte.
+pub type WithBits = Ordinary<OneByOne, Walk<BitSet>>;
+/// The better store: checked by blocks, marked in one sweep.
+pub type Better = Ordinary<ByBlocks, Linear>;
 
-/// The first damaged cell.
-fn damaged(words: &[u32], top: usize) -> Option<usize> {
-    let (registers, heap) = words.split_at(2 * HEAP);
-    let (heap, beyond) = heap.split_at(2 * (top - HEAP));
-    let register = |cell: &[u32]| bracket_in_order(cell[0], cell[1], top as u32);
-    if let Some(c) = registers.chunks_exact(2).position(|cell| !register(cell)) {
-        return Some(c);
-    }
-    for (c, cell) in (HEAP as u32..).zip(heap.chunks_exact(2)) {
-        let symbol = cell[1] == 0 && cell[0] <= MOST_CODE;
-        if !symbol && !bracket_in_order(cell[0], cell[1], c) {
-            return Some(c as usize);
-        }
-    }
-    beyond.iter().position(|&word| word != 0).map(|i| top + i / 2)
-}
-
-/// The check.
-pub fn check(words: &[u32], top: usize) -> Reply {
-    let n = words.len();
-    let (status, value) = if n % 2 != 0 || !(2 * HEAP..=2 * MOST_CELLS).contains(&n) {
-        (1, 0)
-    } else if top < HEAP || top > n / 2 {
-        (2, 0)
-    } else {
-        damaged(words, top).map_or((0, 0), |c| (3, c as u32))
-    };
-    Reply { status, value, top }
-}
+/// Both words of an empty bracket.
+const EMPTY: [u32; 2] = [0, BRACKET];
 
 /// The ends of a bracket with contents.
 #[inline]
@@ -228,6 +56,37 @@ fn set(words: &mut [u32], c: usize, cell: [u32; 2]) {
 #[inline]
 fn on(l: usize, r: usize) -> [u32; 2] {
     [l as u32, BRACKET | r as u32]
+}
+
+/// The cell at `c` with its ends at their new addresses.
+#[inline]
+fn mended(words: &[u32], place: &[u32], c: usize) -> [u32; 2] {
+    match ends(words, c) {
+        Some((l, r)) => [place[l], BRACKET | place[r]],
+        None => pair(words, c),
+    }
+}
+
+/// Packs the marked cells low, fills `place` with the new addresses and gives the new `top`. Both
+/// slices end at the old one. As arguments they are known to lie apart, so that the loop need not
+/// look again where they are.
+fn slide(words: &mut [u32], place: &mut [u32], marks: &impl Marks) -> usize {
+    let mut next = HEAP;
+    // Contents lie below their bracket, so their new addresses are known when it moves.
+    for c in HEAP..place.len() {
+        place[c] = next as u32;
+        if marks.has(c) {
+            let moved = mended(words, place, c);
+            set(words, next, moved);
+            next += 1;
+        }
+    }
+    for register in 0..HEAP {
+        let moved = mended(words, place, register);
+        set(words, register, moved);
+    }
+    words[2 * next..].fill(0);
+    next
 }
 
 /// Which operand words of an operation are registers and which are unused, as bits: d 1, a 2, b 4.
@@ -264,47 +123,55 @@ fn misspelt(call: &[u32]) -> u32 {
     }
 }
 
-impl<M: Marks> Ordinary<M> {
-    /// No tables yet.
-    pub fn new() -> Self {
-        Ordinary { marks: M::default(), place: Vec::new() }
+/// Whether a slice of `n` words may hold a store.
+fn fits(n: usize) -> bool {
+    n % 2 == 0 && (2 * HEAP..=2 * MOST_CELLS).contains(&n)
+}
+
+/// A fresh store, or refusal 1. Nothing is checked or marked, so it is the same for all.
+pub fn fresh(words: &mut [u32]) -> Reply {
+    if !fits(words.len()) {
+        return Reply { status: 1, value: 0, top: 0 };
+    }
+    let (registers, rest) = words.split_at_mut(2 * HEAP);
+    registers.chunks_exact_mut(2).for_each(|cell| cell.copy_from_slice(&EMPTY));
+    rest.fill(0);
+    Reply { status: 0, value: 0, top: HEAP }
+}
+
+impl<C: Checks, M: Marks> Ordinary<C, M> {
+    /// The check.
+    pub fn check(&self, words: &[u32], top: usize) -> Reply {
+        let n = words.len();
+        let (status, value) = if !fits(n) {
+            (1, 0)
+        } else if top < HEAP || top > n / 2 {
+            (2, 0)
+        } else {
+            self.checks.damaged(words, top).map_or((0, 0), |c| (3, c as u32))
+        };
+        Reply { status, value, top }
+    }
+
+    /// A look at a register: the part of the words that holds its cells, as offsets.
+    pub fn look(&self, words: &[u32], top: usize, register: usize) -> (usize, usize) {
+        if register >= HEAP || self.check(words, top).status != 0 {
+            return (0, 0);
+        }
+        ends(words, register).map_or((0, 0), |(l, r)| (2 * l, 2 * r + 2))
     }
 
     /// Collects a sound store and gives the new `top`.
     fn compact(&mut self, words: &mut [u32], top: usize) -> usize {
         self.marks.mark(words, top);
-        self.place.clear();
-        self.place.resize(top, 0);
-        let mut next = HEAP;
-        // Contents lie below their bracket, so their new addresses are known when it moves.
-        for c in HEAP..top {
-            self.place[c] = next as u32;
-            if self.marks.has(c) {
-                let moved = self.mended(words, c);
-                set(words, next, moved);
-                next += 1;
-            }
-        }
-        for register in 0..HEAP {
-            let moved = self.mended(words, register);
-            set(words, register, moved);
-        }
-        words[2 * next..2 * top].fill(0);
-        next
-    }
-
-    /// The cell at `c` with its ends at their new addresses.
-    #[inline]
-    fn mended(&self, words: &[u32], c: usize) -> [u32; 2] {
-        match ends(words, c) {
-            Some((l, r)) => [self.place[l], BRACKET | self.place[r]],
-            None => pair(words, c),
-        }
+        // An address is written before it is read, so what an earlier collection left may stay.
+        self.place.resize(self.place.len().max(top), 0);
+        slide(&mut words[..2 * top], &mut self.place[..top], &self.marks)
     }
 
     /// Collecting alone.
     pub fn collect(&mut self, words: &mut [u32], top: usize) -> Reply {
-        let checked = check(words, top);
+        let checked = self.check(words, top);
         if checked.status != 0 {
             return checked;
         }
@@ -374,7 +241,7 @@ impl<M: Marks> Ordinary<M> {
         }
         let (d, a, b) = (call[1] as usize, call[2] as usize, call[3] as usize);
         match call[0] {
-            0 => set(words, d, [0, BRACKET]),
+            0 => set(words, d, EMPTY),
             1 => set(words, d, pair(words, a)),
             2 => self.lay(words, top, d, |_| [call[2], 0])?,
             3 => self.lay(words, top, d, |words| pair(words, a))?,
@@ -398,7 +265,7 @@ impl<M: Marks> Ordinary<M> {
         calls: &[u32],
         answers: &mut [u32],
     ) -> Reply {
-        let checked = check(words, top);
+        let checked = self.check(words, top);
         if checked.status != 0 {
             return checked;
         }
@@ -428,7 +295,7 @@ fn first(words: &mut [u32], operation: u32, d: usize, a: usize) -> Result<usize,
     let [first, second] = pair(words, l);
     match operation {
         5 => set(words, d, on(l, l)),
-        6 if l == r => set(words, d, [0, BRACKET]),
+        6 if l == r => set(words, d, EMPTY),
         6 => set(words, d, on(l + 1, r)),
         7 if second != 0 => set(words, d, [first, second]),
         9 if second == 0 => return Ok(first as usize),

@@ -1,6 +1,6 @@
 //! The three parts of the model, held against each other and against the rules said word for word.
 
-use zelmotar_model::ordinary::{self, Bits, Bytes, Linear, Marks, Ordinary};
+use zelmotar_model::ordinary::{self, Better, Checks, Marks, Ordinary, Usual, WithBits};
 use zelmotar_model::plain::{self, HEAP};
 use zelmotar_model::random::Random;
 use zelmotar_model::trees::Trees;
@@ -52,7 +52,8 @@ fn random_sound_stores_are_sound() {
     let mut random = Random::of("sound stores");
     for _ in 0..5_000 {
         let capacity = make::capacity(&mut random);
-        let (words, top) = make::sound(&mut random, capacity, Runs::Any);
+        let runs = random.pick(&[Runs::Short, Runs::Recent, Runs::Any]);
+        let (words, top) = make::sound(&mut random, capacity, runs);
         assert_eq!(plain::check(&words, top).status, 0, "{words:?} {top}");
     }
 }
@@ -105,9 +106,9 @@ fn plain_calls_mean_what_trees_say() {
     }
 }
 
-/// Holds the quick store against the plain one on one batch and on collecting alone.
-fn same_as_plain<M: Marks>(
-    tables: &mut Ordinary<M>,
+/// Holds the quick store against the plain one: one batch, collecting alone, check and looks.
+fn same_as_plain<C: Checks, M: Marks>(
+    quick: &mut Ordinary<C, M>,
     words: &[u32],
     top: usize,
     calls: &[u32],
@@ -116,22 +117,25 @@ fn same_as_plain<M: Marks>(
     let mut ours = (words.to_vec(), answers.to_vec());
     let mut theirs = ours.clone();
     let expected = plain::run(&mut theirs.0, top, calls, &mut theirs.1);
-    assert_eq!(tables.run(&mut ours.0, top, calls, &mut ours.1), expected);
+    assert_eq!(quick.run(&mut ours.0, top, calls, &mut ours.1), expected);
     assert_eq!(ours, theirs);
     let (mut ours, mut theirs) = (words.to_vec(), words.to_vec());
-    assert_eq!(tables.collect(&mut ours, top), plain::collect(&mut theirs, top));
+    assert_eq!(quick.collect(&mut ours, top), plain::collect(&mut theirs, top));
     assert_eq!(ours, theirs);
-    assert_eq!(ordinary::check(words, top), plain::check(words, top));
+    assert_eq!(quick.check(words, top), plain::check(words, top));
+    for register in 0..=HEAP {
+        assert_eq!(quick.look(words, top, register), plain::look(words, top, register));
+    }
 }
 
 #[test]
 fn the_quick_store_is_the_plain_store() {
     let mut random = Random::of("quick");
-    let (mut bytes, mut bits) = (Ordinary::<Bytes>::new(), Ordinary::<Bits>::new());
-    let mut linear = Ordinary::<Linear>::new();
+    let (mut usual, mut bits) = (Usual::default(), WithBits::default());
+    let mut better = Better::default();
     for _ in 0..20_000 {
         let capacity = make::capacity(&mut random);
-        let runs = random.pick(&[Runs::Short, Runs::Any]);
+        let runs = random.pick(&[Runs::Short, Runs::Recent, Runs::Any]);
         let (mut words, mut top) = make::sound(&mut random, capacity, runs);
         if random.one_in(3) {
             make::damage(&mut random, &mut words, &mut top);
@@ -139,8 +143,19 @@ fn the_quick_store_is_the_plain_store() {
         let count = random.below(12);
         let calls = make::calls(&mut random, count);
         let answers = make::answers(&mut random, calls.len());
-        same_as_plain(&mut bytes, &words, top, &calls, &answers);
+        same_as_plain(&mut usual, &words, top, &calls, &answers);
         same_as_plain(&mut bits, &words, top, &calls, &answers);
-        same_as_plain(&mut linear, &words, top, &calls, &answers);
+        same_as_plain(&mut better, &words, top, &calls, &answers);
+    }
+}
+
+#[test]
+fn the_quick_fresh_store_is_the_plain_one() {
+    let mut random = Random::of("fresh");
+    for n in 0..=8200 {
+        let mut ours: Vec<u32> = (0..n).map(|_| random.word()).collect();
+        let mut theirs = ours.clone();
+        assert_eq!(ordinary::fresh(&mut ours), plain::fresh(&mut theirs));
+        assert_eq!(ours, theirs);
     }
 }
