@@ -31,7 +31,7 @@ use Rattle.collect.specs.Chain.{Heap, full, holder, Proper, place, place
 use Rattle.collect.specs.Step.{lowered}
 use Rattle.collect.specs.Passes.{fullWord, Sweeping, Sweeps, Layable, Lowerable, Lowers, Settleable}
 use Rattle.collect.specs.Passes.{Settles, Cleared}
-use Rattle.collect.proofs.Fields.{Fields, cell-fields, ends-in, second-lt}
+use Rattle.meaning.proofs.Fields.{Fields, cell-fields, ends-in, second-lt}
 use Rattle.collect.proofs.Order.{holder-br, holder-full}
 use Rattle.collect.proofs.Places.{new-bound, place-own, place-packed, place-up}
 use Rattle.collect.proofs.Swept.{swept-place, swept-free, swept-kept, place-onto}

@@ -24,8 +24,8 @@ use Rattle.meaning.proofs.Determined.{new-first, new-after, new-skip}
 use Rattle.collect.specs.Cells.{cell}
 use Rattle.collect.specs.Chain.{Heap, holder, Proper, oldCell, SweptTo}
 use Rattle.collect.specs.Passes.{fullWord, Begun}
-use Rattle.collect.proofs.Fields.{Fields, cell-fields, cell-ends, cell-plain, full-ends, ends-full, ends-in}
-use Rattle.collect.proofs.Fields.{ends-down}
+use Rattle.meaning.proofs.Fields.{Fields, cell-fields, cell-ends, cell-plain, full-ends, ends-full, ends-in}
+use Rattle.meaning.proofs.Fields.{ends-down}
 use Rattle.collect.proofs.Counting.{both-true}
 use Rattle.collect.proofs.Spots.{last-zero, whole-l, ahead-r, spot-ahead}
 

@@ -1,5 +1,4 @@
 -- Laws that belong to no one function, for this crate's proofs and its callers'. In order:
---   Fields     what the fields of a sound store's cells are
 --   Counting   the count of cells below an address that are in a set
 --   Order      the order of the sweep
 --   Places     where it puts the cells
@@ -13,7 +12,6 @@
 --   Alone      collecting alone, by the answer of the check
 --   Final      collecting's statement leaves no second outcome
 -- Assumes nothing.
-pub mod Fields
 pub mod Counting
 pub mod Order
 pub mod Places

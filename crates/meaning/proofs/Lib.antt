@@ -1,6 +1,7 @@
 -- The laws of the definitions, for the crates above to cite. In order, each using only those before it:
 --   Lists       ascending lists of numbers, and counts of what is below a number
 --   Cells       what soundness says of a store's cells, and back to words; what is known of the limit and of codes
+--   Fields      what the words and fields of a sound store's cells are
 --   Terms       the meaning of cells, along a map of addresses
 --   Reaching    the computed list has exactly the reached cells, in ascending order
 --   Laid        the words of cells laid out one after the other
@@ -22,6 +23,7 @@
 -- Assumes nothing.
 pub mod Lists
 pub mod Cells
+pub mod Fields
 pub mod Terms
 pub mod Reaching
 pub mod Laid

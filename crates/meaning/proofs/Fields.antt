@@ -1,16 +1,11 @@
--- What `at ws c` says of the words and fields of cell c of a sound store, for every c, also past the end. In order:
---   cell-words   the two words of cell c are those of `at ws c`
---   cell-term    `at ws c` is a term whose ends lie from F on and below `top`
+-- What `at ws c` says of the words and fields of cell c of a sound store, for every c, also past the end, where it reads
+-- as a symbol of code 0 whatever a code may be. In order:
+--   Fields       what a cell's kind says of its first word and its second word's fields
+--   cell-fields  that it holds;  second-lt  a second word is below 2 ^ 32
 --   cell-ends    `ends l r`: first word l, second word's fields `plain true r`, 0 < r
---   cell-hollow  `hollow`: first word 0, fields `plain true 0`
---   cell-code    `code a`: first word a, fields `plain false 0`, a below 2 ^ 28
---   ends-in      the ends of any cell: F ≤ l ≤ r < top
---   ends-down    of a heap cell, r < c
---   cell-plain   no second word has a mark or a chain;  cell-unmarked: no mark, as a flag
---   second-lt    a second word is below 2 ^ 32
---   full         the test `words::is_full`
---   full-ends    where it says yes, the cell is `ends` of its words
---   ends-full    and where the cell is `ends`, it says yes
+--   ends-in      the ends of any cell: F ≤ l ≤ r < top;  ends-down  of a heap cell, r < c
+--   cell-plain   no second word has a mark or a chain
+--   full-ends    where `words::is_full` says yes, the cell is `ends` of its words;  ends-full  and the other way
 -- Assumes nothing.
 use mathlib.Core.Path.{_≡_, refl, sym, ap, _∙_, subst}
 use mathlib.Core.Logic.{_⊎_, inl, inr}
@@ -24,42 +19,50 @@ use borrow.Author.Tests.{ne-eqb}
 use Rattle.words.specs.Cell.{firstWord, secondWord}
 use Rattle.words.specs.Second.{Second, decode, plain}
 use Rattle.words.proofs.Plain.{decode-zero, decode-bracket}
-use Rattle.meaning.specs.Limits.{codeTest}
 use Rattle.meaning.specs.Sound.{Cell, code, hollow, ends, fst, snd, at, Sound}
 use Rattle.meaning.proofs.Lists.{lt-or-ge}
 use Rattle.meaning.proofs.Cells.{limit-fits, code-fits, TermIn, term-of-bracket, good}
 use Rattle.meaning.proofs.Cells.{read, Words, bracket-words, term-words}
-use Rattle.meaning.proofs.Writing.{termIn-wider}
 
 -- a bracket with contents, whatever its mark and chains
-abbrev pub full : Second → Bool
+abbrev full : Second → Bool
 full f = f .br && not (eqb (f .ri) 0)
 
 -- ---- a cell and its words
 
--- what a cell's kind says of its first word and its second word's fields
 abbrev pub Fields : Cell → ℕ → Second → Type 0
 Fields (code a) x s = (x ≡ a) × (s ≡ plain false 0) × (a < 2 ^ 28)
 Fields hollow x s = (x ≡ 0) × (s ≡ plain true 0)
 Fields (ends l r) x s = (x ≡ l) × (s ≡ plain true r) × (0 < r)
 
-fields-of : (F lim : ℕ) (k : Cell) → 0 < F → lim ≤ 2 ^ 28 → TermIn F lim k → Fields k (fst k) (decode (snd k))
-fields-of F lim (code a) p m h = (refl, decode-zero, code-fits a h)
+-- a cell whose numbers fit: all that is asked of one past the end
+abbrev Fitting : ℕ → ℕ → Cell → Type 0
+Fitting F lim (code a) = a < 2 ^ 28
+Fitting F lim hollow = Unit {0}
+Fitting F lim (ends l r) = (F ≤ l) × (l ≤ r) × (r < lim)
+
+fitting : (F lim lim′ : ℕ) (k : Cell) → lim ≤ lim′ → TermIn F lim k → Fitting F lim′ k
+fitting F lim lim′ (code a) m h = code-fits a h
+fitting F lim lim′ hollow m h = h
+fitting F lim lim′ (ends l r) m h = (h .0, h .1, omega (arith, h .2))
+
+fields-of : (F lim : ℕ) (k : Cell) → 0 < F → lim ≤ 2 ^ 28 → Fitting F lim k → Fields k (fst k) (decode (snd k))
+fields-of F lim (code a) p m h = (refl, decode-zero, h)
 fields-of F lim hollow p m h = (refl, decode-bracket 0 (omega arith))
 fields-of F lim (ends l r) p m h = (refl, decode-bracket r (omega (arith, h .2)), omega (arith, h .0, h .1))
 
-snd-lt : (F lim : ℕ) (k : Cell) → lim ≤ 2 ^ 28 → TermIn F lim k → snd k < 2 ^ 32
+snd-lt : (F lim : ℕ) (k : Cell) → lim ≤ 2 ^ 28 → Fitting F lim k → snd k < 2 ^ 32
 snd-lt F lim (code a) m h = omega arith
 snd-lt F lim hollow m h = omega arith
 snd-lt F lim (ends l r) m h = omega (arith, h .2)
 
-no-words : (F lim : ℕ) → Words (TermIn F lim) 0 0
-unfolding read codeTest
-no-words F lim = record { good = refl; one = refl; two = refl }
+no-words : (F lim : ℕ) → Words (Fitting F lim) 0 0
+unfolding read
+no-words F lim = record { good = omega arith; one = refl; two = refl }
 
 module _ (F : ℕ) (ws : List ℕ) (top : ℕ) (p : 0 < F) (s : Sound F ws top) where
   abbrev Here : ℕ → Type 0
-  Here c = Words (TermIn F top) (firstWord ws c) (secondWord ws c)
+  Here c = Words (Fitting F top) (firstWord ws c) (secondWord ws c)
 
   here-zero : (c : ℕ) → firstWord ws c ≡ 0 → secondWord ws c ≡ 0 → Here c
   here-zero c e f = rw (e, f) (no-words F top)
@@ -67,8 +70,9 @@ module _ (F : ℕ) (ws : List ℕ) (top : ℕ) (p : 0 < F) (s : Sound F ws top) 
   here-register : (c : ℕ) → c < F → Here c
   here-register c h =
       let w = bracket-words F top (firstWord ws c) (secondWord ws c) p (s .registers c h) in
+      let k : Cell = read (firstWord ws c) (secondWord ws c) in
       record {
-        good = term-of-bracket F top (read (firstWord ws c) (secondWord ws c)) (w .good);
+        good = fitting F top top k (omega arith) (term-of-bracket F top k (w .good));
         one = w .one;
         two = w .two;
       }
@@ -77,7 +81,7 @@ module _ (F : ℕ) (ws : List ℕ) (top : ℕ) (p : 0 < F) (s : Sound F ws top) 
   here-heap c l h =
       let w = term-words F c (firstWord ws c) (secondWord ws c) p (s .heap c l h) in
       record {
-        good = termIn-wider F c top (read (firstWord ws c) (secondWord ws c)) (omega arith) (w .good);
+        good = fitting F c top (read (firstWord ws c) (secondWord ws c)) (omega arith) (w .good);
         one = w .one;
         two = w .two;
       }
@@ -96,22 +100,22 @@ module _ (F : ℕ) (ws : List ℕ) (top : ℕ) (p : 0 < F) (s : Sound F ws top) 
   top-fits : top ≤ 2 ^ 28
   top-fits = omega (arith, s .high, s .small, limit-fits)
 
-  pub cell-words : (c : ℕ) → (fst (at ws c) ≡ firstWord ws c) × (snd (at ws c) ≡ secondWord ws c)
+  cell-words : (c : ℕ) → (fst (at ws c) ≡ firstWord ws c) × (snd (at ws c) ≡ secondWord ws c)
   unfolding at read
   cell-words c = (here c .one, here c .two)
 
-  pub cell-term : (c : ℕ) → TermIn F top (at ws c)
+  cell-fits : (c : ℕ) → Fitting F top (at ws c)
   unfolding at read
-  cell-term c = here c .good
+  cell-fits c = here c .good
 
   pub cell-fields : (c : ℕ) → Fields (at ws c) (firstWord ws c) (decode (secondWord ws c))
   cell-fields c =
       subst (λ (a : ℕ). Fields (at ws c) a (decode (secondWord ws c))) (cell-words c .0)
       (subst (λ (b : ℕ). Fields (at ws c) (fst (at ws c)) (decode b)) (cell-words c .1)
-      (fields-of F top (at ws c) p top-fits (cell-term c)))
+      (fields-of F top (at ws c) p top-fits (cell-fits c)))
 
   pub second-lt : (c : ℕ) → secondWord ws c < 2 ^ 32
-  second-lt c = subst (λ (b : ℕ). b < 2 ^ 32) (cell-words c .1) (snd-lt F top (at ws c) top-fits (cell-term c))
+  second-lt c = subst (λ (b : ℕ). b < 2 ^ 32) (cell-words c .1) (snd-lt F top (at ws c) top-fits (cell-fits c))
 
   -- ---- by the kind of cell
 
@@ -123,15 +127,8 @@ module _ (F : ℕ) (ws : List ℕ) (top : ℕ) (p : 0 < F) (s : Sound F ws top) 
         → (firstWord ws c ≡ l) × (decode (secondWord ws c) ≡ plain true r) × (0 < r)
     cell-ends e = subst Said e (cell-fields c)
 
-    pub cell-hollow : at ws c ≡ hollow → (firstWord ws c ≡ 0) × (decode (secondWord ws c) ≡ plain true 0)
-    cell-hollow e = subst Said e (cell-fields c)
-
-    pub cell-code : {a : ℕ} → at ws c ≡ code a
-        → (firstWord ws c ≡ a) × (decode (secondWord ws c) ≡ plain false 0) × (a < 2 ^ 28)
-    cell-code e = subst Said e (cell-fields c)
-
     pub ends-in : {l r : ℕ} → at ws c ≡ ends l r → (F ≤ l) × (l ≤ r) × (r < top)
-    ends-in e = subst (TermIn F top) e (cell-term c)
+    ends-in e = subst (Fitting F top) e (cell-fits c)
 
     pub ends-down : {l r : ℕ} → F ≤ c → c < top → at ws c ≡ ends l r → r < c
     ends-down l h e = subst (TermIn F c) e (good F ws top p s .heap c l h) .2
@@ -144,9 +141,6 @@ module _ (F : ℕ) (ws : List ℕ) (top : ℕ) (p : 0 < F) (s : Sound F ws top) 
 
     pub cell-plain : decode (secondWord ws c) ≡ plain (decode (secondWord ws c) .br) (decode (secondWord ws c) .ri)
     cell-plain = said-plain (at ws c) (cell-fields c)
-
-    pub cell-unmarked : decode (secondWord ws c) .used ≡ false
-    cell-unmarked = ap (λ (f : Second). f .used) cell-plain
 
     -- ---- by the test `words::is_full`
 
