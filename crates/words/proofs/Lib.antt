@@ -5,3 +5,4 @@ pub mod Plain
 pub mod Notes
 pub mod Cells
 mod Fields
+mod Zeroing
