@@ -42,7 +42,11 @@ fn is_stray(u: u32, w: u32) -> bool
 fn is_no_code(u: u32, w: u32) -> bool
     ensures { λ r. ⌜ r ≡ wrong13 u w ⌝ }
 {
-    if u == 2 { !store::is_code(w) } else { false }
+    if u == 2 {
+        !store::cells::is_code(w)
+    } else {
+        false
+    }
 }
 
 // The same test over the three words of a call.

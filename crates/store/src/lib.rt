@@ -4,20 +4,14 @@ ghost use mathlib.Core.Path.{_≡_};
 ghost use Prim.Native.Nat.{_+_, _*_, _≤_, _<_};
 ghost use lib.Dec.{eqb};
 ghost use lib.ListN.{length, take};
-ghost use Rattle.meaning.specs.Limits.{firstCell, codeTest};
+ghost use Rattle.meaning.specs.Limits.{firstCell};
 ghost use Rattle.meaning.specs.Sound.{at};
 ghost use Rattle.meaning.specs.Check.{lengthTest, topTest, check, hollows, freshIn, lookSpan, look};
 ghost use Rattle.store.specs.Answers.{verdictOf, madeIn, Placed, PartAt};
 ghost use Rattle.store.specs.Holds.{Bracketed, Termed, RunIs, termIs};
 
-mod cells;
-
-// Whether a is a symbol's code.
-pub fn is_code(a: u32) -> bool
-    ensures { λ r. ⌜ r ≡ codeTest a ⌝ }
-{
-    a <= meaning::CODE_LIMIT
-}
+pub mod cells;
+mod passes;
 
 // What the check finds.
 pub enum Checked {
@@ -48,7 +42,8 @@ fn top_ok(top: usize, cells: usize) -> bool
     top <= cells
 }
 
-// The length, then `top`, then the cells from the lowest address up: one pass, which leaves at the first damaged cell.
+// The length, then `top`, then the cells. Passes that are never left find a sound store sound. In any other a scan from
+// the lowest address up leaves at the first damaged cell.
 pub fn check(ws: &[u32], top: usize) -> Checked
     ensures { λ r. ⌜ verdictOf r ≡ check firstCell (now (ws .entry)) top ⌝ }
 {
@@ -59,12 +54,21 @@ pub fn check(ws: &[u32], top: usize) -> Checked
     if !top_ok(top, cells) {
         return Checked::BadTop;
     }
+    if passes::all_ok(ws, top) {
+        return Checked::Sound;
+    }
     let mut c: usize = 0;
     loop {
         if cells <= c {
             break Checked::Sound;
         }
-        if !cells::cell_ok(words::first_word(ws, c), words::second_word(ws, c), c, top) {
+        if !cells::cell_ok(
+            words::first_word(ws, c),
+            words::second_word(ws, c),
+            c,
+            meaning::FIRST_CELL,
+            top,
+        ) {
             break Checked::Damaged(c);
         }
         c += 1;
