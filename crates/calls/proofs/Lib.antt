@@ -7,7 +7,6 @@
 --   Rooms       the rule for room, and the store in which room is sought
 --   Joining     JOIN by which of its registers are empty
 --   Performing  one call by its operation
---   Zeroing     the rest of the answers zeroed
 --   Running     the calls of a batch, one by one
 --   Batching    a batch by its tests
 --   Outcomes    what an outcome says
@@ -21,7 +20,6 @@ mod Firsts
 mod Rooms
 mod Joining
 mod Performing
-mod Zeroing
 mod Running
 mod Batching
 mod Outcomes

@@ -34,8 +34,12 @@ module _ (o d a b : ℕ) where
   abbrev pub three : (ℕ → ℕ → Bool) → Bool
   three wrong = wrong (getD uses (3 * o) 0) d || wrong (getD uses (3 * o + 1) 0) a || wrong (getD uses (3 * o + 2) 0) b
 
-  -- from a row that was read
-  pub three-read : (wrong : ℕ → ℕ → Bool) {u v w : ℕ} {x y z r : Bool} → u ≡ getD uses (3 * o + 0) 0
-      → v ≡ getD uses (3 * o + 1) 0 → w ≡ getD uses (3 * o + 2) 0
-      → x ≡ wrong u d → y ≡ wrong v a → z ≡ wrong w b → r ≡ (x || y || z) → three wrong ≡ r
-  three-read wrong e f g p q t k = simp (k, p, q, t, e, f, g, add-zero)
+  -- from the row that was read
+  pub three-read : (wrong : ℕ → ℕ → Bool) {x y z r : Bool} → 3 * o + 2 < length uses
+      → x ≡ wrong (getD (getD (rows uses) o []) 0 0) d → y ≡ wrong (getD (getD (rows uses) o []) 1 0) a
+      → z ≡ wrong (getD (getD (rows uses) o []) 2 0) b → r ≡ (x || y || z) → three wrong ≡ r
+  three-read wrong h p q t k =
+      let u = rows-at uses o 0 h (omega arith) in
+      let v = rows-at uses o 1 h (omega arith) in
+      let w = rows-at uses o 2 h (omega arith) in
+      simp (k, p, q, t, u, v, w, add-zero)

@@ -2,9 +2,8 @@
 // document 01, and a refused batch leaves everything as it is lent. Else each call is carried out after the one before
 // it, and its status and value are written into the answers; what is left of the answers is zeroed.
 ghost use mathlib.Core.Path.{_≡_};
-ghost use Prim.Native.Nat.{_+_, _-_, _*_, _/_, _%_, _≤_, _<_};
-ghost use mathlib.Core.List.{_++_};
-ghost use lib.ListN.{length, take, replicate};
+ghost use Prim.Native.Nat.{_+_, _*_, _/_, _%_, _≤_, _<_};
+ghost use lib.ListN.{length, take};
 ghost use Rattle.meaning.specs.Limits.{firstCell};
 ghost use Rattle.meaning.specs.Sound.{Sound};
 ghost use Rattle.meaning.specs.Batch.{runs, callsTest, batchOf, batch};
@@ -76,19 +75,6 @@ fn run_calls(ws: &mut [u32], top: usize, calls: &[u32], answers: &mut [u32]) -> 
     at
 }
 
-// The words from `from` on become zero.
-fn zero_from(answers: &mut [u32], from: usize)
-    requires { ⌜ from ≤ length (now answers) ⌝ }
-    ensures { λ _. ⌜ now (answers .exit)
-        ≡ take from (now (answers .entry)) ++ replicate (length (now (answers .entry)) - from) 0 ⌝ }
-{
-    let mut i = from;
-    while i < answers.len() {
-        answers[i] = 0;
-        i += 1;
-    }
-}
-
 // A batch on a sound store.
 fn run_sound(ws: &mut [u32], top: usize, calls: &[u32], answers: &mut [u32]) -> Ran
     requires { ⌜ Sound firstCell (now ws) top ⌝ }
@@ -103,7 +89,7 @@ fn run_sound(ws: &mut [u32], top: usize, calls: &[u32], answers: &mut [u32]) -> 
         return Ran::ShortAnswers;
     }
     let end = run_calls(ws, top, calls, answers);
-    zero_from(answers, used);
+    words::zero_from(answers, used);
     Ran::Ended(end)
 }
 

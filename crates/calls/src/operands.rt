@@ -1,10 +1,8 @@
 // The words of a call: how each of the twelve operations uses d, a and b, and the statuses 10 to 13.
 ghost use mathlib.Core.Path.{_≡_};
 ghost use mathlib.Core.Bool.{_||_};
-ghost use Prim.Native.Nat.{_+_, _*_, _<_};
-ghost use lib.ListN.{getD};
 ghost use Rattle.meaning.specs.Limits.{firstCell};
-ghost use Rattle.meaning.specs.Call.{uses, wrong11, wrong12, wrong13, fault};
+ghost use Rattle.meaning.specs.Call.{wrong11, wrong12, wrong13, fault};
 
 // How each operation uses d, a and b: 0 not at all, 1 as a register, 2 as a code.
 const USES: [[u32; 3]; 12] = [
@@ -21,14 +19,6 @@ const USES: [[u32; 3]; 12] = [
     [0, 0, 0], // LIVE
     [0, 0, 0], // COLLECT
 ];
-
-// How operation o uses its word k.
-fn use_at(o: usize, k: usize) -> u32
-    requires { ⌜ (o < 12) × (k < 3) ⌝ }
-    ensures { λ r. ⌜ r ≡ getD uses (3 * o + k) 0 ⌝ }
-{
-    USES[o][k]
-}
 
 // A register word that names no register: status 11.
 fn is_no_register(u: u32, w: u32) -> bool
@@ -52,7 +42,11 @@ fn is_stray(u: u32, w: u32) -> bool
 fn is_no_code(u: u32, w: u32) -> bool
     ensures { λ r. ⌜ r ≡ wrong13 u w ⌝ }
 {
-    if u == 2 { !store::is_code(w) } else { false }
+    if u == 2 {
+        !store::cells::is_code(w)
+    } else {
+        false
+    }
 }
 
 // The same test over the three words of a call.
@@ -75,10 +69,11 @@ pub fn fault(o: u32, d: u32, a: u32, b: u32) -> u32
     if 11 < o {
         return 10;
     }
-    let row = o as usize;
-    let u = use_at(row, 0);
-    let v = use_at(row, 1);
-    let w = use_at(row, 2);
+    // The row is read once: the table is built on the stack for each reading of it.
+    let row = USES[o as usize];
+    let u = row[0];
+    let v = row[1];
+    let w = row[2];
     let no_register = any(
         is_no_register(u, d),
         is_no_register(v, a),

@@ -1,23 +1,21 @@
--- The words of a fresh store, cell by cell: what the loop of `fresh` writes.
+-- An allowed length, and the words of a fresh store: registers emptied one after the other, then zeros.
 -- Assumes nothing.
-use mathlib.Core.Path.{_≡_, refl, sym, _∙_}
-use mathlib.Core.Logic.{_⊎_, inl, inr}
+use mathlib.Core.Path.{_≡_, refl, sym, ap, _∙_}
 use mathlib.Core.Bool.{Bool, true, false, cond, false≢true}
-use mathlib.Core.List.{List}
-use Prim.Native.Nat.{ℕ, _+_, _*_, _%_, _≤_, _<_}
+use mathlib.Core.List.{List, [], _∷_, _++_, append-assoc}
+use Prim.Native.Nat.{ℕ, zero, suc, _+_, _-_, _*_, _%_, _≤_, _<_}
+use native.Mathlib.Numerals.{add-one}
 use native.Mathlib.Omega.{arith}
 use lib.Dec.{ltb, leb, eqb}
-use lib.ListN.{length}
-use borrow.Author.Count.{below-more}
-use borrow.Author.Tests.{leb-true, ltb-false, eqb-true, lt-ltb, le-ltb}
-use Rattle.words.specs.Cell.{firstWord, secondWord, putCell}
+use lib.ListN.{length, take, replicate}
+use lib.Seq.{take-suc-set}
+use borrow.Author.Tests.{leb-true, ltb-false, eqb-true}
+use Rattle.words.specs.Cell.{putCell, putFirst}
 use Rattle.words.specs.Second.{bracketTo}
-use Rattle.words.proofs.Cells.{firstWord-same, secondWord-same, firstWord-other, secondWord-other, words-ext}
+use Rattle.words.proofs.Cells.{putFirst-length}
 use Rattle.meaning.specs.Limits.{limit}
-use Rattle.meaning.specs.Sound.{Sound, IsBracket, isEmpty, isFull, capacity}
-use Rattle.meaning.specs.Check.{done, refused, only, lengthTest, fresh, freshIn}
-use Rattle.meaning.proofs.Fresh.{fresh-length, fresh-sound}
-use Rattle.meaning.proofs.Lists.{lt-or-ge}
+use Rattle.meaning.specs.Sound.{capacity}
+use Rattle.meaning.specs.Check.{done, refused, only, lengthTest, hollows, fresh, freshIn}
 
 -- what an allowed length is
 pub record Allowed (F n : ℕ) : Type 0 where
@@ -35,57 +33,39 @@ length-yes F n q = go (eqb (n % 2) 0) (ltb n (2 * F)) refl refl q
     go true false e f r = record { even = eqb-true _ _ e; large = ltb-false _ _ f; small = leb-true _ _ r }
     go false u e f r = absurd (false≢true r)
 
--- cell c is as in a fresh store
-pub record Blank (F : ℕ) (ws : List ℕ) (c : ℕ) : Type 0 where
-  pub one : firstWord ws c ≡ 0
-  pub two : secondWord ws c ≡ cond (ltb c F) (bracketTo 0) 0
+-- ---- the registers, a turn at a time
 
--- a turn of the loop
-pub blank-more : (F : ℕ) (ws : List ℕ) (c b : ℕ) → 2 * c + 1 < length ws → b ≡ cond (ltb c F) (bracketTo 0) 0
-    → ((k : ℕ) → k < c → Blank F ws k) → (k : ℕ) → k < c + 1 → Blank F (putCell ws c 0 b) k
-blank-more F ws c b l e h =
-    below-more _ c
-    (λ k m. let n : k ≡ c → ⊥ = λ q. omega arith in
-    record { one = firstWord-other ws c 0 b k n ∙ h k m .one; two = secondWord-other ws c 0 b k n ∙ h k m .two })
-    (record { one = firstWord-same ws c 0 b l; two = secondWord-same ws c 0 b l ∙ e })
+hollows-more : (n : ℕ) → hollows n ++ (0 ∷ bracketTo 0 ∷ []) ≡ hollows (suc n)
+hollows-more zero = refl
+hollows-more (suc n) = ap (λ (l : List ℕ). 0 ∷ bracketTo 0 ∷ l) (hollows-more n)
 
-hollow-words : (F a b : ℕ) → IsBracket F F a b → (a ≡ 0) × (b ≡ bracketTo 0)
-hollow-words F a b isEmpty = (refl, refl)
-hollow-words F a b (isFull x y z) = absurd (omega arith)
+module _ (ws : List ℕ) (c : ℕ) (h : 2 * c + 1 < length ws) (e : take (2 * c) ws ≡ hollows c) where
+  one-word : take (2 * c + 1) (putFirst ws c 0) ≡ hollows c ++ (0 ∷ [])
+  one-word =
+      ap (λ (n : ℕ). take n (putFirst ws c 0)) (add-one (2 * c))
+      ∙ (take-suc-set ws (2 * c) 0 (omega arith) ∙ ap (λ (l : List ℕ). l ++ (0 ∷ [])) e)
 
-module _ (F n : ℕ) (l : F ≤ n) (m : n ≤ limit) where
-  fresh-blank : (c : ℕ) → c < n → Blank F (fresh F n) c
-  fresh-blank c h = go (lt-or-ge c F)
-    where
-      s : Sound F (fresh F n) F
-      s = fresh-sound F n l m
+  pub one-more : take (2 * (c + 1)) (putCell ws c 0 (bracketTo 0)) ≡ hollows (c + 1)
+  one-more =
+      let n : 2 * (c + 1) ≡ suc (2 * c + 1) = omega arith in
+      let both = take-suc-set (putFirst ws c 0) (2 * c + 1) (bracketTo 0) (omega (arith, putFirst-length ws c 0)) in
+      ap (λ (m : ℕ). take m (putCell ws c 0 (bracketTo 0))) n
+      ∙ (both ∙ ap (λ (l : List ℕ). l ++ (bracketTo 0 ∷ [])) one-word)
+      ∙ (append-assoc (hollows c) (0 ∷ []) (bracketTo 0 ∷ []) ∙ hollows-more c ∙ ap hollows (sym (add-one c)))
 
-      go : (c < F) ⊎ (F ≤ c) → Blank F (fresh F n) c
-      go (inl k) =
-          let w = hollow-words F _ _ (s .registers c k) in
-          record { one = w .0; two = rw (lt-ltb c F k) (w .1) }
-      go (inr k) =
-          let w = s .free c k (omega (arith, fresh-length F n l m)) in
-          record { one = w .0; two = rw (le-ltb c F k) (w .1) }
-
-  -- a store whose cells are all so is the fresh store
-  pub all-blank : (ws : List ℕ) → length ws ≡ 2 * n → ((c : ℕ) → c < n → Blank F ws c) → ws ≡ fresh F n
-  all-blank ws e h =
-      words-ext ws (fresh F n) (e ∙ sym (fresh-length F n l m)) (omega arith)
-      (λ c k. h c (omega arith) .one ∙ sym (fresh-blank c (omega arith) .one))
-      (λ c k. h c (omega arith) .two ∙ sym (fresh-blank c (omega arith) .two))
+-- ---- the whole store
 
 module _ (F : ℕ) (ws : List ℕ) where
   pub fresh-refused : lengthTest F (length ws) ≡ false → freshIn F ws ≡ refused ws 0 (only 1)
   unfolding freshIn
   fresh-refused e = rw (e, freshIn)
 
-  pub fresh-done : lengthTest F (length ws) ≡ true → (vs : List ℕ) → length vs ≡ length ws
-      → ((c : ℕ) → c < capacity ws → Blank F vs c) → freshIn F ws ≡ done vs F 0
-  unfolding freshIn
-  fresh-done e vs q h =
+  -- vs is the store with its registers emptied, and out what it becomes
+  pub fresh-done : lengthTest F (length ws) ≡ true → (vs : List ℕ) {out : List ℕ} → length vs ≡ length ws
+      → take (2 * F) vs ≡ hollows F → out ≡ take (2 * F) vs ++ replicate (length vs - 2 * F) 0
+      → freshIn F ws ≡ done out F 0
+  unfolding freshIn fresh
+  fresh-done e vs q f z =
       let a = length-yes F (length ws) e in
-      let l : F ≤ capacity ws = omega (arith, a .large) in
-      let m : capacity ws ≤ limit = omega (arith, a .small) in
-      let z : vs ≡ fresh F (capacity ws) = all-blank F (capacity ws) l m vs (omega (arith, a .even)) h in
-      rw (e, z, freshIn) refl
+      let n : length vs - 2 * F ≡ 2 * (capacity ws - F) = omega (arith, a .even, a .large) in
+      rw (e, z, f, n, freshIn) refl

@@ -1,11 +1,15 @@
 -- Laws that belong to no one function, for this crate's proofs and its callers'. In order:
---   Scan    the check by its tests, and its pass over the cells
---   Sounds  what the answer of the check says of the store; which cells of a sound store may be read
---   Hollow  the words of a fresh store, cell by cell
---   Held    a bracket's contents and a term, from the second word; what a `match` on a term learns
---   Looked  where a register's cells lie
---   Final   no statement of this crate leaves a second outcome
+--   Rules     a cell's rules, tested with no branch
+--   Gathered  passes that gather damage in a word
+--   Scan      the check by its tests, and its scan of the cells
+--   Sounds    what the answer of the check says of the store; which cells of a sound store may be read
+--   Hollow    an allowed length, and the words of a fresh store
+--   Held      a bracket's contents and a term, from the second word; what a `match` on a term learns
+--   Looked    where a register's cells lie
+--   Final     no statement of this crate leaves a second outcome
 -- Assumes nothing.
+mod Rules
+mod Gathered
 pub mod Scan
 pub mod Sounds
 pub mod Hollow

@@ -1,16 +1,21 @@
--- The check by its tests, and the pass over the cells a step at a time: what the loop of `check` does.
+-- The check by its tests, and the scan of the cells a step at a time: what the loop of `check` does.
 -- Assumes nothing.
 use mathlib.Core.Path.{_≡_, refl, sym, _∙_}
-use mathlib.Core.Bool.{Bool, true, false}
+use mathlib.Core.Bool.{Bool, true, false, cond, false≢true}
 use mathlib.Core.List.{List}
-use Prim.Native.Nat.{ℕ, suc, _+_, _-_, _≤_, _<_}
+use Prim.Native.Nat.{ℕ, suc, _+_, _-_, _*_, _^_, _≤_, _<_}
 use native.Mathlib.Numerals.{add-one}
 use native.Mathlib.Omega.{arith}
+use lib.Dec.{ltb, leb}
 use lib.ListN.{length}
-use borrow.Author.Tests.{lt-ltb, le-ltb}
+use borrow.Author.Tests.{lt-ltb, le-ltb, ltb-false, leb-true}
 use Rattle.words.specs.Cell.{firstWord, secondWord}
 use Rattle.meaning.specs.Sound.{capacity}
 use Rattle.meaning.specs.Check.{only, cellTest, damaged, lengthTest, topTest, verdictAt, check}
+use Rattle.meaning.proofs.Cells.{limit-fits}
+use Rattle.meaning.proofs.Checking.{tests-sound, sound-check}
+use Rattle.store.specs.Passing.{Keeps}
+use Rattle.store.proofs.Hollow.{length-yes}
 
 -- the test of a cell's words, from the test of what was read
 pub tested : (F top c : ℕ) {x y a b : ℕ} {r t : Bool} → x ≡ a → y ≡ b → r ≡ cellTest F top c x y → r ≡ t
@@ -30,6 +35,24 @@ module _ (F : ℕ) (ws : List ℕ) (top : ℕ) where
       → check F ws top ≡ verdictAt ws (damaged F ws top 0 (capacity ws))
   unfolding check
   check-cells e f = rw (e, f, check)
+
+  -- the first two tests passed: where the cells are
+  pub placed : lengthTest F (length ws) ≡ true → topTest F (capacity ws) top ≡ true
+      → (F ≤ top) × (2 * top ≤ length ws) × (top < 2 ^ 31)
+  unfolding topTest
+  placed e f = go (ltb top F) refl f
+    where
+      go : (t : Bool) → ltb top F ≡ t → cond t false (leb top (capacity ws)) ≡ true
+          → (F ≤ top) × (2 * top ≤ length ws) × (top < 2 ^ 31)
+      go true q r = absurd (false≢true r)
+      go false q r =
+          let high : top ≤ capacity ws = leb-true top (capacity ws) r in
+          (ltb-false top F q, omega arith, omega (arith, length-yes F (length ws) e .small, limit-fits))
+
+  -- all cells keep their rules
+  pub check-kept : lengthTest F (length ws) ≡ true → topTest F (capacity ws) top ≡ true
+      → ((c : ℕ) → 0 ≤ c → c < capacity ws → Keeps F ws top c) → check F ws top ≡ only 0
+  check-kept e f h = sound-check F ws top (tests-sound F ws top e f (λ c k. h c (omega arith) k))
 
   module _ (cells c : ℕ) where
     -- a turn of the loop

@@ -1,25 +1,17 @@
 // A store lent as a slice of words: its check, a fresh store, a look at a register; and, for the crates above, what a
 // cell of a sound store holds. The numbers of document 01 that an answer stands for are in specs/Answers.antt.
 ghost use mathlib.Core.Path.{_≡_};
-ghost use mathlib.Core.Bool.{cond};
-ghost use Prim.Native.Nat.{_+_, _*_, _<_};
-ghost use lib.Dec.{ltb, eqb};
-ghost use lib.ListN.{length};
-ghost use Rattle.words.specs.Second.{bracketTo};
-ghost use Rattle.meaning.specs.Limits.{firstCell, codeTest};
+ghost use Prim.Native.Nat.{_+_, _*_, _≤_, _<_};
+ghost use lib.Dec.{eqb};
+ghost use lib.ListN.{length, take};
+ghost use Rattle.meaning.specs.Limits.{firstCell};
 ghost use Rattle.meaning.specs.Sound.{at};
-ghost use Rattle.meaning.specs.Check.{lengthTest, topTest, check, freshIn, lookSpan, look};
+ghost use Rattle.meaning.specs.Check.{lengthTest, topTest, check, hollows, freshIn, lookSpan, look};
 ghost use Rattle.store.specs.Answers.{verdictOf, madeIn, Placed, PartAt};
 ghost use Rattle.store.specs.Holds.{Bracketed, Termed, RunIs, termIs};
 
-mod cells;
-
-// Whether a is a symbol's code.
-pub fn is_code(a: u32) -> bool
-    ensures { λ r. ⌜ r ≡ codeTest a ⌝ }
-{
-    a <= meaning::CODE_LIMIT
-}
+pub mod cells;
+mod passes;
 
 // What the check finds.
 pub enum Checked {
@@ -50,7 +42,8 @@ fn top_ok(top: usize, cells: usize) -> bool
     top <= cells
 }
 
-// The length, then `top`, then the cells from the lowest address up: one pass, which leaves at the first damaged cell.
+// The length, then `top`, then the cells. Passes that are never left find a sound store sound. In any other a scan from
+// the lowest address up leaves at the first damaged cell.
 pub fn check(ws: &[u32], top: usize) -> Checked
     ensures { λ r. ⌜ verdictOf r ≡ check firstCell (now (ws .entry)) top ⌝ }
 {
@@ -61,12 +54,21 @@ pub fn check(ws: &[u32], top: usize) -> Checked
     if !top_ok(top, cells) {
         return Checked::BadTop;
     }
+    if passes::all_ok(ws, top) {
+        return Checked::Sound;
+    }
     let mut c: usize = 0;
     loop {
         if cells <= c {
             break Checked::Sound;
         }
-        if !cells::cell_ok(words::first_word(ws, c), words::second_word(ws, c), c, top) {
+        if !cells::cell_ok(
+            words::first_word(ws, c),
+            words::second_word(ws, c),
+            c,
+            meaning::FIRST_CELL,
+            top,
+        ) {
             break Checked::Damaged(c);
         }
         c += 1;
@@ -90,14 +92,14 @@ pub enum Made {
     BadLength,
 }
 
-// The second word of cell c in a fresh store.
-fn fresh_second(c: usize) -> u32
-    ensures { λ r. ⌜ r ≡ cond (ltb c firstCell) (bracketTo 0) 0 ⌝ }
+// Every register becomes empty.
+fn empty_registers(ws: &mut [u32])
+    requires { ⌜ 2 * firstCell ≤ length (now ws) ⌝ }
+    ensures { λ _. ⌜ take (2 * firstCell) (now (ws .exit)) ≡ hollows firstCell ⌝ }
 {
-    if c < meaning::FIRST_CELL {
-        return words::EMPTY;
+    for c in 0..meaning::FIRST_CELL {
+        words::put_cell(ws, c, 0, words::EMPTY);
     }
-    0
 }
 
 // A fresh store, written into a slice of an allowed length. Any other slice is left as it is.
@@ -107,10 +109,8 @@ pub fn fresh(ws: &mut [u32]) -> Made
     if !length_ok(ws.len()) {
         return Made::BadLength;
     }
-    let cells = ws.len() / 2;
-    for c in 0..cells {
-        words::put_cell(ws, c, 0, fresh_second(c));
-    }
+    empty_registers(ws);
+    words::zero_from(ws, 2 * meaning::FIRST_CELL);
     Made::Ready(meaning::FIRST_CELL)
 }
 

@@ -4,3 +4,4 @@ pub mod Masks
 pub mod Plain
 pub mod Cells
 mod Fields
+mod Zeroing

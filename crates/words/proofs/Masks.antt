@@ -7,7 +7,7 @@ use native.Mathlib.Nat.{mod-lt, zero-lt-suc, one-mul, zero-mul}
 use native.Mathlib.Omega.{arith}
 use lib.Dec.{eqb}
 use lib.Pow.{pow-pos, split, pow-lt, recompose, shr-mod, mod-mod-pow, mod-pow-add}
-use lib.Bits.{bitAnd, bitOr, and-high, and-mask, and-block, or-add-and, or-shifted}
+use lib.Bits.{bitAnd, bitOr, bitXor, and-high, and-mask, and-block, or-add-and, or-shifted, xor-add-and}
 use borrow.Author.Tests.{ne-eqb}
 use Rattle.words.specs.Second.{bit, flag}
 use Rattle.words.proofs.Laws.{bit-flag}
@@ -32,6 +32,11 @@ test k w = ap (λ (n : ℕ). not (eqb n 0)) (and-high w 1 k) ∙ go (w / 2 ^ k %
 pub or-bit : (k w : ℕ) → bitOr w (2 ^ (1 + k) - 2 ^ k) + bit (flag k w) * 2 ^ k ≡ w + (2 ^ (1 + k) - 2 ^ k)
 or-bit k w =
     ap (λ (n : ℕ). bitOr w (2 ^ (1 + k) - 2 ^ k) + n) (sym (read k w)) ∙ or-add-and w (2 ^ (1 + k) - 2 ^ k)
+
+-- `w ^ (1 << k)` adds the bit where it is not there, and takes it away where it is
+pub xor-bit : (k w : ℕ) → bitXor w (2 ^ (1 + k) - 2 ^ k) + bit (flag k w) * 2 ^ k * 2 ≡ w + (2 ^ (1 + k) - 2 ^ k)
+xor-bit k w =
+    ap (λ (n : ℕ). bitXor w (2 ^ (1 + k) - 2 ^ k) + n * 2) (sym (read k w)) ∙ xor-add-and w (2 ^ (1 + k) - 2 ^ k)
 
 -- the bits up to k are bit k and those below
 pub low-bits : (k w : ℕ) → w % 2 ^ (1 + k) ≡ bit (flag k w) * 2 ^ k + w % 2 ^ k

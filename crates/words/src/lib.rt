@@ -1,11 +1,12 @@
 // A cell's two words. This is the only crate that knows which bit says what: the second word is taken apart and put
-// together here, by masks and shifts, and a cell of a lent store is read and written here. The mark, bit 30, is neither
-// set nor read: it is 0 between calls, and the collector needs none.
+// together here, by masks and shifts, and the cells of a lent slice are read, written and zeroed here. The mark, bit 30,
+// is neither set nor read: it is 0 between calls, and the collector needs none.
 ghost use mathlib.Core.Path.{_≡_};
 ghost use mathlib.Core.Bool.{true, false, _&&_, not};
-ghost use Prim.Native.Nat.{_+_, _*_, _<_, _^_};
+ghost use mathlib.Core.List.{_++_};
+ghost use Prim.Native.Nat.{_+_, _-_, _*_, _≤_, _<_, _^_};
 ghost use lib.Dec.{eqb};
-ghost use lib.ListN.{length};
+ghost use lib.ListN.{length, take, replicate};
 ghost use Rattle.words.specs.Cell.{firstWord, secondWord, putCell};
 ghost use Rattle.words.specs.Second.{decode, withRi, withLc, withRc, plain, bracketTo};
 
@@ -106,4 +107,17 @@ pub fn put_cell(ws: &mut [u32], c: usize, first: u32, second: u32)
 {
     ws[2 * c] = first;
     ws[2 * c + 1] = second;
+}
+
+// The words from `from` on become zero, of a store or of other words.
+pub fn zero_from(ws: &mut [u32], from: usize)
+    requires { ⌜ from ≤ length (now ws) ⌝ }
+    ensures { λ _. ⌜ now (ws .exit)
+        ≡ take from (now (ws .entry)) ++ replicate (length (now (ws .entry)) - from) 0 ⌝ }
+{
+    let mut i = from;
+    while i < ws.len() {
+        ws[i] = 0;
+        i += 1;
+    }
 }

@@ -1,8 +1,8 @@
--- `store::check` meets its contract. The loop's invariant: the first damaged cell of those left is the first of all.
+-- `store::check` meets its contract. The scan's invariant: the first damaged cell of those left is the first of all.
 -- The measure is the number of cells left. Assumes nothing.
 use mathlib.Core.Path.{_≡_, sym, ap, _∙_}
 use mathlib.Core.Bool.{Bool, true}
-use Prim.Native.Nat.{_-_, _/_, _≤_}
+use Prim.Native.Nat.{_-_, _*_, _/_, _^_, _≤_, _<_}
 use native.Mathlib.Nat.{sub-zero}
 use native.Mathlib.Omega.{arith}
 use lib.ListN.{length}
@@ -10,9 +10,9 @@ use borrow.Author.Needs.{needs}
 use borrow.Author.Tests.{not-true, not-false}
 use Rattle.words.specs.Cell.{firstWord, secondWord}
 use Rattle.meaning.specs.Limits.{firstCell}
-use Rattle.meaning.specs.Check.{lengthTest, cellTest, damaged, verdictAt, check}
-use Rattle.store.proofs.Scan.{check-length, check-top, check-cells, tested, turn, stop, finish}
-use Rattle.store.proofs.Scan.{verdict-damaged, verdict-sound}
+use Rattle.meaning.specs.Check.{lengthTest, topTest, cellTest, damaged, verdictAt, check}
+use Rattle.store.proofs.Scan.{check-length, check-top, check-cells, check-kept, placed, tested, turn, stop}
+use Rattle.store.proofs.Scan.{finish, verdict-damaged, verdict-sound}
 use Rattle.store.proofs.check.Statement.{statement}
 use Rattle.store.proofs.check.Tie as tie
 
@@ -23,54 +23,55 @@ Inv-loop ws top cells c₀ c =
 abbrev μ-loop : tie.MeasureT-loop
 μ-loop ws top cells c₀ c = cells - c
 
--- the tests passed, and the answer after both: that of the cells
+-- the tests that were passed
 long : (c : tie.Else1 Inv-loop μ-loop) → lengthTest firstCell (length (c .before .before .before .args .ws .now)) ≡ true
 long c = sym (c .before .length-ok .ensures) ∙ not-false _ (c .if1 .left)
 
+low : (c : tie.Else2 Inv-loop μ-loop) →
+    let a = c .before .before .before .before .before .args in
+    topTest firstCell (length (a .ws .now) / 2) (a .top) ≡ true
+low c = sym (c .before .top-ok .ensures) ∙ not-false _ (c .if2 .left)
+
+-- where the cells are
+cells-at : (c : tie.Else2 Inv-loop μ-loop) →
+    let a = c .before .before .before .before .before .args in
+    (firstCell ≤ a .top) × (2 * a .top ≤ length (a .ws .now)) × (a .top < 2 ^ 31)
+cells-at c =
+    let a = c .before .before .before .before .before .args in
+    placed firstCell (a .ws .now) (a .top) (long (c .before .before)) (low c)
+
+-- the answer of the scan is that of the check
 to-cells : (c : tie.Else2 Inv-loop μ-loop) →
     let a = c .before .before .before .before .before .args in
     let ws = a .ws .now in
     check firstCell ws (a .top) ≡ verdictAt ws (damaged firstCell ws (a .top) 0 (length ws / 2))
-to-cells c =
-    let e = sym (c .before .top-ok .ensures) ∙ not-false _ (c .if2 .left) in
-    check-cells firstCell _ _ (long (c .before .before)) e
-
-length-ok-requires : tie.Need-length-ok-requires Inv-loop μ-loop
-length-ok-requires c κs = search needs
+to-cells c = check-cells firstCell _ _ (long (c .before .before)) (low c)
 
 returns : tie.Need-returns Inv-loop μ-loop
 returns c = sym (check-length firstCell _ _ (sym (c .before .length-ok .ensures) ∙ not-true _ (c .if1 .taken)))
-
-top-ok-requires : tie.Need-top-ok-requires Inv-loop μ-loop
-top-ok-requires c κs = search needs
 
 returns-2 : tie.Need-returns-2 Inv-loop μ-loop
 returns-2 c =
     let e = sym (c .before .top-ok .ensures) ∙ not-true _ (c .if2 .taken) in
     sym (check-top firstCell _ _ (long (c .before .before)) e)
 
+returns-3 : tie.Need-returns-3 Inv-loop μ-loop
+returns-3 c =
+    let tests = c .before .before in
+    let kept = c .before .all-ok .ensures (c .if3 .taken) in
+    sym (check-kept firstCell _ _ (long (tests .before .before)) (low tests) kept)
+
 loop-holds : tie.Need-loop-holds Inv-loop μ-loop
 loop-holds c = (omega arith, simp sub-zero)
 
-first-word-requires : tie.Need-first-word-requires Inv-loop μ-loop
-first-word-requires c κs = omega arith
-
-second-word-requires : tie.Need-second-word-requires Inv-loop μ-loop
-second-word-requires c κs = omega arith
-
 cell-ok-requires : tie.Need-cell-ok-requires Inv-loop μ-loop
-cell-ok-requires c κs = search needs
-
-add-c : tie.Need-add-c Inv-loop μ-loop
-add-c c = omega arith
-
-loop-less : tie.Need-loop-less Inv-loop μ-loop
-loop-less c = omega arith
+cell-ok-requires c κs = (omega arith, cells-at (c .before .before .before .before .before .before) .2)
 
 -- the test of the cell, from the test of what was read of it
 test : (c : tie.After-cell-ok Inv-loop μ-loop) (t : Bool) → c .cell-ok .result ≡ t →
-    let k = c .before .before .before .before .loop .c in
-    let a = c .before .before .before .before .before .before .before .before .before .before .args in
+    let at-loop = c .before .before .before .before in
+    let a = at-loop .before .before .before .before .before .before .before .before .args in
+    let k = at-loop .loop .c in
     cellTest firstCell (a .top) k (firstWord (a .ws .now) k) (secondWord (a .ws .now) k) ≡ t
 test c t e =
     let read = c .before in
@@ -79,40 +80,28 @@ test c t e =
 loop-again : tie.Need-loop-again Inv-loop μ-loop
 loop-again c =
     let at-loop = c .before .before .before .before .before in
-    let e = test (c .before) _ (not-false _ (c .if4 .left)) in
+    let e = test (c .before) _ (not-false _ (c .if5 .left)) in
     (omega arith, turn firstCell _ _ _ _ (search needs) e ∙ at-loop .loop .inv .1)
-
-returns-3 : tie.Need-returns-3 Inv-loop μ-loop
-returns-3 c =
-    let at-loop = c .before in
-    sym (verdict-sound _ _ (c .if3 .taken))
-    ∙ ap (verdictAt _) (sym (finish firstCell _ _ _ _ (c .if3 .taken)) ∙ at-loop .loop .inv .1)
-    ∙ sym (to-cells (at-loop .before))
 
 returns-4 : tie.Need-returns-4 Inv-loop μ-loop
 returns-4 c =
+    let at-loop = c .before in
+    sym (verdict-sound _ _ (c .if4 .taken))
+    ∙ ap (verdictAt _) (sym (finish firstCell _ _ _ _ (c .if4 .taken)) ∙ at-loop .loop .inv .1)
+    ∙ sym (to-cells (at-loop .before .before .before))
+
+returns-5 : tie.Need-returns-5 Inv-loop μ-loop
+returns-5 c =
     let at-loop = c .before .before .before .before .before in
-    let e = test (c .before) _ (not-true _ (c .if4 .taken)) in
+    let e = test (c .before) _ (not-true _ (c .if5 .taken)) in
     sym (verdict-damaged _ _ (search needs))
     ∙ ap (verdictAt _) (sym (stop firstCell _ _ _ _ (search needs) e) ∙ at-loop .loop .inv .1)
-    ∙ sym (to-cells (at-loop .before))
+    ∙ sym (to-cells (at-loop .before .before .before))
 
 pub check-spec : {M : Type 1} → statement M
 check-spec =
     tie.close
     (tie.spec
-    Inv-loop
-    μ-loop
-    length-ok-requires
-    returns
-    top-ok-requires
-    returns-2
-    loop-holds
-    first-word-requires
-    second-word-requires
-    cell-ok-requires
-    add-c
-    loop-less
-    loop-again
-    returns-3
-    returns-4)
+    Inv-loop μ-loop (λ c κs. search needs) returns (λ c κs. search needs) returns-2 (λ c κs. cells-at c) returns-3
+    loop-holds (λ c κs. omega arith) (λ c κs. omega arith) cell-ok-requires (λ c. omega arith) (λ c. omega arith)
+    loop-again returns-4 returns-5)

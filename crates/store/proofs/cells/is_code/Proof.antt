@@ -1,8 +1,8 @@
--- `store::is_code` meets its contract. Assumes nothing.
+-- `store::cells::is_code` meets its contract. Assumes nothing.
 use mathlib.Core.Path.{refl}
 use Rattle.meaning.specs.Limits.{codeTest}
-use Rattle.store.proofs.is_code.Statement.{statement}
-use Rattle.store.proofs.is_code.Tie as tie
+use Rattle.store.proofs.cells.is_code.Statement.{statement}
+use Rattle.store.proofs.cells.is_code.Tie as tie
 
 returns : tie.Need-returns
 unfolding codeTest

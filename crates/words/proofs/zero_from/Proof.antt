@@ -1,16 +1,16 @@
--- `calls::zero_from` meets its contract. Assumes nothing.
+-- `words::zero_from` meets its contract. Assumes nothing.
 use Prim.Native.Nat.{_-_}
 use native.Mathlib.Omega.{arith}
 use lib.ListN.{length, length-set}
-use Rattle.calls.proofs.Zeroing.{Zeroing, begin, onward, finish}
-use Rattle.calls.proofs.zero_from.Statement.{statement}
-use Rattle.calls.proofs.zero_from.Tie as tie
+use Rattle.words.proofs.Zeroing.{Zeroing, begin, onward, finish}
+use Rattle.words.proofs.zero_from.Statement.{statement}
+use Rattle.words.proofs.zero_from.Tie as tie
 
 abbrev Inv-loop : tie.InvT-loop
-Inv-loop answers₀ from i₀ answers i = Zeroing answers₀ from answers i
+Inv-loop ws₀ from i₀ ws i = Zeroing ws₀ from ws i
 
 abbrev μ-loop : tie.MeasureT-loop
-μ-loop answers₀ from i₀ answers i = length answers - i
+μ-loop ws₀ from i₀ ws i = length ws - i
 
 loop-holds : tie.Need-loop-holds Inv-loop μ-loop
 loop-holds c = begin (c .pre)

@@ -1,0 +1,16 @@
+-- What a pass of the check says of the cells that it went over.
+-- Assumes nothing.
+use mathlib.Core.Path.{_≡_}
+use mathlib.Core.Bool.{Bool, true}
+use mathlib.Core.List.{List}
+use Prim.Native.Nat.{ℕ, _≤_, _<_}
+use Rattle.words.specs.Cell.{firstWord, secondWord}
+use Rattle.meaning.specs.Check.{cellTest}
+
+-- cell c keeps its rule
+abbrev pub Keeps : ℕ → List ℕ → ℕ → ℕ → Type 0
+Keeps F ws top c = cellTest F top c (firstWord ws c) (secondWord ws c) ≡ true
+
+-- so do the cells from `low` up to `high` where the answer r is true; where it is not, it does not say which fails
+abbrev pub Passed : ℕ → List ℕ → ℕ → ℕ → ℕ → Bool → Type 0
+Passed F ws top low high r = r ≡ true → (c : ℕ) → low ≤ c → c < high → Keeps F ws top c
