@@ -14,13 +14,12 @@ use Rattle.meaning.specs.Meaning.{meaning}
 use Rattle.meaning.specs.Reach.{live}
 use Rattle.meaning.specs.Collected.{collected, collectedTop}
 use Rattle.meaning.specs.Check.{Done, only, refused}
-use Rattle.meaning.specs.Call.{Op, Plan, plain, gathered, making, sought, lacks, roomWords, roomTop, withRoom}
-use Rattle.meaning.specs.Call.{carry}
-use Rattle.meaning.specs.Effect.{does, orElse, after, answer}
+use Rattle.meaning.specs.Call.{Plan, plain, gathered, making, sought, lacks, roomWords, roomTop, withRoom, carry}
+use Rattle.meaning.specs.Effect.{Effect, orElse, after, answer}
 use Rattle.meaning.proofs.Lists.{In}
 use Rattle.meaning.proofs.Reaching.{live-le}
 use Rattle.meaning.proofs.Collecting.{collected-sound, length-collected, meaning-kept}
-use Rattle.meaning.proofs.Stepping.{Denote, Acts, unfit-small}
+use Rattle.meaning.proofs.Effects.{Denote, Acts}
 
 -- ---- the store in which room is sought, by laws: nothing else unfolds it
 
@@ -66,14 +65,13 @@ abbrev pub WordsAfter : ℕ → List ℕ → List ℕ → List ℕ → Type 0
 WordsAfter zero ws ws₁ ws′ = Unit {0}
 WordsAfter (suc s) ws ws₁ ws′ = ws′ ≡ cond (eqb s 15) ws₁ ws
 
-pub record Meets (F : ℕ) (ws : List ℕ) (top : ℕ) (o : Op) (d a b : ℕ) (plan : Plan) (r : Done) : Type 0 where
+-- r is what the plan has to give, in the store ws, for its effect to be x
+pub record Meets (F : ℕ) (ws : List ℕ) (top : ℕ) (x : Effect) (plan : Plan) (r : Done) : Type 0 where
   pub sound : Sound F (r .words) (r .top)
   pub len : length (r .words) ≡ length ws
-  pub status : r .verdict .status ≡ orElse (does o (meaning ws) (live F ws top) d a b .unfit)
-      (cond (planLacks F plan ws top) 16 0)
-  pub value : r .verdict .value ≡ answer (r .verdict .status) (does o (meaning ws) (live F ws top) d a b)
-  pub registers : (i : ℕ) → i < F
-      → meaning (r .words) i ≡ after (r .verdict .status) (does o (meaning ws) (live F ws top) d a b) (meaning ws) i
+  pub status : r .verdict .status ≡ orElse (x .unfit) (cond (planLacks F plan ws top) 16 0)
+  pub value : r .verdict .value ≡ answer (r .verdict .status) x
+  pub registers : (i : ℕ) → i < F → meaning (r .words) i ≡ after (r .verdict .status) x (meaning ws) i
   pub tops : r .top ≡ topAfter (r .verdict .status) (planTop F plan ws top) (collectedTop F ws top) top
   pub left : WordsAfter (r .verdict .status) ws (collected F ws top) (r .words)
 
@@ -133,23 +131,23 @@ module _ (F : ℕ) (n : ℕ) (v : List ℕ) (top : ℕ) (p : 0 < F) (s : Sound F
   unfolding withRoom lacks roomWords roomTop collectedTop
   once-collected e = rw e refl
 
--- ---- what a plan's action has to do, for the call to do what it has to
+-- ---- what a plan's action has to do, for the plan to meet the effect x
 
-module _ (F : ℕ) (ws : List ℕ) (top : ℕ) (p : 0 < F) (s : Sound F ws top) (o : Op) (d a b : ℕ) where
-  abbrev pub Does : Plan → Type 0
-  Does (plain act) = Acts F (meaning ws) (live F ws top) o d a b 0 ws top (act ws top)
-  Does (gathered act) = (does o (meaning ws) (live F ws top) d a b .unfit ≡ 0) × Acts F (meaning ws) (live F ws top) o
-      d a b 0 (collected F ws top) (collectedTop F ws top) (act (collected F ws top) (collectedTop F ws top))
-  Does (making n v act) =
-      (does o (meaning ws) (live F ws top) d a b .unfit ≡ 0) × Sound F v top × (length v ≡ length ws)
-      × ((u : List ℕ) (t : ℕ) → Sound F u t → Denote F u (meaning v) → 2 * (t + n) ≤ length u → Acts F (meaning ws)
-      (live F ws top) o d a b n u t (act u t))
+abbrev pub Does : ℕ → List ℕ → ℕ → Effect → Plan → Type 0
+Does F ws top x (plain act) = Acts F (meaning ws) x 0 ws top (act ws top)
+Does F ws top x (gathered act) =
+    (x .unfit ≡ 0) × Acts F (meaning ws) x 0 (collected F ws top) (collectedTop F ws top)
+    (act (collected F ws top) (collectedTop F ws top))
+Does F ws top x (making n v act) =
+    (x .unfit ≡ 0) × Sound F v top × (length v ≡ length ws)
+    × ((u : List ℕ) (t : ℕ) → Sound F u t → Denote F u (meaning v) → 2 * (t + n) ≤ length u
+    → Acts F (meaning ws) x n u t (act u t))
 
+module _ (F : ℕ) (ws : List ℕ) (top : ℕ) (p : 0 < F) (s : Sound F ws top) (x : Effect) (small : x .unfit ≤ 15) where
   -- done without fail, in a store v with its `top` t
   done-meets : (plan : Plan) (n : ℕ) (v : List ℕ) (t : ℕ) (r : Done) → length v ≡ length ws
-      → planTop F plan ws top ≡ t + n → planLacks F plan ws top ≡ false
-      → does o (meaning ws) (live F ws top) d a b .unfit ≡ 0
-      → Acts F (meaning ws) (live F ws top) o d a b n v t r → Meets F ws top o d a b plan r
+      → planTop F plan ws top ≡ t + n → planLacks F plan ws top ≡ false → x .unfit ≡ 0
+      → Acts F (meaning ws) x n v t r → Meets F ws top x plan r
   done-meets plan n v t r l y k z m =
       let u = m .status ∙ z in
       record {
@@ -162,13 +160,13 @@ module _ (F : ℕ) (ws : List ℕ) (top : ℕ) (p : 0 < F) (s : Sound F ws top) 
         left = rw u tt;
       }
 
-  plain-meets : (act : List ℕ → ℕ → Done) (r : Done) → Acts F (meaning ws) (live F ws top) o d a b 0 ws top r
-      → (u : ℕ) → does o (meaning ws) (live F ws top) d a b .unfit ≡ u → Meets F ws top o d a b (plain act) r
+  plain-meets : (act : List ℕ → ℕ → Done) (r : Done) → Acts F (meaning ws) x 0 ws top r
+      → (u : ℕ) → x .unfit ≡ u → Meets F ws top x (plain act) r
   unfolding planTop planLacks
   plain-meets act r m zero z = done-meets (plain act) 0 ws top r refl (sym (add-zero top)) refl z m
   plain-meets act r m (suc u) z =
       let t = m .status ∙ z in
-      let y : eqb u 15 ≡ false = ne-eqb u 15 (omega (arith, unfit-small o (meaning ws) (live F ws top) d a b)) in
+      let y : eqb u 15 ≡ false = ne-eqb u 15 (omega (arith, small)) in
       record {
         sound = m .sound;
         len = m .len;
@@ -179,9 +177,9 @@ module _ (F : ℕ) (ws : List ℕ) (top : ℕ) (p : 0 < F) (s : Sound F ws top) 
         left = rw (t, y) (rw t at (m .left));
       }
 
-  pub carry-meets : (plan : Plan) → Does plan → Meets F ws top o d a b plan (carry F plan ws top)
+  pub carry-meets : (plan : Plan) → Does F ws top x plan → Meets F ws top x plan (carry F plan ws top)
   unfolding carry withRoom planTop planLacks
-  carry-meets (plain act) m = plain-meets act (act ws top) m (does o (meaning ws) (live F ws top) d a b .unfit) refl
+  carry-meets (plain act) m = plain-meets act (act ws top) m (x .unfit) refl
   carry-meets (gathered act) m =
       done-meets (gathered act) 0 (collected F ws top) (collectedTop F ws top)
       (act (collected F ws top) (collectedTop F ws top)) (length-collected F ws top p s)
@@ -189,8 +187,8 @@ module _ (F : ℕ) (ws : List ℕ) (top : ℕ) (p : 0 < F) (s : Sound F ws top) 
   carry-meets (making n v act) m = go (lacks F n v top) refl
     where
       go : (t : Bool) → lacks F n v top ≡ t
-          → Meets F ws top o d a b (making n v act) (cond t
-          (refused (collected F ws top) (collectedTop F ws top) (only 16))
+          → Meets F ws top x (making n v act)
+          (cond t (refused (collected F ws top) (collectedTop F ws top) (only 16))
           (act (roomWords F n v top) (roomTop F n v top)))
       go true l = record {
         sound = collected-sound F ws top p s;

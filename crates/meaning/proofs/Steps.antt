@@ -14,18 +14,19 @@ use Rattle.meaning.specs.Sound.{at, Sound, capacity}
 use Rattle.meaning.specs.Meaning.{meaning}
 use Rattle.meaning.specs.Reach.{live}
 use Rattle.meaning.specs.Collected.{collected, collectedTop}
-use Rattle.meaning.specs.Check.{Done, only, refused, size}
+use Rattle.meaning.specs.Check.{Done, size}
 use Rattle.meaning.specs.Call.{uses, Op, CLEAR, COPY, SYMBOL, WRAP, JOIN, HEAD, REST, OPEN, LENGTH, FIRST, LIVE}
 use Rattle.meaning.specs.Call.{COLLECT, fault, joinNeed, joinPlan, sought, lacks, planOf, perform, stepAfter}
 use Rattle.meaning.specs.Call.{step, opAt}
 use Rattle.meaning.specs.Effect.{does, after, answer, callStatus}
-use Rattle.meaning.specs.Batch.{then, runs}
+use Rattle.meaning.specs.Batch.{runs}
 use Rattle.meaning.proofs.Cells.{good}
 use Rattle.meaning.proofs.Collecting.{collected-sound, meaning-kept}
 use Rattle.meaning.proofs.Reaching.{live-le}
 use Rattle.meaning.proofs.Again.{live-kept}
-use Rattle.meaning.proofs.Stepping.{Denote, Others, clear-acts, copy-acts, head-at, rest-at, open-at, code-at}
-use Rattle.meaning.proofs.Stepping.{length-acts, live-acts, collect-acts, size-terms, meaning-at}
+use Rattle.meaning.proofs.Effects.{Denote, Others, meaning-at}
+use Rattle.meaning.proofs.Stepping.{clear-acts, copy-acts, head-at, rest-at, open-at, code-at, length-acts}
+use Rattle.meaning.proofs.Stepping.{live-acts, collect-acts, size-terms, unfit-small}
 use Rattle.meaning.proofs.Building.{symbol-acts, wrap-acts, join-left-acts, join-right-acts, join-both-acts}
 use Rattle.meaning.proofs.Uses.{Right, right, is-register, is-code, fault-small}
 use Rattle.meaning.proofs.Plans.{sought-sound, sought-length, sought-live, sought-meaning, planLacks, planTop}
@@ -57,7 +58,7 @@ module _ (F : ℕ) (ws : List ℕ) (top : ℕ) (p : 0 < F) (s : Sound F ws top) 
   size-same v t w i h m = size-terms F v t p w i h ∙ (ap terms m ∙ sym (size-terms F ws top p s i h))
 
   join-does : (d a b : ℕ) → d < F → a < F → b < F → (n m : ℕ) → size (at ws a) ≡ n → size (at ws b) ≡ m
-      → Does F ws top p s JOIN d a b (joinPlan n m ws d a b)
+      → Does F ws top (does JOIN e lv d a b) (joinPlan n m ws d a b)
   join-does d a b hd ha hb zero m x y = join-left-acts F p e lv ws top s d a b (λ i h g. refl) refl refl hd ha hb x
   join-does d a b hd ha hb (suc n) zero x y =
       join-right-acts F p e lv ws top s d a b (λ i h g. refl) refl refl hd ha hb y
@@ -75,7 +76,7 @@ module _ (F : ℕ) (ws : List ℕ) (top : ℕ) (p : 0 < F) (s : Sound F ws top) 
             (suc n + suc m) (omega arith) r,
       )
 
-  plan-does : (o : Op) (d a b : ℕ) → Right F o d a b → Does F ws top p s o d a b (planOf o F ws top d a b)
+  plan-does : (o : Op) (d a b : ℕ) → Right F o d a b → Does F ws top (does o e lv d a b) (planOf o F ws top d a b)
   unfolding planOf uses
   plan-does CLEAR d a b q = clear-acts F p e lv ws top s d still a b (is-register F d (q .d11))
   plan-does COPY d a b q = copy-acts F p e lv ws top s d still a b (is-register F d (q .d11)) (is-register F a (q .a11))
@@ -114,9 +115,11 @@ module _ (F : ℕ) (ws : List ℕ) (top : ℕ) (p : 0 < F) (s : Sound F ws top) 
   )
 
   pub perform-meets : (o : Op) (d a b : ℕ) → Right F o d a b
-      → Meets F ws top o d a b (planOf o F ws top d a b) (perform o F ws top d a b)
+      → Meets F ws top (does o e lv d a b) (planOf o F ws top d a b) (perform o F ws top d a b)
   unfolding perform
-  perform-meets o d a b q = carry-meets F ws top p s o d a b (planOf o F ws top d a b) (plan-does o d a b q)
+  perform-meets o d a b q =
+      carry-meets F ws top p s (does o e lv d a b) (unfit-small o e lv d a b) (planOf o F ws top d a b)
+      (plan-does o d a b q)
 
   -- ---- the rule for room, in the paper's words: F + live + need exceeds the capacity
 

@@ -17,10 +17,11 @@ use Rattle.meaning.specs.Collected.{collected, collectedTop}
 use Rattle.meaning.specs.Check.{Done, done, refused, only, size}
 use Rattle.meaning.specs.Call.{Op, CLEAR, COPY, SYMBOL, WRAP, JOIN, HEAD, REST, OPEN, LENGTH, FIRST, LIVE, COLLECT, ops}
 use Rattle.meaning.specs.Call.{uses, opAt, fault, put, share, head, rest, openFirst, codeFirst, newRun, newSymbol}
-use Rattle.meaning.specs.Call.{newBracket}
-use Rattle.meaning.specs.Call.{sought, joinNeed, joinPlan, lacks, roomWords, roomTop, withRoom, planOf, carry, perform}
+use Rattle.meaning.specs.Call.{newBracket, sought, joinNeed, joinPlan, lacks, roomWords, roomTop, withRoom, planOf}
+use Rattle.meaning.specs.Call.{carry, perform}
 use Rattle.meaning.specs.Effect.{does, orElse}
-use Rattle.meaning.proofs.Stepping.{Denote, size-terms}
+use Rattle.meaning.proofs.Effects.{Denote}
+use Rattle.meaning.proofs.Stepping.{size-terms}
 use Rattle.meaning.proofs.Uses.{Right, is-register, index, index-opAt}
 use Rattle.meaning.proofs.Plans.{sought-length, sought-live, sought-sound, planTop, room-sound, room-denote}
 use Rattle.promises.specs.Calls.{OnlyThere}

@@ -16,7 +16,7 @@ use Rattle.meaning.specs.Collected.{collected, collectedTop}
 use Rattle.meaning.specs.Check.{Done, done, refused}
 use Rattle.meaning.specs.Call.{ops, opAt, uses, wrong11, wrong12, wrong13, fault, planOf, perform, stepAfter, step}
 use Rattle.meaning.specs.Effect.{does, orElse, callStatus}
-use Rattle.meaning.specs.Batch.{then, runs, ended}
+use Rattle.meaning.specs.Batch.{runs, ended}
 use Rattle.meaning.proofs.Reaching.{live-le}
 use Rattle.meaning.proofs.Uses.{right}
 use Rattle.meaning.proofs.Plans.{planLacks, planTop, topAfter, WordsAfter}

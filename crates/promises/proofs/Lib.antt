@@ -3,7 +3,8 @@
 --   Follow     stores that follow one another, cell by cell, have the same canonical words
 --   Pairs      a store and that store collected, and both with a register set or with n new cells
 --   Agree, Builds   what an action does in a store, it does in that store collected; without and with new cells
---   Twins      what a call does in a store, it does in any store with the same canonical words
+--   Twins      what an action does in a store, it does in any store with the same canonical words; room sought first
+--   TwinCalls  so does a call
 --   Alikes     alike, by canonical words and by collecting
 --   Struck     lists of calls without COLLECT, and cut into batches: demand 3
 --   Touching, Acting   which words an action changes, in which store, and its `top`
@@ -18,6 +19,7 @@ pub mod Pairs
 pub mod Agree
 pub mod Builds
 pub mod Twins
+pub mod TwinCalls
 pub mod Alikes
 pub mod Struck
 pub mod Touching

@@ -10,16 +10,17 @@ use lib.ListN.{length, replicate}
 use lib.Seq.{take-at}
 use borrow.Author.Tests.{eqb-true}
 use Rattle.meaning.specs.Sound.{Sound}
-use Rattle.meaning.specs.Check.{Verdict, Done, done, refused}
+use Rattle.meaning.specs.Check.{Verdict, Done}
 use Rattle.meaning.specs.Call.{ops, opAt, fault, planOf, carry, perform, stepAfter, step}
-use Rattle.meaning.specs.Batch.{Ran, then, runs, ended}
+use Rattle.meaning.specs.Batch.{Ran, runs, ended}
 use Rattle.meaning.proofs.Steps.{step-meets, Fours, none, four}
 use Rattle.meaning.proofs.Batches.{runs-cut, batch-runs}
 use Rattle.promises.specs.Alike.{Lent, callsOf, served, NoneRefused, isCollect, strike, strikeAnswers}
 use Rattle.promises.specs.Alike.{CollectionsNeverShow}
 use Rattle.promises.proofs.Canons.{canon}
 use Rattle.promises.proofs.Pairs.{canon-collected}
-use Rattle.promises.proofs.Twins.{Twin, twin-self, twin-flip, twin-trans, step-agrees}
+use Rattle.promises.proofs.Twins.{Twin, twin-self, twin-flip, twin-trans}
+use Rattle.promises.proofs.TwinCalls.{step-agrees}
 use Rattle.promises.proofs.Alikes.{alike-canon, canon-alike, collect-sound, same-length, canon-collects}
 
 -- ---- one call

@@ -8,7 +8,7 @@ use native.Mathlib.Omega.{arith}
 use Rattle.words.proofs.Cells.{firstWord-other, secondWord-other}
 use Rattle.meaning.specs.Sound.{Cell, code, hollow, ends, fst, snd, at}
 use Rattle.words.specs.Cell.{firstWord, secondWord}
-use Rattle.meaning.specs.Check.{Done, done, refused, size, start}
+use Rattle.meaning.specs.Check.{Done, done, size, start}
 use Rattle.meaning.specs.Call.{put, copy, copies, share, newSymbol, newBracket, newRunOf, newRun, head, rest, openTerm}
 use Rattle.meaning.specs.Call.{openFirst, codeTerm, codeFirst}
 use Rattle.promises.specs.Calls.{OnlyThere}
