@@ -1,13 +1,14 @@
--- A list of numbers as a table with three to a row; and a test over the three words of a call by its row of the table
--- of uses. Assumes nothing.
+-- A list of numbers as a table with three to a row; by its row of the table of uses, a test over the three words of a
+-- call, and its operand registers. Assumes nothing.
 use mathlib.Core.Path.{_≡_, refl}
-use mathlib.Core.Bool.{Bool, _||_}
+use mathlib.Core.Bool.{Bool, true, false, _||_}
 use mathlib.Core.List.{List, [], _∷_}
 use Prim.Native.Nat.{ℕ, zero, suc, _+_, _*_, _<_}
 use native.Mathlib.Nat.{add-zero}
 use native.Mathlib.Omega.{arith}
 use lib.ListN.{length, getD}
-use Rattle.meaning.specs.Call.{uses}
+use Rattle.meaning.specs.Call.{uses, opAt, names, isOperand}
+use Rattle.meaning.proofs.Uses.{index-opAt}
 
 abbrev pub rows : List ℕ → List (List ℕ)
 rows [] = []
@@ -39,3 +40,15 @@ module _ (o d a b : ℕ) where
       → v ≡ getD uses (3 * o + 1) 0 → w ≡ getD uses (3 * o + 2) 0
       → x ≡ wrong u d → y ≡ wrong v a → z ≡ wrong w b → r ≡ (x || y || z) → three wrong ≡ r
   three-read wrong e f g p q t k = simp (k, p, q, t, e, f, g, add-zero)
+
+-- ---- the operand registers, from a row that was read
+
+module _ (o r a b : ℕ) (h : o < 12) where
+  pub by-first : {u : ℕ} → u ≡ getD uses (3 * o + 1) 0 → names u a r ≡ true → isOperand (opAt o) r a b ≡ true
+  unfolding isOperand
+  by-first e t = rw (index-opAt o h, ← e, t) refl
+
+  pub by-second : {u v : ℕ} → u ≡ getD uses (3 * o + 1) 0 → v ≡ getD uses (3 * o + 2) 0 → names u a r ≡ false
+      → isOperand (opAt o) r a b ≡ names v b r
+  unfolding isOperand
+  by-second e f t = rw (index-opAt o h, ← e, ← f, t) refl

@@ -12,7 +12,7 @@ use Rattle.meaning.specs.Meaning.{run, inside, termOf, term, meaning}
 use Rattle.meaning.specs.Check.{size}
 use Rattle.meaning.specs.Call.{SYMBOL, WRAP, JOIN, put, copies, newSymbol, newBracket, newRunOf, newRun, share}
 use Rattle.meaning.specs.Call.{joinNeed}
-use Rattle.meaning.specs.Effect.{does}
+use Rattle.meaning.specs.Effect.{Facts, does}
 use Rattle.meaning.proofs.Cells.{TermIn, BracketIn, term-of-bracket, good}
 use Rattle.meaning.proofs.Terms.{append-nothing, run-ext, run-split}
 use Rattle.meaning.proofs.Writing.{at-put, copy-put, term-law}
@@ -20,7 +20,7 @@ use Rattle.meaning.proofs.Laying.{extends-put, extends-term, extends-in
 use Rattle.meaning.proofs.Effects.{Others, Acts, meaning-at, new-acts, set-acts}
 use Rattle.meaning.proofs.Stepping.{wrapped, size-terms}
 
-module _ (F : ℕ) (p : 0 < F) (e : ℕ → Expr) (lv : ℕ) (ws : List ℕ) (top : ℕ) (s : Sound F ws top) where
+module _ (F : ℕ) (p : 0 < F) (e : ℕ → Expr) (fs : Facts) (ws : List ℕ) (top : ℕ) (s : Sound F ws top) where
   -- one new cell
   one-cell : (c : Cell) → 2 * suc top ≤ length ws → TermIn F top c
       → inside (term (at (put ws top c)) (length (put ws top c))) (ends top top) ≡ termOf
@@ -35,7 +35,7 @@ module _ (F : ℕ) (p : 0 < F) (e : ℕ → Expr) (lv : ℕ) (ws : List ℕ) (to
       (at-put ws top c F top p (omega arith) t)))
 
   pub symbol-acts : (d a b : ℕ) → Others F ws e d → d < F → IsCode a → 2 * (top + 1) ≤ length ws
-      → Acts F e (does SYMBOL e lv d a b) 1 ws top (newSymbol d a ws top)
+      → Acts F e (does SYMBOL e fs d a b) 1 ws top (newSymbol d a ws top)
   unfolding newSymbol
   symbol-acts d a b m l h r =
       let r′ : 2 * suc top ≤ length ws = omega arith in
@@ -44,7 +44,7 @@ module _ (F : ℕ) (p : 0 < F) (e : ℕ → Expr) (lv : ℕ) (ws : List ℕ) (to
       (symbol a nothing) (one-cell (code a) r′ h) 1 (omega arith)
 
   pub wrap-acts : (d a b : ℕ) → Others F ws e d → meaning ws a ≡ e a → d < F → a < F → 2 * (top + 1) ≤ length ws
-      → Acts F e (does WRAP e lv d a b) 1 ws top (newBracket d a ws top)
+      → Acts F e (does WRAP e fs d a b) 1 ws top (newBracket d a ws top)
   unfolding newBracket
   wrap-acts d a b m ma l h r =
       let r′ : 2 * suc top ≤ length ws = omega arith in
@@ -105,7 +105,7 @@ module _ (F : ℕ) (p : 0 < F) (e : ℕ → Expr) (lv : ℕ) (ws : List ℕ) (to
 
     run-acts : (d a b : ℕ) → Others F ws e d → meaning ws a ≡ e a → meaning ws b ≡ e b → d < F → a < F → b < F
         → at ws a ≡ ends l r → at ws b ≡ ends l′ r′
-        → (j : ℕ) → n + k ≡ j → Acts F e (does JOIN e lv d a b) j ws top (newRunOf d (ends l r) (ends l′ r′) ws top)
+        → (j : ℕ) → n + k ≡ j → Acts F e (does JOIN e fs d a b) j ws top (newRunOf d (ends l r) (ends l′ r′) ws top)
     unfolding newRunOf meaning
     run-acts d a b g ga gb h ha hb u x j z =
         new-acts F p e ws top s 0 (joinNeed (terms (e a)) (terms (e b))) d refl g h v (top + (n + k)) (laid .more)
@@ -121,7 +121,7 @@ module _ (F : ℕ) (p : 0 < F) (e : ℕ → Expr) (lv : ℕ) (ws : List ℕ) (to
   cells-act : (d a b : ℕ) → Others F ws e d → meaning ws a ≡ e a → meaning ws b ≡ e b → d < F → a < F → b < F
       → (x y : Cell) → at ws a ≡ x → at ws b ≡ y → BracketIn F top x → BracketIn F top y
       → 0 < size x → 0 < size y → 2 * (top + (size x + size y)) ≤ length ws → (j : ℕ) → size x + size y ≡ j
-      → Acts F e (does JOIN e lv d a b) j ws top (newRunOf d x y ws top)
+      → Acts F e (does JOIN e fs d a b) j ws top (newRunOf d x y ws top)
   cells-act d a b g ga gb h ha hb (code i) y u v t t′ z z′ q j n = absurd t
   cells-act d a b g ga gb h ha hb hollow y u v t t′ z z′ q j n = absurd (not-suc-le-zero z)
   cells-act d a b g ga gb h ha hb (ends l r) (code i) u v t t′ z z′ q j n = absurd t′
@@ -138,7 +138,7 @@ module _ (F : ℕ) (p : 0 < F) (e : ℕ → Expr) (lv : ℕ) (ws : List ℕ) (to
     zb : size (at ws b) ≡ terms (e b)
     zb = size-terms F ws top p s b hb ∙ ap terms mb
 
-    pub join-left-acts : size (at ws a) ≡ 0 → Acts F e (does JOIN e lv d a b) 0 ws top (share d b ws top)
+    pub join-left-acts : size (at ws a) ≡ 0 → Acts F e (does JOIN e fs d a b) 0 ws top (share d b ws top)
     unfolding share
     join-left-acts y =
         let z : terms (e a) ≡ 0 = omega (arith, za) in
@@ -147,7 +147,7 @@ module _ (F : ℕ) (p : 0 < F) (e : ℕ → Expr) (lv : ℕ) (ws : List ℕ) (to
         (good F ws top p s .regs b hb) (append (e a) (e b))
         (rw (no-terms (e a) z) (sym (meaning-at F ws top p s b) ∙ mb)))
 
-    pub join-right-acts : size (at ws b) ≡ 0 → Acts F e (does JOIN e lv d a b) 0 ws top (share d a ws top)
+    pub join-right-acts : size (at ws b) ≡ 0 → Acts F e (does JOIN e fs d a b) 0 ws top (share d a ws top)
     unfolding share
     join-right-acts y =
         let z : terms (e b) ≡ 0 = omega (arith, zb) in
@@ -158,7 +158,7 @@ module _ (F : ℕ) (p : 0 < F) (e : ℕ → Expr) (lv : ℕ) (ws : List ℕ) (to
 
     pub join-both-acts : 0 < size (at ws a) → 0 < size (at ws b) → (j : ℕ) → size (at ws a) + size (at ws b) ≡ j
         → 2 * (top + j) ≤ length ws
-        → Acts F e (does JOIN e lv d a b) j ws top (newRun d a b ws top)
+        → Acts F e (does JOIN e fs d a b) j ws top (newRun d a b ws top)
     unfolding newRun
     join-both-acts x y j n r =
         cells-act d a b m ma mb l ha hb (at ws a) (at ws b) refl refl (good F ws top p s .regs a ha)

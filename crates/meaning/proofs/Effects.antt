@@ -103,8 +103,8 @@ module _ (F : ℕ) (p : 0 < F) (e : ℕ → Expr) (ws : List ℕ) (top : ℕ) (s
       left = refl;
     }
 
-    pub tell-acts : (u v w : ℕ) → u ≡ 0 → v ≡ w → Acts F e (tells u e v) 0 ws top (done ws top w)
-    tell-acts u v w z y = record {
+    pub tell-acts : (u v w : ℕ) (c : Bool) → u ≡ 0 → v ≡ w → Acts F e (tells u e v c) 0 ws top (done ws top w)
+    tell-acts u v w c z y = record {
       sound = s;
       len = refl;
       status = sym z;

@@ -1,6 +1,7 @@
 -- A plan carried out: what a call does where it acts, it does to the store; and the rule for room.
 -- Assumes nothing.
 use mathlib.Core.Path.{_≡_, refl, sym, _∙_}
+use mathlib.Core.Logic.{_≢_}
 use mathlib.Core.Bool.{Bool, true, false, cond}
 use mathlib.Core.List.{List}
 use Prim.Native.Nat.{ℕ, zero, suc, _+_, _-_, _*_, _/_, _≤_, _<_}
@@ -9,6 +10,7 @@ use native.Mathlib.Omega.{arith}
 use lib.Dec.{ltb, eqb}
 use lib.ListN.{length}
 use borrow.Author.Tests.{ltb-false, le-ltb, ne-eqb}
+use Rattle.words.specs.Cell.{firstWord, secondWord}
 use Rattle.meaning.specs.Sound.{at, Sound, capacity}
 use Rattle.meaning.specs.Meaning.{meaning}
 use Rattle.meaning.specs.Reach.{live}
@@ -16,30 +18,32 @@ use Rattle.meaning.specs.Collected.{collected, collectedTop}
 use Rattle.meaning.specs.Check.{Done, only, refused}
 use Rattle.meaning.specs.Call.{Plan, plain, gathered, making, sought, lacks, roomWords, roomTop, withRoom, carry}
 use Rattle.meaning.specs.Effect.{Effect, orElse, after, answer}
-use Rattle.meaning.proofs.Lists.{In}
 use Rattle.meaning.proofs.Reaching.{live-le}
 use Rattle.meaning.proofs.Collecting.{collected-sound, length-collected, meaning-kept}
 use Rattle.meaning.proofs.Effects.{Denote, Acts}
 
 -- ---- the store in which room is sought, by laws: nothing else unfolds it
 
-module _ (F : ℕ) (ws : List ℕ) (top d : ℕ) (operands : List ℕ) where
-  pub sought-sound : Sound F ws top → Sound F (sought ws d operands) top
-  unfolding sought
-  sought-sound s = s
+pub sought-length : (kept : Bool) (d : ℕ) (ws : List ℕ) → length (sought kept d ws) ≡ length ws
+unfolding sought
+sought-length kept d ws = refl
 
-  pub sought-length : length (sought ws d operands) ≡ length ws
-  unfolding sought
-  sought-length = refl
+-- no cell but d differs
+pub sought-other : (kept : Bool) (d : ℕ) (ws : List ℕ) (c : ℕ) → c ≢ d
+    → (firstWord (sought kept d ws) c ≡ firstWord ws c) × (secondWord (sought kept d ws) c ≡ secondWord ws c)
+unfolding sought
+sought-other kept d ws c n = (refl, refl)
 
-  pub sought-live : live F (sought ws d operands) top ≡ live F ws top
+module _ (F : ℕ) (ws : List ℕ) (top : ℕ) (p : 0 < F) (s : Sound F ws top) where
+  pub sought-sound : (kept : Bool) (d : ℕ) → (kept ≡ false → d < F) → Sound F (sought kept d ws) top
   unfolding sought
-  sought-live = refl
+  sought-sound kept d l = s
 
-  -- the operands and every register but d denote in it what they denote
-  pub sought-meaning : (i : ℕ) → i < F → (i ≡ d → In i operands) → meaning (sought ws d operands) i ≡ meaning ws i
+  -- a register that is not d, or is kept, denotes in it what it denotes
+  pub sought-meaning : (kept : Bool) (d : ℕ) → (kept ≡ false → d < F) → (i : ℕ) → i < F → (i ≡ d → kept ≡ true)
+      → meaning (sought kept d ws) i ≡ meaning ws i
   unfolding sought
-  sought-meaning i h o = refl
+  sought-meaning kept d l i h k = refl
 
 -- ---- what carrying out a plan has to give
 

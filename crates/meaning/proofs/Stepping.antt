@@ -16,7 +16,7 @@ use Rattle.meaning.specs.Meaning.{run, inside, termOf, term, meaning}
 use Rattle.meaning.specs.Check.{done, refused, size, only}
 use Rattle.meaning.specs.Call.{Op, CLEAR, COPY, SYMBOL, WRAP, JOIN, HEAD, REST, OPEN, LENGTH, FIRST, LIVE}
 use Rattle.meaning.specs.Call.{COLLECT, put, head, rest, openTerm, openFirst, codeTerm, codeFirst, share}
-use Rattle.meaning.specs.Effect.{Effect, sets, tells, does, onEmpty, onOpen, onFirst}
+use Rattle.meaning.specs.Effect.{Facts, Effect, sets, tells, does, onEmpty, onOpen, onFirst}
 use Rattle.meaning.proofs.Cells.{TermIn, BracketIn, good}
 use Rattle.meaning.proofs.Terms.{append-nothing, terms-append}
 use Rattle.meaning.proofs.Writing.{copy-put, term-law}
@@ -87,7 +87,7 @@ module _ (F : ℕ) (ws : List ℕ) (top : ℕ) (p : 0 < F) (s : Sound F ws top) 
   unfolding meaning
   size-terms a h = sym (size-inside (at ws a) (good F ws top p s .regs a h))
 
-module _ (F : ℕ) (p : 0 < F) (e : ℕ → Expr) (lv : ℕ) (ws : List ℕ) (top : ℕ) (s : Sound F ws top) (d : ℕ)
+module _ (F : ℕ) (p : 0 < F) (e : ℕ → Expr) (fs : Facts) (ws : List ℕ) (top : ℕ) (s : Sound F ws top) (d : ℕ)
     (m : Denote F ws e) where
   -- d is set, the call refused, or no register changed
   set : (u : ℕ) → u ≡ 0 → d < F → (k : Cell) → BracketIn F top k → (x : Expr) → inside (T F ws top p s) k ≡ x
@@ -97,16 +97,16 @@ module _ (F : ℕ) (p : 0 < F) (e : ℕ → Expr) (lv : ℕ) (ws : List ℕ) (to
   refuse : (x : Effect) (u : ℕ) → x .unfit ≡ suc u → Acts F e x 0 ws top (refused ws top (only (suc u)))
   refuse = refuse-acts F p e ws top s m
 
-  tell : (u v w : ℕ) → u ≡ 0 → v ≡ w → Acts F e (tells u e v) 0 ws top (done ws top w)
+  tell : (u v w : ℕ) (c : Bool) → u ≡ 0 → v ≡ w → Acts F e (tells u e v c) 0 ws top (done ws top w)
   tell = tell-acts F p e ws top s m
 
   held : (a : ℕ) → a < F → e a ≡ inside (T F ws top p s) (at ws a)
   held a h = sym (m a h) ∙ meaning-at F ws top p s a
 
-  pub clear-acts : (a b : ℕ) → d < F → Acts F e (does CLEAR e lv d a b) 0 ws top (done (put ws d hollow) top 0)
+  pub clear-acts : (a b : ℕ) → d < F → Acts F e (does CLEAR e fs d a b) 0 ws top (done (put ws d hollow) top 0)
   clear-acts a b l = set 0 refl l hollow tt nothing refl
 
-  pub copy-acts : (a b : ℕ) → d < F → a < F → Acts F e (does COPY e lv d a b) 0 ws top (share d a ws top)
+  pub copy-acts : (a b : ℕ) → d < F → a < F → Acts F e (does COPY e fs d a b) 0 ws top (share d a ws top)
   unfolding share
   copy-acts a b l h =
       rw (copy-put F ws top d a p s (le-trans h (s .low)))
@@ -120,10 +120,10 @@ module _ (F : ℕ) (p : 0 < F) (e : ℕ → Expr) (lv : ℕ) (ws : List ℕ) (to
   front-at a l r t q = q ∙ front F ws top p s l r (t .0) (t .1) (t .2)
 
   pub head-at : (a b : ℕ) → d < F → (k : Cell) → BracketIn F top k → e a ≡ inside (T F ws top p s) k
-      → Acts F e (does HEAD e lv d a b) 0 ws top (head ws top d k)
+      → Acts F e (does HEAD e fs d a b) 0 ws top (head ws top d k)
   unfolding head
   head-at a b h (code c) t q = absurd t
-  head-at a b h hollow t q = refuse (does HEAD e lv d a b) 13 (rw q refl)
+  head-at a b h hollow t q = refuse (does HEAD e fs d a b) 13 (rw q refl)
   head-at a b h (ends l r) t q =
       let f = front-at a l r t q in
       let one : suc l - l ≡ 1 = omega arith in
@@ -144,10 +144,10 @@ module _ (F : ℕ) (p : 0 < F) (e : ℕ → Expr) (lv : ℕ) (ws : List ℕ) (to
       go false v = let z : r - l ≡ 0 = omega (arith, ltb-false l r v) in (tt, rw z refl)
 
   pub rest-at : (a b : ℕ) → d < F → (k : Cell) → BracketIn F top k → e a ≡ inside (T F ws top p s) k
-      → Acts F e (does REST e lv d a b) 0 ws top (rest ws top d k)
+      → Acts F e (does REST e fs d a b) 0 ws top (rest ws top d k)
   unfolding rest
   rest-at a b h (code c) t q = absurd t
-  rest-at a b h hollow t q = refuse (does REST e lv d a b) 13 (rw q refl)
+  rest-at a b h hollow t q = refuse (does REST e fs d a b) 13 (rw q refl)
   rest-at a b h (ends l r) t q =
       let f = front-at a l r t q in
       let c = rest-cell l r t in
@@ -156,9 +156,9 @@ module _ (F : ℕ) (p : 0 < F) (e : ℕ → Expr) (lv : ℕ) (ws : List ℕ) (to
       (c .1 ∙ rw (f, less-front (T F ws top p s) (at ws l) (run (T F ws top p s) (suc l) (r - l))) refl)
 
   open-term : (a b x : ℕ) → d < F → F ≤ x → x < top → (k : Cell) (y : Expr) → TermIn F x k → at ws x ≡ k
-      → e a ≡ append (termOf (T F ws top p s) k) y → Acts F e (does OPEN e lv d a b) 0 ws top (openTerm ws top d x k)
+      → e a ≡ append (termOf (T F ws top p s) k) y → Acts F e (does OPEN e fs d a b) 0 ws top (openTerm ws top d x k)
   unfolding openTerm
-  open-term a b x h f g (code c) y t w q = refuse (does OPEN e lv d a b) 14 (rw q refl)
+  open-term a b x h f g (code c) y t w q = refuse (does OPEN e fs d a b) 14 (rw q refl)
   open-term a b x h f g hollow y t w q =
       rw (copy-put F ws top d x p s g, w)
       (set (onOpen (e a)) (rw q refl) h hollow tt (opened (e a)) (rw q refl))
@@ -167,38 +167,38 @@ module _ (F : ℕ) (p : 0 < F) (e : ℕ → Expr) (lv : ℕ) (ws : List ℕ) (to
       (set (onOpen (e a)) (rw q refl) h (ends l r) (t .0, t .1, omega (arith, t .2)) (opened (e a)) (rw q refl))
 
   pub open-at : (a b : ℕ) → d < F → (k : Cell) → BracketIn F top k → e a ≡ inside (T F ws top p s) k
-      → Acts F e (does OPEN e lv d a b) 0 ws top (openFirst ws top d k)
+      → Acts F e (does OPEN e fs d a b) 0 ws top (openFirst ws top d k)
   unfolding openFirst
   open-at a b h (code c) t q = absurd t
-  open-at a b h hollow t q = refuse (does OPEN e lv d a b) 13 (rw q refl)
+  open-at a b h hollow t q = refuse (does OPEN e fs d a b) 13 (rw q refl)
   open-at a b h (ends l r) t q =
       let g : l < top = omega (arith, t .1, t .2) in
       open-term a b l h (t .0) g (at ws l) (run (T F ws top p s) (suc l) (r - l))
       (good F ws top p s .heap l (t .0) g) refl (front-at a l r t q)
 
   code-term : (a b : ℕ) (k : Cell) (y : Expr) → e a ≡ append (termOf (T F ws top p s) k) y
-      → Acts F e (does FIRST e lv d a b) 0 ws top (codeTerm ws top k)
+      → Acts F e (does FIRST e fs d a b) 0 ws top (codeTerm ws top k)
   unfolding codeTerm
-  code-term a b (code c) y q = tell (onFirst (e a)) (firstCode (e a)) c (rw q refl) (rw q refl)
-  code-term a b hollow y q = refuse (does FIRST e lv d a b) 14 (rw q refl)
-  code-term a b (ends l r) y q = refuse (does FIRST e lv d a b) 14 (rw q refl)
+  code-term a b (code c) y q = tell (onFirst (e a)) (firstCode (e a)) c false (rw q refl) (rw q refl)
+  code-term a b hollow y q = refuse (does FIRST e fs d a b) 14 (rw q refl)
+  code-term a b (ends l r) y q = refuse (does FIRST e fs d a b) 14 (rw q refl)
 
   pub code-at : (a b : ℕ) (k : Cell) → BracketIn F top k → e a ≡ inside (T F ws top p s) k
-      → Acts F e (does FIRST e lv d a b) 0 ws top (codeFirst ws top k)
+      → Acts F e (does FIRST e fs d a b) 0 ws top (codeFirst ws top k)
   unfolding codeFirst
   code-at a b (code c) t q = absurd t
-  code-at a b hollow t q = refuse (does FIRST e lv d a b) 13 (rw q refl)
+  code-at a b hollow t q = refuse (does FIRST e fs d a b) 13 (rw q refl)
   code-at a b (ends l r) t q = code-term a b (at ws l) (run (T F ws top p s) (suc l) (r - l)) (front-at a l r t q)
 
-  pub length-acts : (a b : ℕ) → a < F → Acts F e (does LENGTH e lv d a b) 0 ws top (done ws top (size (at ws a)))
+  pub length-acts : (a b : ℕ) → a < F → Acts F e (does LENGTH e fs d a b) 0 ws top (done ws top (size (at ws a)))
   length-acts a b h =
-      tell 0 (terms (e a)) (size (at ws a)) refl (ap terms (sym (m a h)) ∙ sym (size-terms F ws top p s a h))
+      tell 0 (terms (e a)) (size (at ws a)) false refl (ap terms (sym (m a h)) ∙ sym (size-terms F ws top p s a h))
 
-  pub live-acts : (a b : ℕ) → Acts F e (does LIVE e lv d a b) 0 ws top (done ws top lv)
-  live-acts a b = tell 0 lv lv refl refl
+  pub live-acts : (a b : ℕ) → Acts F e (does LIVE e fs d a b) 0 ws top (done ws top (fs .live))
+  live-acts a b = tell 0 (fs .live) (fs .live) false refl refl
 
-  pub collect-acts : (a b : ℕ) → Acts F e (does COLLECT e lv d a b) 0 ws top (done ws top lv)
-  collect-acts a b = tell 0 lv lv refl refl
+  pub collect-acts : (a b : ℕ) → Acts F e (does COLLECT e fs d a b) 0 ws top (done ws top (fs .live))
+  collect-acts a b = tell 0 (fs .live) (fs .live) true refl refl
 
 -- ---- the statuses of `does`
 
@@ -217,16 +217,16 @@ small-first nothing = omega arith
 small-first (symbol c r) = omega arith
 small-first (parens i r) = omega arith
 
-pub unfit-small : (o : Op) (e : ℕ → Expr) (lv d a b : ℕ) → does o e lv d a b .unfit ≤ 15
-unfit-small CLEAR e lv d a b = omega arith
-unfit-small COPY e lv d a b = omega arith
-unfit-small SYMBOL e lv d a b = omega arith
-unfit-small WRAP e lv d a b = omega arith
-unfit-small JOIN e lv d a b = omega arith
-unfit-small HEAD e lv d a b = small-empty (e a)
-unfit-small REST e lv d a b = small-empty (e a)
-unfit-small OPEN e lv d a b = small-open (e a)
-unfit-small LENGTH e lv d a b = omega arith
-unfit-small FIRST e lv d a b = small-first (e a)
-unfit-small LIVE e lv d a b = omega arith
-unfit-small COLLECT e lv d a b = omega arith
+pub unfit-small : (o : Op) (e : ℕ → Expr) (fs : Facts) (d a b : ℕ) → does o e fs d a b .unfit ≤ 15
+unfit-small CLEAR e fs d a b = omega arith
+unfit-small COPY e fs d a b = omega arith
+unfit-small SYMBOL e fs d a b = omega arith
+unfit-small WRAP e fs d a b = omega arith
+unfit-small JOIN e fs d a b = omega arith
+unfit-small HEAD e fs d a b = small-empty (e a)
+unfit-small REST e fs d a b = small-empty (e a)
+unfit-small OPEN e fs d a b = small-open (e a)
+unfit-small LENGTH e fs d a b = omega arith
+unfit-small FIRST e fs d a b = small-first (e a)
+unfit-small LIVE e fs d a b = omega arith
+unfit-small COLLECT e fs d a b = omega arith

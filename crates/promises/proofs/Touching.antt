@@ -17,7 +17,7 @@ module _ (d t n : ℕ) where
   pub only-same : (ws : List ℕ) → OnlyThere d t n ws ws
   only-same ws c h g = (refl, refl)
 
-  only-trans : (ws v u : List ℕ) → OnlyThere d t n ws v → OnlyThere d t n v u → OnlyThere d t n ws u
+  pub only-trans : (ws v u : List ℕ) → OnlyThere d t n ws v → OnlyThere d t n v u → OnlyThere d t n ws u
   only-trans ws v u x y c h g = (y c h g .0 ∙ x c h g .0, y c h g .1 ∙ x c h g .1)
 
   only-put : (ws : List ℕ) (b : Cell) → OnlyThere d t n ws (put ws d b)

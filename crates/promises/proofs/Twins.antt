@@ -8,18 +8,15 @@ use Prim.Native.Nat.{ℕ, _+_, _*_, _≤_, _<_}
 use native.Mathlib.Omega.{arith}
 use lib.Dec.{ltb}
 use lib.ListN.{length}
-use Rattle.meaning.specs.Expr.{terms}
 use Rattle.meaning.specs.Sound.{at, Sound, capacity}
 use Rattle.meaning.specs.Meaning.{meaning}
 use Rattle.meaning.specs.Reach.{live}
 use Rattle.meaning.specs.Collected.{collected, collectedTop}
 use Rattle.meaning.specs.Check.{Done, refused, only, size}
 use Rattle.meaning.specs.Call.{sought, lacks, roomWords, roomTop, withRoom}
-use Rattle.meaning.proofs.Lists.{In}
 use Rattle.meaning.proofs.Collecting.{collected-sound, length-collected}
 use Rattle.meaning.proofs.Effects.{Denote}
-use Rattle.meaning.proofs.Stepping.{size-terms}
-use Rattle.meaning.proofs.Plans.{sought-meaning, room-sound, room-denote, room-fits}
+use Rattle.meaning.proofs.Plans.{room-sound, room-denote, room-fits}
 use Rattle.promises.proofs.Canons.{canon, length-canon, same-collected}
 use Rattle.promises.proofs.Pairs.{canon-collected}
 use Rattle.promises.proofs.Agree.{Agree, size-register}
@@ -54,27 +51,11 @@ twin-collected F ws top p s true =
     }
 twin-collected F ws top p s false = twin-self F ws top s
 
--- ---- the store in which room is sought, by laws: nothing else here unfolds it
-
--- twins have twins
-pub sought-twin : (F : ℕ) (ws : List ℕ) (top : ℕ) (ws′ : List ℕ) (top′ d : ℕ) (operands : List ℕ) → 0 < F → d < F
-    → Twin F ws top ws′ top′ → Twin F (sought ws d operands) top (sought ws′ d operands) top′
+-- the store in which room is sought, by the one law that unfolds it here: twins have twins
+pub sought-twin : (F : ℕ) (ws : List ℕ) (top : ℕ) (ws′ : List ℕ) (top′ : ℕ) → 0 < F → Twin F ws top ws′ top′
+    → (kept : Bool) (d : ℕ) → (kept ≡ false → d < F) → Twin F (sought kept d ws) top (sought kept d ws′) top′
 unfolding sought
-sought-twin F ws top ws′ top′ d operands p h t = t
-
--- the store with room for n cells: the store's own, as d's old expression counts
-pub sought-room : (F n : ℕ) (ws : List ℕ) (top d : ℕ) (os : List ℕ)
-    → roomWords F n (sought ws d os) top ≡ cond (ltb (capacity ws) (top + n)) (collected F ws top) ws
-unfolding sought roomWords
-sought-room F n ws top d os = refl
-
--- an operand has its size wherever the registers denote what they do in the store in which room is sought
-pub size-sought : (F : ℕ) (p : 0 < F) (ws : List ℕ) (top : ℕ) → Sound F ws top → (d : ℕ) (os x : List ℕ) (u : ℕ)
-    → Sound F x u → Denote F x (meaning (sought ws d os))
-    → (i : ℕ) → i < F → In i os → size (at x i) ≡ size (at ws i)
-size-sought F p ws top s d os x u w e i h o =
-    size-terms F x u p w i h ∙ (ap terms (e i h ∙ sought-meaning F ws top d os i h (λ z. o)) ∙ sym
-    (size-terms F ws top p s i h))
+sought-twin F ws top ws′ top′ p t kept d l = t
 
 -- ---- actions
 
