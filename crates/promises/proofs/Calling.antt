@@ -3,7 +3,7 @@
 use mathlib.Core.Path.{_≡_, refl, sym, ap, _∙_, subst}
 use mathlib.Core.Logic.{_≢_}
 use mathlib.Core.Bool.{Bool, true, false, cond}
-use mathlib.Core.List.{List}
+use mathlib.Core.List.{List, [], _∷_}
 use Prim.Native.Nat.{ℕ, zero, suc, _+_, _-_, _≤_, _<_}
 use native.Mathlib.Nat.{add-zero}
 use native.Mathlib.Omega.{arith}
@@ -15,13 +15,15 @@ use Rattle.meaning.specs.Collected.{collected, collectedTop}
 use Rattle.meaning.specs.Check.{Done, done, refused}
 use Rattle.meaning.specs.Call.{ops, opAt, uses, wrong11, wrong12, wrong13, fault, planOf, perform, stepAfter, step}
 use Rattle.meaning.specs.Effect.{effect, liveForRoom, callStatus}
-use Rattle.meaning.specs.Batch.{runs, ended}
+use Rattle.meaning.specs.Batch.{ended}
 use Rattle.meaning.proofs.Uses.{right}
 use Rattle.meaning.proofs.Plans.{planTop, topAfter, WordsAfter}
-use Rattle.meaning.proofs.Steps.{Steps, step-meets, no-need, Fours, none, four}
+use Rattle.meaning.proofs.Steps.{Steps, step-meets, no-need}
 use Rattle.meaning.proofs.Batches.{batch-runs}
-use Rattle.promises.specs.Calls.{base, baseTop, OnlyThere, CallsDo, CallsAnswer, Answered, next, BatchesRun}
-use Rattle.promises.proofs.Struck.{answers-length}
+use Rattle.promises.specs.Requests.{Request, call, requested, requests}
+use Rattle.promises.proofs.Requests.{ran, runs-ran, ran-length, requests-length}
+use Rattle.promises.specs.Calls.{Did, base, baseTop, OnlyThere, CallsDo, CallsAnswer, Answered, none, next}
+use Rattle.promises.specs.Calls.{BatchesRun}
 use Rattle.promises.proofs.Acting.{orElse-zero, op-small, stays, plan-top, plan-words, asked-words}
 
 -- ---- a call, whatever its words are
@@ -159,22 +161,26 @@ calls-answer F p ws top s =
 
 -- ---- a batch
 
-answered : (F : ℕ) (p : 0 < F) (ws : List ℕ) (top : ℕ) {cs : List ℕ} → Fours cs → Sound F ws top
-    → Answered F ws top cs (runs F ws top cs .answers) (runs F ws top cs .words) (runs F ws top cs .top)
-answered F p ws top none s = Answered.none
-answered F p ws top (four {o} {d} {a} {b} {cs} c) s =
-    let r = step F ws top o d a b in
-    let k = calls-do F p ws top s o d a b in
-    next r refl k (answered F p (r .words) (r .top) c (k .sound))
+did : (F : ℕ) (p : 0 < F) (ws : List ℕ) (top : ℕ) → Sound F ws top → (q : Request)
+    → Did F ws top q (requested F ws top q) × Sound F (requested F ws top q .words) (requested F ws top q .top)
+did F p ws top s (call o d a b) = let k = calls-do F p ws top s o d a b in (k, k .sound)
+
+answered : (F : ℕ) (p : 0 < F) (ws : List ℕ) (top : ℕ) (qs : List Request) → Sound F ws top
+    → (let r = ran F ws top qs in Answered F ws top qs (r .answers) (r .words) (r .top))
+answered F p ws top [] s = none
+answered F p ws top (q ∷ qs) s =
+    let r = requested F ws top q in
+    let k = did F p ws top s q in
+    next r refl (k .0) (answered F p (r .words) (r .top) qs (k .1))
 
 pub batches-run : BatchesRun
 unfolding ended
 batches-run F p ws top calls out e =
     let q = batch-runs F p ws top calls out e in
-    rw (q .2)
+    rw (q .2, runs-ran F ws top (q .1))
     (record {
-      said = runs F ws top calls .answers;
-      answered = answered F p ws top (q .1) (q .0);
-      many = answers-length F ws top (q .1);
+      said = ran F ws top (requests calls) .answers;
+      answered = answered F p ws top (requests calls) (q .0);
+      many = omega (arith, ran-length F ws top (requests calls), requests-length (q .1));
       answers = refl;
     })

@@ -6,7 +6,8 @@
 --   Twins      what an action does in a store, it does in any store with the same canonical words; room sought first
 --   TwinCalls  so does a call
 --   Alikes     alike, by canonical words and by collecting
---   Struck     lists of calls without COLLECT, and cut into batches: demand 3
+--   Requests   lists of requests, run one after the other
+--   Struck     lists of requests without COLLECT, and cut into batches: demand 3
 --   Touching, Acting   which words an action changes, in which store, and its `top`
 --   Calling    demand 2, calls and batches
 --   Gathering  demand 2, collecting
@@ -21,6 +22,7 @@ pub mod Builds
 pub mod Twins
 pub mod TwinCalls
 pub mod Alikes
+pub mod Requests
 pub mod Struck
 pub mod Touching
 pub mod Acting

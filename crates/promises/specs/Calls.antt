@@ -5,7 +5,7 @@ use mathlib.Core.Path.{_≡_}
 use mathlib.Core.Logic.{_⊎_, _≢_}
 use mathlib.Core.Bool.{Bool, false, cond}
 use mathlib.Core.List.{List, [], _∷_, _++_}
-use Prim.Native.Nat.{ℕ, _+_, _-_, _*_, _/_, _≤_, _<_}
+use Prim.Native.Nat.{ℕ, _+_, _-_, _*_, _≤_, _<_}
 use lib.Dec.{ltb}
 use lib.ListN.{length, replicate}
 use Rattle.words.specs.Cell.{firstWord, secondWord}
@@ -14,10 +14,11 @@ use Rattle.meaning.specs.Sound.{capacity, Sound}
 use Rattle.meaning.specs.Meaning.{meaning}
 use Rattle.meaning.specs.Reach.{live}
 use Rattle.meaning.specs.Collected.{collected}
-use Rattle.meaning.specs.Check.{Done, done}
+use Rattle.meaning.specs.Check.{Verdict, Done, done}
 use Rattle.meaning.specs.Call.{opAt, fault, soughtBy, step}
 use Rattle.meaning.specs.Effect.{effect, liveForRoom, callStatus, after, answer}
 use Rattle.meaning.specs.Batch.{Outcome, batch}
+use Rattle.promises.specs.Requests.{Request, call, requested, requests, inWords}
 
 -- ---- room for the n new cells that the call needs
 
@@ -87,19 +88,23 @@ pub record Asked (F : ℕ) (ws : List ℕ) (top : ℕ) : Type 0 where
 abbrev pub CallsAnswer : Type 0
 CallsAnswer = (F : ℕ) → 0 < F → (ws : List ℕ) (top : ℕ) → Sound F ws top → Asked F ws top
 
--- ---- a batch answers call by call: a status and a value each, in order; words after those are zero
+-- ---- a batch answers request by request: a status and a value each, in order; words after those are zero
 
-pub data Answered (F : ℕ) : List ℕ → ℕ → List ℕ → List ℕ → List ℕ → ℕ → Type 0 where
+-- r is what the request does in the store ws
+abbrev pub Did : ℕ → List ℕ → ℕ → Request → Done → Type 0
+Did F ws top (call o d a b) r = Called F ws top o d a b (effect F ws top o d a b .need) r
+
+pub data Answered (F : ℕ) : List ℕ → ℕ → List Request → List Verdict → List ℕ → ℕ → Type 0 where
   none : {ws : List ℕ} {top : ℕ} → Answered F ws top [] [] ws top
-  next : {ws : List ℕ} {top o d a b : ℕ} {cs ans v : List ℕ} {t : ℕ} (r : Done) → r ≡ step F ws top o d a b
-      → Called F ws top o d a b (effect F ws top o d a b .need) r → Answered F (r .words) (r .top) cs ans v t
-      → Answered F ws top (o ∷ d ∷ a ∷ b ∷ cs) (r .verdict .status ∷ r .verdict .value ∷ ans) v t
+  next : {ws : List ℕ} {top : ℕ} {q : Request} {qs : List Request} {said : List Verdict} {v : List ℕ} {t : ℕ} (r : Done)
+      → r ≡ requested F ws top q → Did F ws top q r → Answered F (r .words) (r .top) qs said v t
+      → Answered F ws top (q ∷ qs) (r .verdict ∷ said) v t
 
 pub record BatchRun (F : ℕ) (ws : List ℕ) (top : ℕ) (calls out : List ℕ) (r : Outcome) : Type 0 where
-  pub said : List ℕ
-  pub answered : Answered F ws top calls said (r .words) (r .top)
-  pub many : length said ≡ 2 * (length calls / 4)
-  pub answers : r .answers ≡ said ++ replicate (length out - length said) 0
+  pub said : List Verdict
+  pub answered : Answered F ws top (requests calls) said (r .words) (r .top)
+  pub many : length calls ≡ 4 * length said
+  pub answers : r .answers ≡ inWords said ++ replicate (length out - length (inWords said)) 0
 
 abbrev pub BatchesRun : Type 0
 BatchesRun =
