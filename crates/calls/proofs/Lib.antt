@@ -4,7 +4,7 @@
 --   Registers   the contents of a register
 --   Laying      two runs laid one after the other
 --   Firsts      HEAD, REST, OPEN and FIRST by the register's run and its first term
---   Rooms       the rule for room, and the store in which room is sought
+--   Rooms       the rule for room, whatever the store is in which it is sought
 --   Joining     JOIN by which of its registers are empty
 --   Performing  one call by its operation
 --   Running     the calls of a batch, one by one

@@ -2,8 +2,7 @@
 use mathlib.Core.Path.{_≡_, refl, sym, ap, _∙_}
 use mathlib.Core.List.{List}
 use Prim.Native.Nat.{ℕ, zero, suc}
-use Rattle.meaning.specs.Check.{only}
-use Rattle.meaning.specs.Batch.{Outcome, asLent}
+use Rattle.meaning.specs.Batch.{Outcome}
 use Rattle.calls.specs.Answers.{ranIn}
 use Rattle.calls.specs.declared.Ran.{Ran}
 use Rattle.calls.specs.declared.Ran.the-variants.{Ended, BadLength, BadTop, Damaged, BadCalls, ShortAnswers}

@@ -8,8 +8,8 @@ use lib.ListN.{length, getD}
 use Rattle.meaning.specs.Limits.{firstCell}
 use Rattle.meaning.specs.Check.{refused, only}
 use Rattle.meaning.specs.Call.{Op, CLEAR, COPY, SYMBOL, WRAP, JOIN, HEAD, REST, OPEN, LENGTH, FIRST, LIVE, COLLECT}
-use Rattle.meaning.specs.Call.{ops, opAt, fault, perform, stepAfter, step}
-use Rattle.meaning.proofs.Uses.{Right, right, is-register, useD, useA, useB}
+use Rattle.meaning.specs.Call.{ops, opAt, useD, useA, useB, fault, perform, stepAfter, step}
+use Rattle.meaning.proofs.Uses.{Right, right, is-register}
 
 module _ (o d a b : ℕ) (q : fault firstCell o d a b ≡ 0) {k : ℕ} (e : o ≡ k) where
   uses-right : Right firstCell (opAt k) d a b

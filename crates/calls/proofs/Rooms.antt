@@ -1,4 +1,4 @@
--- Room made as the code goes about it, and the store in which room is sought. Assumes nothing.
+-- Room made as the code goes about it, whatever the store is in which it is sought. Assumes nothing.
 use mathlib.Core.Path.{_≡_, refl, sym, ap, _∙_}
 use mathlib.Core.Bool.{Bool, true, false, cond}
 use mathlib.Core.List.{List}
@@ -9,10 +9,11 @@ use borrow.Author.Tests.{lt-ltb, le-ltb}
 use Rattle.meaning.specs.Limits.{firstCell, limit}
 use Rattle.meaning.specs.Expr.{terms}
 use Rattle.meaning.specs.Sound.{Sound, capacity, at}
+use Rattle.meaning.specs.Meaning.{meaning}
 use Rattle.meaning.specs.Reach.{live}
 use Rattle.meaning.specs.Collected.{collected, collectedTop}
 use Rattle.meaning.specs.Check.{Done, refused, only, size}
-use Rattle.meaning.specs.Call.{sought, withRoom}
+use Rattle.meaning.specs.Call.{withRoom}
 use Rattle.meaning.proofs.Reaching.{live-le}
 use Rattle.meaning.proofs.Collecting.{collected-sound, length-collected, meaning-kept}
 use Rattle.meaning.proofs.Stepping.{size-terms}
@@ -21,11 +22,6 @@ use Rattle.store.proofs.Sounds.{firstCell-pos}
 use Rattle.calls.specs.Room.{RoomMade, Sought, Roomy, roomThen}
 use Rattle.calls.specs.declared.room.Room.{Room}
 use Rattle.calls.specs.declared.room.Room.the-variants.{Ready, Lacking}
-
--- the store in which room is sought is the store itself
-pub sought-is-store : (ws : List ℕ) (d : ℕ) (operands : List ℕ) → sought ws d operands ≡ ws
-unfolding sought
-sought-is-store ws d operands = refl
 
 -- what is live, and `top` once collected
 module _ (ws : List ℕ) (top : ℕ) (s : Sound firstCell ws top) where
@@ -36,64 +32,75 @@ module _ (ws : List ℕ) (top : ℕ) (s : Sound firstCell ws top) where
   pub live-small : firstCell + live firstCell ws top ≤ limit
   live-small = omega (arith, live-le firstCell ws top firstCell-pos s, s .high, s .small)
 
--- the rule for a store that is collected first, by its second test
-module _ (n : ℕ) (ws : List ℕ) (top : ℕ) (s : Sound firstCell ws top) where
-  by-second : capacity ws < top + n → (u : Bool) → ltb (capacity ws) (collectedTop firstCell ws top + n) ≡ u
-      → (act : List ℕ → ℕ → Done) → withRoom firstCell n ws act ws top
-      ≡ cond u (refused (collected firstCell ws top) (collectedTop firstCell ws top) (only 16))
-      (act (collected firstCell ws top) (collectedTop firstCell ws top))
-  by-second h u e act =
-      once-collected firstCell n ws top firstCell-pos s act ws (lt-ltb (capacity ws) (top + n) h) ∙ rw e refl
+-- ---- room for n cells, sought in v: above `top`, or once v is collected, or nowhere
 
--- ---- room for n cells, sought
+module _ (n : ℕ) {v : List ℕ} {top : ℕ} (ws : List ℕ) (s : Sound firstCell v top) where
+  room-above : top + n ≤ capacity v → RoomMade n v ws top (Ready top) v
+  room-above h = record {
+    does = λ act. as-it-is firstCell n v top firstCell-pos s act ws (le-ltb (capacity v) (top + n) h);
+    ready = (s, omega arith);
+    denote = λ i l. refl;
+  }
+
+  -- by the second test
+  once : capacity v < top + n → (u : Bool) → ltb (capacity v) (collectedTop firstCell v top + n) ≡ u
+      → (act : List ℕ → ℕ → Done) → withRoom firstCell n v act ws top
+      ≡ cond u (refused (collected firstCell ws top) (collectedTop firstCell ws top) (only 16))
+      (act (collected firstCell v top) (collectedTop firstCell v top))
+  once h u e act =
+      once-collected firstCell n v top firstCell-pos s act ws (lt-ltb (capacity v) (top + n) h) ∙ rw e refl
+
+  room-collected : {u : List ℕ} {t : ℕ} → capacity v < top + n → u ≡ collected firstCell v top
+      → t ≡ collectedTop firstCell v top → t + n ≤ capacity v → RoomMade n v ws top (Ready t) u
+  room-collected h e f g =
+      let low = collectedTop firstCell v top in
+      let long = length-collected firstCell v top firstCell-pos s in
+      rw (e, f) (record {
+        does = once h false (le-ltb (capacity v) (low + n) (omega arith));
+        ready = (collected-sound firstCell v top firstCell-pos s, omega arith);
+        denote = meaning-kept firstCell v top firstCell-pos s;
+      })
+
+  room-nowhere : Sound firstCell ws top → {u : List ℕ} {t : ℕ} → capacity v < top + n
+      → capacity v < collectedTop firstCell v top + n → u ≡ collected firstCell ws top
+      → t ≡ collectedTop firstCell ws top → RoomMade n v ws top (Lacking t) u
+  room-nowhere w h g e f =
+      rw (e, f) (record {
+        does = once h true (lt-ltb (capacity v) (collectedTop firstCell v top + n) g);
+        ready = tt;
+        denote = meaning-kept firstCell ws top firstCell-pos w;
+      })
+
+-- ---- as it is sought, where d's old expression counts
 
 module _ {n : ℕ} {ws : List ℕ} {top : ℕ} (s : Sound firstCell ws top) where
   pub there : top + n ≤ capacity ws → Sought n ws top ws top
-  there h = record {
-    small = omega arith;
-    ready = λ g. record {
-      does = λ act. as-it-is firstCell n ws top firstCell-pos s act ws (le-ltb (capacity ws) (top + n) h);
-      ready = (s, omega arith);
-      denote = λ i l. refl;
-    };
-    lacking = λ g. absurd (omega arith);
-  }
+  there h = record { small = omega arith; ready = λ g. room-above n ws s h; lacking = λ g. absurd (omega arith) }
 
   pub gained : {v : List ℕ} {t : ℕ} → capacity ws < top + n → v ≡ collected firstCell ws top
       → t ≡ collectedTop firstCell ws top → Sought n ws top v t
-  gained h e f =
-      let low = collectedTop firstCell ws top in
-      let long = length-collected firstCell ws top firstCell-pos s in
-      rw (e, f) (record {
-        small = omega (arith, low-live ws top s, live-le firstCell ws top firstCell-pos s);
-        ready = λ g. record {
-          does = by-second n ws top s h false (le-ltb (capacity ws) (low + n) g);
-          ready = (collected-sound firstCell ws top firstCell-pos s, omega arith);
-          denote = meaning-kept firstCell ws top firstCell-pos s;
-        };
-        lacking = λ g. record {
-          does = by-second n ws top s h true (lt-ltb (capacity ws) (low + n) g);
-          ready = tt;
-          denote = meaning-kept firstCell ws top firstCell-pos s;
-        };
-      })
+  gained h e f = record {
+    small = omega (arith, f, low-live ws top s, live-le firstCell ws top firstCell-pos s);
+    ready = λ g. room-collected n ws s h e f g;
+    lacking = λ g. room-nowhere n ws s s h (omega (arith, f)) e f;
+  }
 
 -- ---- what a call learns of the room made
 
-module _ {n : ℕ} {ws : List ℕ} {top : ℕ} {r : Room} {v : List ℕ} (m : RoomMade n ws top r v) {t : ℕ} where
-  pub room-roomy : r ≡ Ready t → Roomy n v t
+module _ {n : ℕ} {v ws : List ℕ} {top : ℕ} {r : Room} {u : List ℕ} (m : RoomMade n v ws top r u) {t : ℕ} where
+  pub room-roomy : r ≡ Ready t → Roomy n u t
   room-roomy e = rw e at (m .ready)
 
-  pub room-does : r ≡ Ready t → (d : ℕ) (os : List ℕ) (act : List ℕ → ℕ → Done)
-      → withRoom firstCell n (sought ws d os) act ws top ≡ act v t
-  room-does e d os act = rw (sought-is-store ws d os) (m .does act ∙ ap (λ (x : Room). roomThen x v act) e)
+  pub room-does : r ≡ Ready t → (act : List ℕ → ℕ → Done) → withRoom firstCell n v act ws top ≡ act u t
+  room-does e act = m .does act ∙ ap (λ (x : Room). roomThen x u act) e
 
-  pub room-refuses : r ≡ Lacking t → (d : ℕ) (os : List ℕ) (act : List ℕ → ℕ → Done)
-      → withRoom firstCell n (sought ws d os) act ws top ≡ refused v t (only 16)
-  room-refuses e d os act = rw (sought-is-store ws d os) (m .does act ∙ ap (λ (x : Room). roomThen x v act) e)
+  pub room-refuses : r ≡ Lacking t → (act : List ℕ → ℕ → Done)
+      → withRoom firstCell n v act ws top ≡ refused u t (only 16)
+  room-refuses e act = m .does act ∙ ap (λ (x : Room). roomThen x u act) e
 
-  -- a register has as many terms as before
-  pub room-size : r ≡ Ready t → Sound firstCell ws top → (i : ℕ) → i < firstCell → size (at v i) ≡ size (at ws i)
-  room-size e s i h =
-      size-terms firstCell v t firstCell-pos (room-roomy e .0) i h
-      ∙ (ap terms (m .denote i h) ∙ sym (size-terms firstCell ws top firstCell-pos s i h))
+  -- a register whose expression v has too has as many terms as before
+  pub room-size : r ≡ Ready t → Sound firstCell ws top → (i : ℕ) → i < firstCell → meaning v i ≡ meaning ws i
+      → size (at u i) ≡ size (at ws i)
+  room-size e s i h k =
+      size-terms firstCell u t firstCell-pos (room-roomy e .0) i h
+      ∙ (ap terms ((rw e at (m .denote i h)) ∙ k) ∙ sym (size-terms firstCell ws top firstCell-pos s i h))

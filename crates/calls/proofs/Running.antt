@@ -9,7 +9,7 @@ use lib.Seq.{take-suc-set, take-all, length-take-le}
 use Rattle.meaning.specs.Limits.{firstCell}
 use Rattle.meaning.specs.Sound.{Sound}
 use Rattle.meaning.specs.Check.{Done}
-use Rattle.meaning.specs.Batch.{Ran, then, runs}
+use Rattle.meaning.specs.Batch.{Ran, runs}
 use Rattle.meaning.proofs.Steps.{step-meets}
 use Rattle.meaning.proofs.Batches.{fours, runs-cut}
 use Rattle.store.proofs.Sounds.{firstCell-pos}

@@ -1,13 +1,14 @@
--- A list of numbers as a table with three to a row; and a test over the three words of a call by its row of the table
--- of uses. Assumes nothing.
+-- A list of numbers as a table with three to a row; by its row of the table of uses, a test over the three words of a
+-- call, and its operand registers. Assumes nothing.
 use mathlib.Core.Path.{_≡_, refl}
-use mathlib.Core.Bool.{Bool, _||_}
+use mathlib.Core.Bool.{Bool, true, false, _||_}
 use mathlib.Core.List.{List, [], _∷_}
 use Prim.Native.Nat.{ℕ, zero, suc, _+_, _*_, _<_}
 use native.Mathlib.Nat.{add-zero}
 use native.Mathlib.Omega.{arith}
 use lib.ListN.{length, getD}
-use Rattle.meaning.specs.Call.{uses}
+use Rattle.meaning.specs.Call.{uses, opAt, names, isOperand}
+use Rattle.meaning.proofs.Uses.{index-opAt}
 
 abbrev pub rows : List ℕ → List (List ℕ)
 rows [] = []
@@ -43,3 +44,20 @@ module _ (o d a b : ℕ) where
       let v = rows-at uses o 1 h (omega arith) in
       let w = rows-at uses o 2 h (omega arith) in
       simp (k, p, q, t, u, v, w, add-zero)
+
+-- ---- the operand registers, from the row that was read
+
+module _ (o r a b : ℕ) (h : o < 12) (k : 3 * o + 2 < length uses) where
+  pub by-first : names (getD (getD (rows uses) o []) 1 0) a r ≡ true → isOperand (opAt o) r a b ≡ true
+  unfolding isOperand
+  by-first t =
+      let u = rows-at uses o 1 k (omega arith) in
+      rw (index-opAt o h, ← u, t) refl
+
+  pub by-second : names (getD (getD (rows uses) o []) 1 0) a r ≡ false
+      → isOperand (opAt o) r a b ≡ names (getD (getD (rows uses) o []) 2 0) b r
+  unfolding isOperand
+  by-second t =
+      let u = rows-at uses o 1 k (omega arith) in
+      let v = rows-at uses o 2 k (omega arith) in
+      rw (index-opAt o h, ← u, ← v, t) refl

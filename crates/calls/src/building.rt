@@ -6,7 +6,6 @@ use crate::step::Stepped;
 use crate::step::done;
 use crate::step::refused;
 ghost use mathlib.Core.Path.{_≡_};
-ghost use mathlib.Core.List.{[], _∷_};
 ghost use Prim.Native.Nat.{_+_, _*_, _≤_, _<_};
 ghost use lib.ListN.{length};
 ghost use Rattle.meaning.specs.Limits.{firstCell, limit};
@@ -15,7 +14,7 @@ ghost use Rattle.meaning.specs.Check.{size};
 ghost use Rattle.meaning.specs.Call.{put, copy, copies, newSymbol, newBracket, newRun};
 ghost use Rattle.meaning.specs.Call.{sought, withRoom, joinPlan, carry};
 ghost use Rattle.calls.specs.Answers.{steppedIn};
-ghost use Rattle.calls.specs.Room.{Roomy};
+ghost use Rattle.calls.specs.Room.{Roomy, Survives};
 
 // Cell c becomes a symbol, an empty bracket, or a bracket with the ends l and r.
 fn put_symbol(ws: &mut [u32], c: usize, a: u32)
@@ -98,49 +97,61 @@ pub fn lay_run(ws: &mut [u32], top: usize, d: usize, a: usize, b: usize) -> Step
     done(0, end)
 }
 
+// The calls that lay new cells are told whether register d is kept while room is sought: whether it is an operand.
+
 // SYMBOL: room for one cell, and the symbol there.
-pub fn symbol(ws: &mut [u32], top: usize, d: usize, a: u32) -> Stepped
+pub fn symbol(ws: &mut [u32], top: usize, d: usize, a: u32, kept: bool) -> Stepped
     requires { ⌜ Sound firstCell (now ws) top × (d < firstCell) ⌝ }
     ensures { λ r. ⌜ steppedIn r (now (ws .exit))
-        ≡ withRoom firstCell 1 (sought (now (ws .entry)) d []) (newSymbol d a) (now (ws .entry)) top ⌝ }
+        ≡ withRoom firstCell 1 (sought kept d (now (ws .entry))) (newSymbol d a) (now (ws .entry)) top ⌝ }
 {
-    match make_room(ws, top, 1) {
+    match make_room(ws, top, 1, d, kept) {
         Room::Ready(t) => lay_symbol(ws, t, d, a),
         Room::Lacking(t) => refused(16, t),
     }
 }
 
 // WRAP: room for one cell, and a copy of register a there.
-pub fn wrap(ws: &mut [u32], top: usize, d: usize, a: usize) -> Stepped
+pub fn wrap(ws: &mut [u32], top: usize, d: usize, a: usize, kept: bool) -> Stepped
     requires { ⌜ Sound firstCell (now ws) top × (d < firstCell) × (a < firstCell) ⌝ }
     ensures { λ r. ⌜ steppedIn r (now (ws .exit))
-        ≡ withRoom firstCell 1 (sought (now (ws .entry)) d (a ∷ [])) (newBracket d a) (now (ws .entry)) top ⌝ }
+        ≡ withRoom firstCell 1 (sought kept d (now (ws .entry))) (newBracket d a) (now (ws .entry)) top ⌝ }
 {
-    match make_room(ws, top, 1) {
+    match make_room(ws, top, 1, d, kept) {
         Room::Ready(t) => lay_bracket(ws, t, d, a),
         Room::Lacking(t) => refused(16, t),
     }
 }
 
 // JOIN of two registers with n terms in all, neither of them empty.
-fn join_full(ws: &mut [u32], top: usize, d: usize, a: usize, b: usize, n: usize) -> Stepped
+fn join_full(
+    ws: &mut [u32],
+    top: usize,
+    d: usize,
+    a: usize,
+    b: usize,
+    kept: bool,
+    n: usize,
+) -> Stepped
     requires { ⌜ Sound firstCell (now ws) top × (d < firstCell) × (a < firstCell) × (b < firstCell) ⌝ }
+    requires { ⌜ Survives kept d a × Survives kept d b ⌝ }
     requires { ⌜ (n ≡ size (at (now ws) a) + size (at (now ws) b)) × (0 < size (at (now ws) a)) ⌝ }
     ensures { λ r. ⌜ steppedIn r (now (ws .exit))
-        ≡ withRoom firstCell n (sought (now (ws .entry)) d (a ∷ b ∷ [])) (newRun d a b) (now (ws .entry)) top ⌝ }
+        ≡ withRoom firstCell n (sought kept d (now (ws .entry))) (newRun d a b) (now (ws .entry)) top ⌝ }
 {
-    match make_room(ws, top, n) {
+    match make_room(ws, top, n, d, kept) {
         Room::Ready(t) => lay_run(ws, t, d, a, b),
         Room::Lacking(t) => refused(16, t),
     }
 }
 
 // JOIN: with a empty it shares b, else with b empty it shares a, else it copies the cells of both.
-pub fn join(ws: &mut [u32], top: usize, d: usize, a: usize, b: usize) -> Stepped
+pub fn join(ws: &mut [u32], top: usize, d: usize, a: usize, b: usize, kept: bool) -> Stepped
     requires { ⌜ Sound firstCell (now ws) top × (d < firstCell) × (a < firstCell) × (b < firstCell) ⌝ }
+    requires { ⌜ Survives kept d a × Survives kept d b ⌝ }
     ensures { λ r. ⌜ steppedIn r (now (ws .exit))
         ≡ carry firstCell (joinPlan (size (at (now (ws .entry)) a)) (size (at (now (ws .entry)) b))
-        (now (ws .entry)) d a b) (now (ws .entry)) top ⌝ }
+        (sought kept d (now (ws .entry))) d a b) (now (ws .entry)) top ⌝ }
 {
     let p = store::run_at(ws, a);
     let q = store::run_at(ws, b);
@@ -150,5 +161,5 @@ pub fn join(ws: &mut [u32], top: usize, d: usize, a: usize, b: usize) -> Stepped
     if q.size == 0 {
         return share(ws, top, d, a);
     }
-    join_full(ws, top, d, a, b, p.size + q.size)
+    join_full(ws, top, d, a, b, kept, p.size + q.size)
 }

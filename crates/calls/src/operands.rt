@@ -1,8 +1,9 @@
 // The words of a call: how each of the twelve operations uses d, a and b, and the statuses 10 to 13.
 ghost use mathlib.Core.Path.{_≡_};
 ghost use mathlib.Core.Bool.{_||_};
+ghost use Prim.Native.Nat.{_<_};
 ghost use Rattle.meaning.specs.Limits.{firstCell};
-ghost use Rattle.meaning.specs.Call.{wrong11, wrong12, wrong13, fault};
+ghost use Rattle.meaning.specs.Call.{opAt, names, isOperand, wrong11, wrong12, wrong13, fault};
 
 // How each operation uses d, a and b: 0 not at all, 1 as a register, 2 as a code.
 const USES: [[u32; 3]; 12] = [
@@ -60,6 +61,25 @@ fn any(x: bool, y: bool, z: bool) -> bool
         return true;
     }
     z
+}
+
+// A register word that names register r.
+fn names(u: u32, w: u32, r: u32) -> bool
+    ensures { λ x. ⌜ x ≡ names u w r ⌝ }
+{
+    if u == 1 { w == r } else { false }
+}
+
+// Whether register r is one of the call's operand registers.
+pub fn is_operand(o: usize, r: u32, a: u32, b: u32) -> bool
+    requires { ⌜ o < 12 ⌝ }
+    ensures { λ x. ⌜ x ≡ isOperand (opAt o) r a b ⌝ }
+{
+    let row = USES[o];
+    if names(row[1], a, r) {
+        return true;
+    }
+    names(row[2], b, r)
 }
 
 // What is wrong with a call's own words: 10 to 13, or 0.

@@ -2,13 +2,14 @@
 use crate::step::Stepped;
 use crate::step::done;
 ghost use mathlib.Core.Path.{_≡_};
-ghost use Prim.Native.Nat.{_≤_};
+ghost use Prim.Native.Nat.{_≤_, _<_};
 ghost use lib.ListN.{length};
 ghost use Rattle.meaning.specs.Limits.{firstCell};
 ghost use Rattle.meaning.specs.Sound.{Sound};
 ghost use Rattle.meaning.specs.Reach.{live};
 ghost use Rattle.meaning.specs.Collected.{collected, collectedTop};
 ghost use Rattle.meaning.specs.Check.{done};
+ghost use Rattle.meaning.specs.Call.{sought};
 ghost use Rattle.calls.specs.Answers.{steppedIn};
 ghost use Rattle.calls.specs.Room.{Sought, RoomMade};
 
@@ -31,10 +32,11 @@ fn seek_room(ws: &mut [u32], top: usize, n: usize) -> usize
     collect::gather(ws, top)
 }
 
-// Room for n new cells.
-pub fn make_room(ws: &mut [u32], top: usize, n: usize) -> Room
-    requires { ⌜ Sound firstCell (now ws) top × (n ≤ length (now ws)) ⌝ }
-    ensures { λ r. ⌜ RoomMade n (now (ws .entry)) top r (now (ws .exit)) ⌝ }
+// Room for n new cells, for a call that sets register d; `kept` says whether it reads d too. d's old expression counts
+// either way.
+pub fn make_room(ws: &mut [u32], top: usize, n: usize, d: usize, kept: bool) -> Room
+    requires { ⌜ Sound firstCell (now ws) top × (n ≤ length (now ws)) × (d < firstCell) ⌝ }
+    ensures { λ r. ⌜ RoomMade n (sought kept d (now (ws .entry))) (now (ws .entry)) top r (now (ws .exit)) ⌝ }
 {
     let cells = ws.len() / 2;
     let low = seek_room(ws, top, n);

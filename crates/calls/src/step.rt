@@ -6,6 +6,7 @@ use crate::building::join;
 use crate::building::symbol;
 use crate::building::wrap;
 use crate::operands::fault;
+use crate::operands::is_operand;
 use crate::room::gather;
 use crate::sharing::clear;
 use crate::sharing::head;
@@ -57,9 +58,9 @@ fn perform(ws: &mut [u32], top: usize, o: u32, d: u32, a: u32, b: u32) -> Steppe
     match o {
         0 => clear(ws, top, to),
         1 => share(ws, top, to, from),
-        2 => symbol(ws, top, to, a),
-        3 => wrap(ws, top, to, from),
-        4 => join(ws, top, to, from, b as usize),
+        2 => symbol(ws, top, to, a, is_operand(2, d, a, b)),
+        3 => wrap(ws, top, to, from, is_operand(3, d, a, b)),
+        4 => join(ws, top, to, from, b as usize, is_operand(4, d, a, b)),
         5 => head(ws, top, to, from),
         6 => rest(ws, top, to, from),
         7 => open_first(ws, top, to, from),

@@ -9,37 +9,18 @@ use lib.ListN.{length}
 use Rattle.meaning.specs.Expr.{Expr, nothing, symbol, parens, append, terms}
 use Rattle.meaning.specs.Sound.{IsCode, Cell, code, hollow, ends, at, Sound}
 use Rattle.meaning.specs.Meaning.{run, inside, termOf, term, meaning}
-use Rattle.meaning.specs.Check.{done, size}
-use Rattle.meaning.specs.Call.{Op, SYMBOL, WRAP, JOIN, put, copies, newSymbol, newBracket, newRunOf, newRun}
-use Rattle.meaning.specs.Call.{share}
-use Rattle.meaning.specs.Effect.{becomes, does}
+use Rattle.meaning.specs.Check.{size}
+use Rattle.meaning.specs.Call.{SYMBOL, WRAP, JOIN, put, copies, newSymbol, newBracket, newRunOf, newRun, share}
+use Rattle.meaning.specs.Call.{joinNeed}
+use Rattle.meaning.specs.Effect.{Facts, does}
 use Rattle.meaning.proofs.Cells.{TermIn, BracketIn, term-of-bracket, good}
 use Rattle.meaning.proofs.Terms.{append-nothing, run-ext, run-split}
-use Rattle.meaning.proofs.Writing.{length-put, at-put, copy-put, sound-register, term-law}
-use Rattle.meaning.proofs.Laying.{Extends, extends-put, extends-trans, extends-meaning, extends-term}
-use Rattle.meaning.proofs.Laying.{extends-inside, twin, Copied, copied}
-use Rattle.meaning.proofs.Stepping.{Others, Acts, becomes-same, wrapped, become, set-to, size-terms, meaning-at}
+use Rattle.meaning.proofs.Writing.{at-put, copy-put, term-law}
+use Rattle.meaning.proofs.Laying.{extends-put, extends-term, extends-inside, twin, Both, both}
+use Rattle.meaning.proofs.Effects.{Others, Acts, meaning-at, new-acts, set-acts}
+use Rattle.meaning.proofs.Stepping.{wrapped, size-terms}
 
-module _ (F : ℕ) (p : 0 < F) (e : ℕ → Expr) (lv : ℕ) (ws : List ℕ) (top : ℕ) (s : Sound F ws top) where
-  -- a register is set to a bracket over new cells
-  new-acts : (o : Op) (d a b : ℕ) → Others F ws e d → d < F → (ws′ : List ℕ) (top′ : ℕ) → Extends F ws top ws′ top′
-      → (k : Cell) → BracketIn F top′ k → (x : Expr)
-      → inside (term (at ws′) (length ws′)) k ≡ x → does o e lv d a b .unfit ≡ 0 → does o e lv d a b .value ≡ 0
-      → does o e lv d a b .registers ≡ becomes e d x
-      → (n : ℕ) → top′ ≡ top + n → Acts F e lv o d a b n ws top (done (put ws′ d k) top′ 0)
-  new-acts o d a b m l ws′ top′ x k t y q u v f n z = record {
-    sound = sound-register F ws′ top′ p (x .sound) d l k t;
-    len = length-put ws′ d k ∙ x .len;
-    status = sym u;
-    value = sym v;
-    registers = λ i h.
-        become F ws′ top′ p (x .sound) d l k t y q i h
-        ∙ (becomes-same (meaning ws′) e d y i (λ g. extends-meaning F ws top p s ws′ top′ x i h ∙ m i h g) ∙ sym
-        (ap (λ (g : ℕ → Expr). g i) f));
-    tops = z;
-    left = tt;
-  }
-
+module _ (F : ℕ) (p : 0 < F) (e : ℕ → Expr) (fs : Facts) (ws : List ℕ) (top : ℕ) (s : Sound F ws top) where
   -- one new cell
   one-cell : (c : Cell) → 2 * suc top ≤ length ws → TermIn F top c
       → inside (term (at (put ws top c)) (length (put ws top c))) (ends top top) ≡ termOf
@@ -54,16 +35,16 @@ module _ (F : ℕ) (p : 0 < F) (e : ℕ → Expr) (lv : ℕ) (ws : List ℕ) (to
       (at-put ws top c F top p (omega arith) t)))
 
   pub symbol-acts : (d a b : ℕ) → Others F ws e d → d < F → IsCode a → 2 * (top + 1) ≤ length ws
-      → Acts F e lv SYMBOL d a b 1 ws top (newSymbol d a ws top)
+      → Acts F e (does SYMBOL e fs d a b) 1 ws top (newSymbol d a ws top)
   unfolding newSymbol
   symbol-acts d a b m l h r =
       let r′ : 2 * suc top ≤ length ws = omega arith in
-      new-acts SYMBOL d a b m l (put ws top (code a)) (suc top) (extends-put F ws top p s r′ (code a) h)
+      new-acts F p e ws top s 0 1 d refl m l (put ws top (code a)) (suc top) (extends-put F ws top p s r′ (code a) h)
       (ends top top) (s .low, le-refl top, le-refl (suc top))
-      (symbol a nothing) (one-cell (code a) r′ h) refl refl refl 1 (omega arith)
+      (symbol a nothing) (one-cell (code a) r′ h) 1 (omega arith)
 
   pub wrap-acts : (d a b : ℕ) → Others F ws e d → meaning ws a ≡ e a → d < F → a < F → 2 * (top + 1) ≤ length ws
-      → Acts F e lv WRAP d a b 1 ws top (newBracket d a ws top)
+      → Acts F e (does WRAP e fs d a b) 1 ws top (newBracket d a ws top)
   unfolding newBracket
   wrap-acts d a b m ma l h r =
       let r′ : 2 * suc top ≤ length ws = omega arith in
@@ -71,13 +52,13 @@ module _ (F : ℕ) (p : 0 < F) (e : ℕ → Expr) (lv : ℕ) (ws : List ℕ) (to
       let t = term-of-bracket F top (at ws a) g in
       let x = extends-put F ws top p s r′ (at ws a) t in
       rw (copy-put F ws top top a p s (le-trans h (s .low)))
-      (new-acts WRAP d a b m l (put ws top (at ws a)) (suc top) x (ends top top)
+      (new-acts F p e ws top s 0 1 d refl m l (put ws top (at ws a)) (suc top) x (ends top top)
       (s .low, le-refl top, le-refl (suc top))
       (parens (e a) nothing)
       (one-cell (at ws a) r′ t
       ∙ (wrapped (term (at (put ws top (at ws a))) (length (put ws top (at ws a)))) F top (at ws a) g
       ∙ ap (λ (y : Expr). parens y nothing) (sym (extends-inside F ws top p s (put ws top (at ws a)) (suc top) x
-      (at ws a) g) ∙ (sym (meaning-at F ws top p s a) ∙ ma)))) refl refl refl 1 (omega arith))
+      (at ws a) g) ∙ (sym (meaning-at F ws top p s a) ∙ ma)))) 1 (omega arith))
 
   -- two runs copied one after the other
   module _ (l r l′ r′ : ℕ) (t : BracketIn F top (ends l r)) (t′ : BracketIn F top (ends l′ r′))
@@ -88,58 +69,48 @@ module _ (F : ℕ) (p : 0 < F) (e : ℕ → Expr) (lv : ℕ) (ws : List ℕ) (to
     abbrev k : ℕ
     k = suc r′ - l′
 
-    abbrev ws₁ : List ℕ
-    ws₁ = copies ws top l n
+    abbrev v : List ℕ
+    v = copies (copies ws top l n) (top + n) l′ k
 
-    abbrev ws₂ : List ℕ
-    ws₂ = copies ws₁ (top + n) l′ k
+    laid : Both F ws top l n l′ k v
+    laid = both F ws top l n l′ k p s (t .0) (omega (arith, t .1, t .2)) (t′ .0) (omega (arith, t′ .1, t′ .2)) q
 
-    c₁ : Copied F ws top l n ws₁
-    c₁ = copied F ws top l n p s (t .0) (omega (arith, t .1, t .2)) (omega arith)
-
-    c₂ : Copied F ws₁ (top + n) l′ k ws₂
-    c₂ = copied F ws₁ (top + n) l′ k p (c₁ .more .sound) (t′ .0) (omega (arith, t′ .1, t′ .2))
-        (omega (arith, c₁ .more .len))
-
-    x₂ : Extends F ws top ws₂ (top + n + k)
-    x₂ = extends-trans (c₁ .more) (c₂ .more)
-
-    abbrev T₂ : ℕ → Expr
-    T₂ = term (at ws₂) (length ws₂)
+    abbrev T : ℕ → Expr
+    T = term (at v) (length v)
 
     -- a copy of an old cell means what the old cell means
-    old-copy : (y c : ℕ) → F ≤ y → y < top + n + k → F ≤ c → c < top → at ws₂ y ≡ at ws c
-        → T₂ y ≡ term (at ws) (length ws) c
+    old-copy : (y c : ℕ) → F ≤ y → y < top + (n + k) → F ≤ c → c < top → at v y ≡ at ws c
+        → T y ≡ term (at ws) (length ws) c
     old-copy y c f h g z u =
-        twin F ws₂ (top + n + k) p (x₂ .sound) y c f h g (omega arith) (u ∙ sym (x₂ .old c z))
-        ∙ sym (extends-term F ws top p s ws₂ (top + n + k) x₂ c g z)
+        twin F v (top + (n + k)) p (laid .more .sound) y c f h g (omega arith) (u ∙ sym (laid .more .old c z))
+        ∙ sym (extends-term F ws top p s v (top + (n + k)) (laid .more) c g z)
 
-    left-run : run T₂ top n ≡ run (term (at ws) (length ws)) l n
+    left-run : run T top n ≡ run (term (at ws) (length ws)) l n
     left-run =
-        run-ext T₂ (term (at ws) (length ws)) top l n
+        run-ext T (term (at ws) (length ws)) top l n
         (λ j h. old-copy (top + j) (l + j) (omega (arith, s .low)) (omega arith) (omega (arith, t .0))
-        (omega (arith, t .1, t .2)) (c₂ .more .old (top + j) (omega arith) ∙ c₁ .new j h))
+        (omega (arith, t .1, t .2)) (laid .one j h))
 
-    right-run : run T₂ (top + n) k ≡ run (term (at ws) (length ws)) l′ k
+    right-run : run T (top + n) k ≡ run (term (at ws) (length ws)) l′ k
     right-run =
-        run-ext T₂ (term (at ws) (length ws)) (top + n) l′ k
-        (λ j h. old-copy (top + n + j) (l′ + j) (omega (arith, s .low)) (omega arith) (omega (arith, t′ .0))
-        (omega (arith, t′ .1, t′ .2)) (c₂ .new j h ∙ c₁ .more .old (l′ + j) (omega (arith, t′ .1, t′ .2))))
+        run-ext T (term (at ws) (length ws)) (top + n) l′ k
+        (λ j h. rw (add-assoc top n j) (old-copy (top + (n + j)) (l′ + j) (omega (arith, s .low)) (omega arith)
+        (omega (arith, t′ .0)) (omega (arith, t′ .1, t′ .2)) (laid .two j h)))
 
-    joined : inside T₂ (ends top (top + (n + k) - 1)) ≡ append (inside (term (at ws) (length ws)) (ends l r))
+    joined : inside T (ends top (top + (n + k) - 1)) ≡ append (inside (term (at ws) (length ws)) (ends l r))
         (inside (term (at ws) (length ws)) (ends l′ r′))
     joined =
         let c : suc (top + (n + k) - 1) - top ≡ n + k = omega (arith, t .1) in
-        rw (c, run-split T₂ top n k, left-run, right-run) refl
+        rw (c, run-split T top n k, left-run, right-run) refl
 
     run-acts : (d a b : ℕ) → Others F ws e d → meaning ws a ≡ e a → meaning ws b ≡ e b → d < F → a < F → b < F
         → at ws a ≡ ends l r → at ws b ≡ ends l′ r′
-        → (j : ℕ) → n + k ≡ j → Acts F e lv JOIN d a b j ws top (newRunOf d (ends l r) (ends l′ r′) ws top)
+        → (j : ℕ) → n + k ≡ j → Acts F e (does JOIN e fs d a b) j ws top (newRunOf d (ends l r) (ends l′ r′) ws top)
     unfolding newRunOf meaning
-    run-acts d a b g ga gb h ha hb u v j z =
-        new-acts JOIN d a b g h ws₂ (top + (n + k)) (rw (add-assoc top n k) at x₂) (ends top (top + (n + k) - 1))
-        (s .low, omega (arith, t .1), omega (arith, t .1)) (append (e a) (e b))
-        (joined ∙ ap₂ append (rw u at ga) (rw v at gb)) refl refl refl j (ap (λ (x : ℕ). top + x) z)
+    run-acts d a b g ga gb h ha hb u x j z =
+        new-acts F p e ws top s 0 (joinNeed (terms (e a)) (terms (e b))) d refl g h v (top + (n + k)) (laid .more)
+        (ends top (top + (n + k) - 1)) (s .low, omega (arith, t .1), omega (arith, t .1)) (append (e a) (e b))
+        (joined ∙ ap₂ append (rw u at ga) (rw x at gb)) j (ap (λ (y : ℕ). top + y) z)
 
   no-terms : (x : Expr) → terms x ≡ 0 → x ≡ nothing
   no-terms nothing q = refl
@@ -150,7 +121,7 @@ module _ (F : ℕ) (p : 0 < F) (e : ℕ → Expr) (lv : ℕ) (ws : List ℕ) (to
   cells-act : (d a b : ℕ) → Others F ws e d → meaning ws a ≡ e a → meaning ws b ≡ e b → d < F → a < F → b < F
       → (x y : Cell) → at ws a ≡ x → at ws b ≡ y → BracketIn F top x → BracketIn F top y
       → 0 < size x → 0 < size y → 2 * (top + (size x + size y)) ≤ length ws → (j : ℕ) → size x + size y ≡ j
-      → Acts F e lv JOIN d a b j ws top (newRunOf d x y ws top)
+      → Acts F e (does JOIN e fs d a b) j ws top (newRunOf d x y ws top)
   cells-act d a b g ga gb h ha hb (code i) y u v t t′ z z′ q j n = absurd t
   cells-act d a b g ga gb h ha hb hollow y u v t t′ z z′ q j n = absurd (not-suc-le-zero z)
   cells-act d a b g ga gb h ha hb (ends l r) (code i) u v t t′ z z′ q j n = absurd t′
@@ -167,25 +138,27 @@ module _ (F : ℕ) (p : 0 < F) (e : ℕ → Expr) (lv : ℕ) (ws : List ℕ) (to
     zb : size (at ws b) ≡ terms (e b)
     zb = size-terms F ws top p s b hb ∙ ap terms mb
 
-    pub join-left-acts : size (at ws a) ≡ 0 → Acts F e lv JOIN d a b 0 ws top (share d b ws top)
+    pub join-left-acts : size (at ws a) ≡ 0 → Acts F e (does JOIN e fs d a b) 0 ws top (share d b ws top)
     unfolding share
     join-left-acts y =
         let z : terms (e a) ≡ 0 = omega (arith, za) in
         rw (copy-put F ws top d b p s (le-trans hb (s .low)))
-        (set-to F p e lv ws top s JOIN d a b m l (at ws b) (good F ws top p s .regs b hb) (append (e a) (e b))
-        (rw (no-terms (e a) z) (sym (meaning-at F ws top p s b) ∙ mb)) refl refl refl)
+        (set-acts F p e ws top s 0 (joinNeed (terms (e a)) (terms (e b))) d refl m l (at ws b)
+        (good F ws top p s .regs b hb) (append (e a) (e b))
+        (rw (no-terms (e a) z) (sym (meaning-at F ws top p s b) ∙ mb)))
 
-    pub join-right-acts : size (at ws b) ≡ 0 → Acts F e lv JOIN d a b 0 ws top (share d a ws top)
+    pub join-right-acts : size (at ws b) ≡ 0 → Acts F e (does JOIN e fs d a b) 0 ws top (share d a ws top)
     unfolding share
     join-right-acts y =
         let z : terms (e b) ≡ 0 = omega (arith, zb) in
         rw (copy-put F ws top d a p s (le-trans ha (s .low)))
-        (set-to F p e lv ws top s JOIN d a b m l (at ws a) (good F ws top p s .regs a ha) (append (e a) (e b))
-        (rw (no-terms (e b) z, append-nothing (e a)) (sym (meaning-at F ws top p s a) ∙ ma)) refl refl refl)
+        (set-acts F p e ws top s 0 (joinNeed (terms (e a)) (terms (e b))) d refl m l (at ws a)
+        (good F ws top p s .regs a ha) (append (e a) (e b))
+        (rw (no-terms (e b) z, append-nothing (e a)) (sym (meaning-at F ws top p s a) ∙ ma)))
 
     pub join-both-acts : 0 < size (at ws a) → 0 < size (at ws b) → (j : ℕ) → size (at ws a) + size (at ws b) ≡ j
         → 2 * (top + j) ≤ length ws
-        → Acts F e lv JOIN d a b j ws top (newRun d a b ws top)
+        → Acts F e (does JOIN e fs d a b) j ws top (newRun d a b ws top)
     unfolding newRun
     join-both-acts x y j n r =
         cells-act d a b m ma mb l ha hb (at ws a) (at ws b) refl refl (good F ws top p s .regs a ha)

@@ -1,9 +1,10 @@
 -- New cells laid from `top` upward: what was there keeps its meaning, and a copy of a cell means what the cell means.
+-- A run copied, and two runs copied one after the other.
 -- Assumes nothing.
 use mathlib.Core.Path.{_≡_, refl, sym, ap, _∙_}
 use mathlib.Core.List.{List}
 use Prim.Native.Nat.{ℕ, zero, suc, _+_, _-_, _*_, _≤_, _<_}
-use native.Mathlib.Nat.{le-refl, le-trans, le-of-suc-le-suc, not-suc-le-zero, add-zero, add-suc, suc-add}
+use native.Mathlib.Nat.{le-refl, le-trans, le-of-suc-le-suc, not-suc-le-zero, add-zero, add-suc, suc-add, add-assoc}
 use native.Mathlib.Omega.{arith}
 use lib.ListN.{length}
 use Rattle.meaning.specs.Sound.{Cell, at, Sound}
@@ -62,7 +63,8 @@ module _ (F : ℕ) (ws : List ℕ) (top : ℕ) (p : 0 < F) (s : Sound F ws top) 
       term-law F ws top p s c f l ∙ (ap (λ (b : Cell). termOf (term (at ws) (length ws)) b) e ∙ sym
       (term-law F ws top p s y g h))
 
-pub record Copied (F : ℕ) (ws : List ℕ) (top x n : ℕ) (ws′ : List ℕ) : Type 0 where
+-- n cells copied from x on
+record Copied (F : ℕ) (ws : List ℕ) (top x n : ℕ) (ws′ : List ℕ) : Type 0 where
   pub more : Extends F ws top ws′ (top + n)
   pub new : (j : ℕ) → j < n → at ws′ (top + j) ≡ at ws (x + j)
 
@@ -82,7 +84,7 @@ copied-suc F ws top x n ws′ p s l m r t q = record {
         rw (add-suc top j, add-suc x j, ← suc-add top j, ← suc-add x j)
         (q .new j (le-of-suc-le-suc h) ∙ at-put-other ws top (at ws x) (suc x + j) (omega arith))
 
-pub copied : (F : ℕ) (ws : List ℕ) (top x n : ℕ) → 0 < F → Sound F ws top → F ≤ x → x + n ≤ top
+copied : (F : ℕ) (ws : List ℕ) (top x n : ℕ) → 0 < F → Sound F ws top → F ≤ x → x + n ≤ top
     → 2 * (top + n) ≤ length ws → Copied F ws top x n (copies ws top x n)
 copied F ws top x zero p s f l r =
     record { more = rw (add-zero top) (extends-self F ws top p s); new = λ j h. absurd (not-suc-le-zero h) }
@@ -94,3 +96,22 @@ copied F ws top x (suc n) p s f l r =
     (copied-suc F ws top x n (copies (put ws top (at ws x)) (suc top) (suc x) n) p s h l q t
     (copied F (put ws top (at ws x)) (suc top) (suc x) n p (sound-top F ws top p s q (at ws x) t) (omega arith)
     (omega arith) (omega (arith, length-put ws top (at ws x)))))
+
+-- n cells copied from l on, then k from l₂ on
+pub record Both (F : ℕ) (ws : List ℕ) (top l n l₂ k : ℕ) (v : List ℕ) : Type 0 where
+  pub more : Extends F ws top v (top + (n + k))
+  pub one : (j : ℕ) → j < n → at v (top + j) ≡ at ws (l + j)
+  pub two : (j : ℕ) → j < k → at v (top + (n + j)) ≡ at ws (l₂ + j)
+
+pub both : (F : ℕ) (ws : List ℕ) (top l n l₂ k : ℕ) → 0 < F → Sound F ws top → F ≤ l → l + n ≤ top
+    → F ≤ l₂ → l₂ + k ≤ top → 2 * (top + (n + k)) ≤ length ws
+    → Both F ws top l n l₂ k (copies (copies ws top l n) (top + n) l₂ k)
+both F ws top l n l₂ k p s f h g m q =
+    let c₁ = copied F ws top l n p s f h (omega arith) in
+    let c₂ = copied F (copies ws top l n) (top + n) l₂ k p (c₁ .more .sound) g (omega arith)
+    (omega (arith, c₁ .more .len)) in
+    record {
+      more = rw (add-assoc top n k) at (extends-trans (c₁ .more) (c₂ .more));
+      one = λ j z. c₂ .more .old (top + j) (omega arith) ∙ c₁ .new j z;
+      two = λ j z. rw (← add-assoc top n j) (c₂ .new j z ∙ c₁ .more .old (l₂ + j) (omega arith));
+    }

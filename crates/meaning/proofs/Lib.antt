@@ -12,6 +12,7 @@
 --   Writing     a register or the first free cell is written
 --   Determined  what determines the collected words; new addresses in order, never up, never merged
 --   Laying      new cells laid from `top` upward
+--   Effects     laws over an effect, whatever it is the effect of
 --   Stepping    each call does to expressions what its row says, where it acts
 --   Looking     the look
 --   Building    the same for the calls that lay new cells
@@ -34,6 +35,7 @@ pub mod Fresh
 pub mod Writing
 pub mod Determined
 pub mod Laying
+pub mod Effects
 pub mod Stepping
 pub mod Looking
 pub mod Building

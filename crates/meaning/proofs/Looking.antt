@@ -11,7 +11,7 @@ use borrow.Author.Tests.{lt-ltb, le-ltb}
 use Rattle.meaning.specs.Expr.{terms}
 use Rattle.meaning.specs.Sound.{Cell, code, hollow, ends, at, Sound}
 use Rattle.meaning.specs.Meaning.{meaning}
-use Rattle.meaning.specs.Check.{only, check, size, start, spanOf, lookSpan, look}
+use Rattle.meaning.specs.Check.{check, size, start, spanOf, lookSpan, look}
 use Rattle.meaning.proofs.Cells.{BracketIn, good}
 use Rattle.meaning.proofs.Lists.{lt-or-ge}
 use Rattle.meaning.proofs.Checking.{sound-check}

@@ -1,4 +1,4 @@
--- How a call uses its words, by operation; a call whose own words are right.
+-- How a call uses its words, by operation; a call whose own words are right; its operand registers.
 -- Assumes nothing.
 use mathlib.Core.Path.{_≡_, refl, sym}
 use mathlib.Core.Logic.{_⊎_, inl, inr}
@@ -8,37 +8,13 @@ use native.Mathlib.Omega.{arith}
 use lib.Dec.{ltb, eqb}
 use lib.ListN.{getD}
 use native.Mathlib.Nat.{eq-or-lt-of-le, le-of-suc-le-suc}
-use borrow.Author.Tests.{leb-false, ltb-false, eqb-true}
+use borrow.Author.Tests.{leb-false, ltb-false, eqb-true, eq-eqb}
 use Rattle.meaning.specs.Limits.{codeTest}
 use Rattle.meaning.specs.Sound.{IsCode}
-use Rattle.meaning.specs.Call.{Op, CLEAR, COPY, SYMBOL, WRAP, JOIN, HEAD, REST, OPEN, LENGTH, FIRST, LIVE}
-use Rattle.meaning.specs.Call.{COLLECT, ops, uses, wrong11, wrong12, wrong13, fault, opAt}
+use Rattle.meaning.specs.Call.{Op, ops, opAt, uses, index, useD, useA, useB, names, isOperand, wrong11, wrong12}
+use Rattle.meaning.specs.Call.{wrong13, fault, keeps}
 
 -- ---- the table's row of an operation
-
-abbrev pub index : Op → ℕ
-index CLEAR = 0
-index COPY = 1
-index SYMBOL = 2
-index WRAP = 3
-index JOIN = 4
-index HEAD = 5
-index REST = 6
-index OPEN = 7
-index LENGTH = 8
-index FIRST = 9
-index LIVE = 10
-index COLLECT = 11
-
--- how the operation uses d, a and b
-abbrev pub useD : Op → ℕ
-useD o = getD uses (3 * index o) 0
-
-abbrev pub useA : Op → ℕ
-useA o = getD uses (3 * index o + 1) 0
-
-abbrev pub useB : Op → ℕ
-useB o = getD uses (3 * index o + 2) 0
 
 -- a test that holds of all numbers below n, by computation
 abbrev pub allBelow : (ℕ → Bool) → ℕ → Bool
@@ -113,6 +89,41 @@ is-code w q = go (codeTest w) q
     go : (t : Bool) → cond t false true ≡ false → t ≡ true
     go true q = refl
     go false q = sym q
+
+-- ---- the operand registers: one that is d is kept, and d is kept unless the call sets it
+
+module _ (o : Op) (d a b : ℕ) where
+  pub keeps-operand : useD o ≡ 1 → keeps o d a b ≡ isOperand o d a b
+  unfolding keeps
+  keeps-operand u = rw u refl
+
+  kept : isOperand o d a b ≡ true → keeps o d a b ≡ true
+  unfolding keeps
+  kept h = go (eqb (useD o) 1)
+    where
+      go : (t : Bool) → cond t (isOperand o d a b) true ≡ true
+      go true = h
+      go false = refl
+
+  pub keeps-a : useA o ≡ 1 → a ≡ d → keeps o d a b ≡ true
+  unfolding isOperand names
+  keeps-a u h = kept (rw (u, eq-eqb a d h) refl)
+
+  pub keeps-b : useB o ≡ 1 → b ≡ d → keeps o d a b ≡ true
+  unfolding isOperand names
+  keeps-b u h = kept (rw (u, eq-eqb b d h) (go (eqb (useA o) 1 && eqb a d)))
+    where
+      go : (t : Bool) → (t || true) ≡ true
+      go true = refl
+      go false = refl
+
+  pub unkept-register : (F : ℕ) → Right F o d a b → keeps o d a b ≡ false → d < F
+  unfolding keeps
+  unkept-register F q = go (eqb (useD o) 1) refl
+    where
+      go : (t : Bool) → eqb (useD o) 1 ≡ t → cond t (isOperand o d a b) true ≡ false → d < F
+      go true e k = is-register F d (rw (eqb-true (useD o) 1 e) at (q .d11))
+      go false e k = absurd (true≢false k)
 
 cond-small : (t : Bool) (n x m : ℕ) → n ≤ m → x ≤ m → cond t n x ≤ m
 cond-small true n x m h g = h

@@ -5,21 +5,20 @@ use Rattle.meaning.specs.Limits.{firstCell, limit, codeTest, programCell
 use Rattle.meaning.specs.Sound.{at}
 use Rattle.meaning.specs.Reach.{reached, live}
 use Rattle.meaning.specs.Collected.{newAddress, collectedOf, collected, collectedTop}
-use Rattle.meaning.specs.Check.{only, done, refused, bracketTest, termTest, cellTest, lengthTest, topTest}
-use Rattle.meaning.specs.Check.{verdictAt, check, fresh, collectIn}
+use Rattle.meaning.specs.Check.{bracketTest, termTest, cellTest, lengthTest, topTest, verdictAt, check, fresh}
+use Rattle.meaning.specs.Check.{collectIn}
 use Rattle.meaning.specs.Call.{ops, opAt, uses, wrong11, wrong12, wrong13, fault, put, copy, share, head, rest}
-use Rattle.meaning.specs.Call.{openTerm, openFirst, codeTerm, codeFirst}
-use Rattle.meaning.specs.Call.{newSymbol, newBracket, newRunOf, newRun, sought, planOf, lacks, roomWords, roomTop}
-use Rattle.meaning.specs.Call.{withRoom, carry, perform, stepAfter, step}
-use Rattle.meaning.specs.Batch.{then}
+use Rattle.meaning.specs.Call.{openTerm, openFirst, codeTerm, codeFirst, newSymbol, newBracket, newRunOf, newRun}
+use Rattle.meaning.specs.Call.{sought, planOf, lacks, roomWords, roomTop, withRoom, carry, perform, stepAfter}
+use Rattle.meaning.specs.Call.{step}
 use Rattle.meaning.specs.Program.{written, refusal, served, program}
 use Rattle.meaning.specs.Rows.{verdictTest, doneTest, ranTest, rowTest, p1, p1Lines, p2, p3, p6, lone, rows}
 use Rattle.meaning.specs.Rows.{RowsRight}
 
 pub rows-right : RowsRight firstCell
 unfolding limit codeTest programCells programBytes at reached live newAddress collectedOf collected collectedTop
-    done refused bracketTest termTest cellTest lengthTest topTest verdictAt check fresh collectIn ops opAt uses
-    wrong11 wrong12 wrong13 fault put copy share head rest openTerm openFirst codeTerm codeFirst newSymbol
-    newBracket newRunOf newRun sought planOf lacks roomWords roomTop withRoom carry perform stepAfter step then
-    decimal written refusal served program verdictTest doneTest ranTest rowTest p1 p1Lines p2 p3 p6 lone rows
+    bracketTest termTest cellTest lengthTest topTest verdictAt check fresh collectIn ops opAt uses wrong11 wrong12
+    wrong13 fault put copy share head rest openTerm openFirst codeTerm codeFirst newSymbol newBracket newRunOf newRun
+    sought planOf lacks roomWords roomTop withRoom carry perform stepAfter step decimal written refusal served program
+    verdictTest doneTest ranTest rowTest p1 p1Lines p2 p3 p6 lone rows
 rows-right = tt

@@ -41,6 +41,38 @@ uses =
     0 ∷ 0 ∷ 0 ∷  -- LIVE
     0 ∷ 0 ∷ 0 ∷ []  -- COLLECT
 
+-- the row of an operation, and how it uses d, a and b
+abbrev pub index : Op → ℕ
+index CLEAR = 0
+index COPY = 1
+index SYMBOL = 2
+index WRAP = 3
+index JOIN = 4
+index HEAD = 5
+index REST = 6
+index OPEN = 7
+index LENGTH = 8
+index FIRST = 9
+index LIVE = 10
+index COLLECT = 11
+
+abbrev pub useD : Op → ℕ
+useD o = getD uses (3 * index o) 0
+
+abbrev pub useA : Op → ℕ
+useA o = getD uses (3 * index o + 1) 0
+
+abbrev pub useB : Op → ℕ
+useB o = getD uses (3 * index o + 2) 0
+
+-- a word w that is used as u says names register r
+unfoldable pub names : ℕ → ℕ → ℕ → Bool
+names u w r = eqb u 1 && eqb w r
+
+-- register r is one of the call's operand registers
+unfoldable pub isOperand : Op → ℕ → ℕ → ℕ → Bool
+isOperand o r a b = names (useA o) a r || names (useB o) b r
+
 -- a word w that is used as u says breaks the rule of status 11, 12 or 13
 unfoldable pub wrong11 : ℕ → ℕ → ℕ → Bool
 wrong11 F u w = eqb u 1 && leb F w
@@ -130,10 +162,18 @@ pub data Plan : Type 0 where
   gathered : (List ℕ → ℕ → Done) → Plan
   making : ℕ → List ℕ → (List ℕ → ℕ → Done) → Plan
 
--- The store in which room is sought, for a call that sets register d and has these operand registers: d's old
--- expression counts, so it is the store itself.
-unfoldable pub sought : List ℕ → ℕ → List ℕ → List ℕ
-sought ws d operands = ws
+-- whether the call keeps register d while it seeks room: it does not set d, or d is one of its operand registers
+unfoldable pub keeps : Op → ℕ → ℕ → ℕ → Bool
+keeps o d a b = cond (eqb (useD o) 1) (isOperand o d a b) true
+
+-- The store in which room is sought, with register d kept or not: d's old expression counts in either case, so that it
+-- is the store itself.
+unfoldable pub sought : Bool → ℕ → List ℕ → List ℕ
+sought kept d ws = ws
+
+-- and for the call o d a b
+abbrev pub soughtBy : Op → ℕ → ℕ → ℕ → List ℕ → List ℕ
+soughtBy o d a b ws = sought (keeps o d a b) d ws
 
 -- the new cells that JOIN needs for n terms and m terms
 abbrev pub joinNeed : ℕ → ℕ → ℕ
@@ -141,18 +181,19 @@ joinNeed zero m = 0
 joinNeed (suc n) zero = 0
 joinNeed (suc n) (suc m) = suc n + suc m
 
--- JOIN of n terms and m terms: with a empty it shares b; else with b empty it shares a; else it copies
+-- JOIN of n terms and m terms: with a empty it shares b; else with b empty it shares a; else it copies, where v is the
+-- store in which room is sought
 abbrev pub joinPlan : ℕ → ℕ → List ℕ → ℕ → ℕ → ℕ → Plan
-joinPlan zero m ws d a b = plain (share d b)
-joinPlan (suc n) zero ws d a b = plain (share d a)
-joinPlan (suc n) (suc m) ws d a b = making (joinNeed (suc n) (suc m)) (sought ws d (a ∷ b ∷ [])) (newRun d a b)
+joinPlan zero m v d a b = plain (share d b)
+joinPlan (suc n) zero v d a b = plain (share d a)
+joinPlan (suc n) (suc m) v d a b = making (joinNeed (suc n) (suc m)) v (newRun d a b)
 
 unfoldable pub planOf : Op → ℕ → List ℕ → ℕ → ℕ → ℕ → ℕ → Plan
 planOf CLEAR F ws top d a b = plain (λ v t. done (put v d hollow) t 0)
 planOf COPY F ws top d a b = plain (share d a)
-planOf SYMBOL F ws top d a b = making 1 (sought ws d []) (newSymbol d a)
-planOf WRAP F ws top d a b = making 1 (sought ws d (a ∷ [])) (newBracket d a)
-planOf JOIN F ws top d a b = joinPlan (size (at ws a)) (size (at ws b)) ws d a b
+planOf SYMBOL F ws top d a b = making 1 (soughtBy SYMBOL d a b ws) (newSymbol d a)
+planOf WRAP F ws top d a b = making 1 (soughtBy WRAP d a b ws) (newBracket d a)
+planOf JOIN F ws top d a b = joinPlan (size (at ws a)) (size (at ws b)) (soughtBy JOIN d a b ws) d a b
 planOf HEAD F ws top d a b = plain (λ v t. head v t d (at v a))
 planOf REST F ws top d a b = plain (λ v t. rest v t d (at v a))
 planOf OPEN F ws top d a b = plain (λ v t. openFirst v t d (at v a))
@@ -163,18 +204,18 @@ planOf COLLECT F ws top d a b = gathered (λ v t. done v t (live F v t))
 
 -- ---- room for n new cells
 
--- there is none: F + live + n exceeds the capacity
+-- in the store v there is none: F + live + n exceeds the capacity
 unfoldable pub lacks : ℕ → ℕ → List ℕ → ℕ → Bool
-lacks F n ws top = ltb (capacity ws) (F + live F ws top + n)
+lacks F n v top = ltb (capacity v) (F + live F v top + n)
 
 -- the store with room, and its `top`: collected where `top` + n exceeds the capacity, and only then
 unfoldable pub roomWords : ℕ → ℕ → List ℕ → ℕ → List ℕ
-roomWords F n ws top = cond (ltb (capacity ws) (top + n)) (collected F ws top) ws
+roomWords F n v top = cond (ltb (capacity v) (top + n)) (collected F v top) v
 
 unfoldable pub roomTop : ℕ → ℕ → List ℕ → ℕ → ℕ
-roomTop F n ws top = cond (ltb (capacity ws) (top + n)) (collectedTop F ws top) top
+roomTop F n v top = cond (ltb (capacity v) (top + n)) (collectedTop F v top) top
 
--- 16 leaves the store collected
+-- room is sought in v; 16 leaves the store itself, collected
 unfoldable pub withRoom : ℕ → ℕ → List ℕ → (List ℕ → ℕ → Done) → List ℕ → ℕ → Done
 withRoom F n v act ws top =
     cond (lacks F n v top) (refused (collected F ws top) (collectedTop F ws top) (only 16))

@@ -5,7 +5,7 @@ use mathlib.Core.Path.{_≡_, refl, sym, ap, _∙_}
 use mathlib.Core.Logic.{_⊎_, inl, inr}
 use mathlib.Core.List.{List}
 use Prim.Native.Nat.{ℕ, suc, _+_, _-_, _*_, _≤_, _<_}
-use native.Mathlib.Nat.{le-trans, not-suc-le-zero, add-assoc}
+use native.Mathlib.Nat.{le-trans, not-suc-le-zero}
 use native.Mathlib.Omega.{arith}
 use lib.ListN.{length}
 use Rattle.meaning.specs.Sound.{IsCode, Cell, code, hollow, ends, at, Sound}
@@ -19,29 +19,10 @@ use Rattle.meaning.proofs.Terms.{Along}
 use Rattle.meaning.proofs.Reaching.{live-le, reached-asc, reached-below}
 use Rattle.meaning.proofs.Collecting.{at-register, at-new, length-collected}
 use Rattle.meaning.proofs.Writing.{copy-put, at-put}
-use Rattle.meaning.proofs.Laying.{Extends, extends-put, extends-trans, copied}
+use Rattle.meaning.proofs.Laying.{Extends, extends-put, Both, both}
 use Rattle.promises.proofs.Canons.{canon}
 use Rattle.promises.proofs.Pairs.{sound′, along-register, along-heap, Kept, far, old-along, new-both}
 use Rattle.promises.proofs.Agree.{Agree, size-moved, moved-in}
-
--- two runs, copied one after the other
-record Both (F : ℕ) (ws : List ℕ) (top l n l₂ k : ℕ) (v : List ℕ) : Type 0 where
-  pub more : Extends F ws top v (top + (n + k))
-  pub one : (j : ℕ) → j < n → at v (top + j) ≡ at ws (l + j)
-  pub two : (j : ℕ) → j < k → at v (top + (n + j)) ≡ at ws (l₂ + j)
-
-both : (F : ℕ) (ws : List ℕ) (top l n l₂ k : ℕ) → 0 < F → Sound F ws top → F ≤ l → l + n ≤ top → F ≤ l₂ → l₂ + k ≤ top
-    → 2 * (top + (n + k)) ≤ length ws
-    → Both F ws top l n l₂ k (copies (copies ws top l n) (top + n) l₂ k)
-both F ws top l n l₂ k p s f h g m q =
-    let c₁ = copied F ws top l n p s f h (omega arith) in
-    let c₂ = copied F (copies ws top l n) (top + n) l₂ k p (c₁ .more .sound) g (omega arith)
-    (omega (arith, c₁ .more .len)) in
-    record {
-      more = rw (add-assoc top n k) at (extends-trans (c₁ .more) (c₂ .more));
-      one = λ j z. c₂ .more .old (top + j) (omega arith) ∙ c₁ .new j z;
-      two = λ j z. rw (← add-assoc top n j) (c₂ .new j z ∙ c₁ .more .old (l₂ + j) (omega arith));
-    }
 
 module _ (F : ℕ) (ws : List ℕ) (top : ℕ) (p : 0 < F) (s : Sound F ws top) where
   abbrev ws′ : List ℕ

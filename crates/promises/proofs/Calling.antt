@@ -3,30 +3,28 @@
 use mathlib.Core.Path.{_≡_, refl, sym, ap, _∙_, subst}
 use mathlib.Core.Logic.{_≢_}
 use mathlib.Core.Bool.{Bool, true, false, cond}
-use mathlib.Core.List.{List}
+use mathlib.Core.List.{List, [], _∷_}
 use Prim.Native.Nat.{ℕ, zero, suc, _+_, _-_, _≤_, _<_}
 use native.Mathlib.Nat.{add-zero}
 use native.Mathlib.Omega.{arith}
 use lib.Dec.{ltb, eqb}
-use borrow.Author.Tests.{ltb-true, lt-ltb, le-ltb, lt-leb, ne-eqb}
+use borrow.Author.Tests.{ltb-true, lt-ltb, lt-leb, ne-eqb}
 use Rattle.meaning.specs.Sound.{at, capacity, Sound}
-use Rattle.meaning.specs.Meaning.{meaning}
 use Rattle.meaning.specs.Reach.{live}
 use Rattle.meaning.specs.Collected.{collected, collectedTop}
 use Rattle.meaning.specs.Check.{Done, done, refused}
 use Rattle.meaning.specs.Call.{ops, opAt, uses, wrong11, wrong12, wrong13, fault, planOf, perform, stepAfter, step}
-use Rattle.meaning.specs.Effect.{does, orElse, callStatus}
-use Rattle.meaning.specs.Batch.{then, runs, ended}
-use Rattle.meaning.proofs.Reaching.{live-le}
+use Rattle.meaning.specs.Effect.{effect, liveForRoom, callStatus}
+use Rattle.meaning.specs.Batch.{ended}
 use Rattle.meaning.proofs.Uses.{right}
-use Rattle.meaning.proofs.Plans.{planLacks, planTop, topAfter, WordsAfter}
-use Rattle.meaning.proofs.Steps.{Steps, step-meets, lacks-need, Fours, none, four}
+use Rattle.meaning.proofs.Plans.{planTop, topAfter, WordsAfter}
+use Rattle.meaning.proofs.Steps.{Steps, step-meets, no-need}
 use Rattle.meaning.proofs.Batches.{batch-runs}
-use Rattle.promises.specs.Calls.{effect, lacking, collectsFirst, base, baseTop, OnlyThere, CallsDo, CallsAnswer}
-use Rattle.promises.specs.Calls.{Answered, next, BatchesRun}
-use Rattle.promises.proofs.Struck.{answers-length}
-use Rattle.promises.proofs.Acting.{is-collect, orElse-zero, op-small, stays, first, plan-top, plan-words}
-use Rattle.promises.proofs.Acting.{asked-words}
+use Rattle.promises.specs.Requests.{Request, call, requested, requests}
+use Rattle.promises.proofs.Requests.{ran, runs-ran, ran-length, requests-length}
+use Rattle.promises.specs.Calls.{Did, base, baseTop, OnlyThere, CallsDo, CallsAnswer, Answered, none, next}
+use Rattle.promises.specs.Calls.{BatchesRun}
+use Rattle.promises.proofs.Acting.{orElse-zero, op-small, stays, plan-top, plan-words, asked-words}
 
 -- ---- a call, whatever its words are
 
@@ -49,59 +47,42 @@ module _ (F : ℕ) (p : 0 < F) (ws : List ℕ) (top : ℕ) (s : Sound F ws top) 
   r = step F ws top o d a b
 
   abbrev n : ℕ
-  n = does (opAt o) (meaning ws) (live F ws top) d a b .need
+  n = effect F ws top o d a b .need
 
   m : Steps F ws top o d a b r
   m = step-meets F ws top p s o d a b
 
-  status : r .verdict .status ≡ callStatus F (meaning ws) (live F ws top) (lacking F ws top n) o d a b
-  unfolding callStatus
-  status = m .status ∙ go (fault F o d a b) refl
-    where
-      go : (f : ℕ) → fault F o d a b ≡ f
-          → orElse f (orElse (does (opAt o) (meaning ws) (live F ws top) d a b .unfit)
-          (cond (planLacks F (planOf (opAt o) F ws top d a b) ws top) 16 0))
-          ≡ orElse f (orElse (does (opAt o) (meaning ws) (live F ws top) d a b .unfit) (cond (lacking F ws top n) 16 0))
-      go zero q = rw (lacks-need F ws top p s (opAt o) d a b (right F o d a b q)) refl
-      go (suc f) q = refl
-
   -- done: its own words are right
   faultless : r .verdict .status ≡ 0 → fault F o d a b ≡ 0
   unfolding callStatus
-  faultless e = orElse-zero (fault F o d a b) _ (sym status ∙ e)
+  faultless e = orElse-zero (fault F o d a b) _ (sym (m .status) ∙ e)
 
-  firsts : fault F o d a b ≡ 0 → collectsFirst o ws top n ≡ first F ws top p s d a b (opAt o)
-  firsts q = ap (λ (x : Bool). cond x true (ltb (capacity ws) (top + n))) (is-collect o (op-small F o d a b q))
-
-  done-top : r .verdict .status ≡ 0 → r .top ≡ baseTop F o ws top n + n
-  done-top e =
-      let q = faultless e in
-      m .tops ∙ rw (e, firsts q) (plan-top F ws top p s d a b (opAt o) (right F o d a b q))
+  done-top : r .verdict .status ≡ 0 → r .top ≡ baseTop F ws top o d a b n + n
+  done-top e = m .tops ∙ rw e (plan-top F ws top p s d a b (opAt o) (right F o d a b (faultless e)))
 
   performed : fault F o d a b ≡ 0 → r ≡ perform (opAt o) F ws top d a b
   unfolding step stepAfter
   performed q = rw q refl
 
-  done-words : r .verdict .status ≡ 0 → OnlyThere d (baseTop F o ws top n) n (base F o ws top n) (r .words)
+  done-words : r .verdict .status ≡ 0 → OnlyThere d (baseTop F ws top o d a b n) n (base F ws top o d a b n) (r .words)
   done-words e =
       let q = faultless e in
       let z = performed q in
-      rw (firsts q, z) (plan-words F ws top p s d a b (opAt o) (right F o d a b q)
+      rw z (plan-words F ws top p s d a b (opAt o) (right F o d a b q)
       (ap (λ (x : Done). x .verdict .status) (sym z) ∙ e))
 
-  asked : r .verdict .status ≡ 0 → 8 ≤ o → r .words ≡ base F o ws top n
+  asked : r .verdict .status ≡ 0 → 8 ≤ o → r .words ≡ base F ws top o d a b n
   asked e l =
       let q = faultless e in
       let k : o - 8 < 4 = omega (arith, op-small F o d a b q) in
       let z : 8 + (o - 8) ≡ o = omega arith in
       ap (λ (x : Done). x .words) (performed q)
-      ∙ (subst (λ (y : ℕ). perform (opAt y) F ws top d a b .words ≡ cond (first F ws top p s d a b (opAt y))
-      (collected F ws top) ws) z (asked-words F ws top p s d a b (o - 8) k)
-      ∙ rw (firsts q) refl)
+      ∙ subst (λ (y : ℕ). perform (opAt y) F ws top d a b .words
+      ≡ base F ws top y d a b (effect F ws top y d a b .need)) z (asked-words F ws top p s d a b (o - 8) k)
 
-  -- without need, and not COLLECT
-  as-it-is : o ≢ 11 → n ≡ 0 → collectsFirst o ws top n ≡ false
-  as-it-is h z = rw (ne-eqb o 11 h, z) (stays F ws top p s)
+  -- without need
+  as-it-is : n ≡ 0 → ltb (capacity ws) (top + n) ≡ false
+  as-it-is z = rw z (stays F ws top p s)
 
 pub calls-do : CallsDo
 unfolding collectedTop callStatus
@@ -113,17 +94,17 @@ calls-do F p ws top s o d a b =
     let g = done-top F p ws top s o d a b in
     let w = done-words F p ws top s o d a b in
     record {
-      status = status F p ws top s o d a b;
+      status = x .status;
       value = x .value;
       registers = x .registers;
-      noRoom = λ f u. sixteen (capacity ws) (F + live F ws top + effect F ws top o d a b .need) (r .verdict .status)
-          (status F p ws top s o d a b ∙ rw (f, u) refl);
+      noRoom = λ f u. sixteen (capacity ws) (F + liveForRoom F ws top o d a b + effect F ws top o d a b .need)
+          (r .verdict .status) (x .status ∙ rw (f, u) refl);
       doneTop = g;
       doneWords = w;
       asked = asked F p ws top s o d a b;
       noNeed = λ e h z. (
-        g e ∙ rw (as-it-is F p ws top s o d a b h z, z) (add-zero top),
-        rw (as-it-is F p ws top s o d a b h z, z) at (w e),
+        g e ∙ rw (h, as-it-is F p ws top s o d a b z, z) (add-zero top),
+        rw (h, as-it-is F p ws top s o d a b z, z) at (w e),
       );
       full = λ e. (rw e at (x .left), x .tops ∙ rw e refl);
       refused = t (r .verdict .status) (x .left) (x .tops);
@@ -151,52 +132,55 @@ module _ (F : ℕ) (p : 0 < F) (ws : List ℕ) (top : ℕ) (s : Sound F ws top) 
   unfolding fault uses wrong11 wrong12 wrong13
   fault-none = (refl, refl)
 
-  -- a call without need that changes no register, in the store that is collected first where x says so
+  -- a call without need that changes no register, and collects where x says so
   ask : (o a : ℕ) (x : Bool) → 8 ≤ o → fault F o 0 a 0 ≡ 0 → effect F ws top o 0 a 0 .unfit ≡ 0
-      → effect F ws top o 0 a 0 .need ≡ 0 → collectsFirst o ws top 0 ≡ x
+      → effect F ws top o 0 a 0 .need ≡ 0 → effect F ws top o 0 a 0 .collects ≡ x
       → step F ws top o 0 a 0 ≡ done (cond x (collected F ws top) ws) (cond x (F + live F ws top) top)
       (effect F ws top o 0 a 0 .value)
   unfolding callStatus
   ask o a x l f u z c =
       let k = calls-do F p ws top s o 0 a 0 in
-      let g : lacking F ws top 0 ≡ false = le-ltb (capacity ws) (F + live F ws top + 0)
-      (omega (arith, live-le F ws top p s, s .high)) in
-      let e : step F ws top o 0 a 0 .verdict .status ≡ 0 = k .status ∙ rw (f, u, z, g) refl in
+      let g = no-need F ws top p s 0 a 0 (opAt o) (right F o 0 a 0 f) in
+      let y = stays F ws top p s in
+      let e : step F ws top o 0 a 0 .verdict .status ≡ 0 = k .status ∙ rw (f, u, z, ← g) refl in
       is-done (step F ws top o 0 a 0) (cond x (collected F ws top) ws) (cond x (F + live F ws top) top)
       (effect F ws top o 0 a 0 .value) e
-      (k .value ∙ rw e refl) (k .asked e l ∙ rw (z, c) refl)
-      (k .doneTop e ∙ rw (z, c) (add-zero (cond x (F + live F ws top) top)))
+      (k .value ∙ rw e refl) (k .asked e l ∙ rw (c, z, y) refl)
+      (k .doneTop e ∙ rw (c, z, y) (add-zero (cond x (F + live F ws top) top)))
 
 pub calls-answer : CallsAnswer
 unfolding opAt ops
 calls-answer F p ws top s =
-    let k = stays F ws top p s in
     record {
-      lengths = λ a h. ask F p ws top s 8 a false (omega arith) (fault-one F p ws top s a h .0) refl refl k;
-      firsts = λ a c e h z. ask F p ws top s 9 a false (omega arith) (fault-one F p ws top s a h .1) (rw z refl) refl k
-          ∙ rw z refl;
-      lives = ask F p ws top s 10 0 false (omega arith) (fault-none F p ws top s .0) refl refl k;
+      lengths = λ a h. ask F p ws top s 8 a false (omega arith) (fault-one F p ws top s a h .0) refl refl refl;
+      firsts = λ a c e h z.
+          ask F p ws top s 9 a false (omega arith) (fault-one F p ws top s a h .1) (rw z refl) refl refl ∙ rw z refl;
+      lives = ask F p ws top s 10 0 false (omega arith) (fault-none F p ws top s .0) refl refl refl;
       collects = ask F p ws top s 11 0 true (omega arith) (fault-none F p ws top s .1) refl refl refl;
     }
 
 -- ---- a batch
 
-answered : (F : ℕ) (p : 0 < F) (ws : List ℕ) (top : ℕ) {cs : List ℕ} → Fours cs → Sound F ws top
-    → Answered F ws top cs (runs F ws top cs .answers) (runs F ws top cs .words) (runs F ws top cs .top)
-answered F p ws top none s = Answered.none
-answered F p ws top (four {o} {d} {a} {b} {cs} c) s =
-    let r = step F ws top o d a b in
-    let k = calls-do F p ws top s o d a b in
-    next r refl k (answered F p (r .words) (r .top) c (k .sound))
+did : (F : ℕ) (p : 0 < F) (ws : List ℕ) (top : ℕ) → Sound F ws top → (q : Request)
+    → Did F ws top q (requested F ws top q) × Sound F (requested F ws top q .words) (requested F ws top q .top)
+did F p ws top s (call o d a b) = let k = calls-do F p ws top s o d a b in (k, k .sound)
+
+answered : (F : ℕ) (p : 0 < F) (ws : List ℕ) (top : ℕ) (qs : List Request) → Sound F ws top
+    → (let r = ran F ws top qs in Answered F ws top qs (r .answers) (r .words) (r .top))
+answered F p ws top [] s = none
+answered F p ws top (q ∷ qs) s =
+    let r = requested F ws top q in
+    let k = did F p ws top s q in
+    next r refl (k .0) (answered F p (r .words) (r .top) qs (k .1))
 
 pub batches-run : BatchesRun
 unfolding ended
 batches-run F p ws top calls out e =
     let q = batch-runs F p ws top calls out e in
-    rw (q .2)
+    rw (q .2, runs-ran F ws top (q .1))
     (record {
-      said = runs F ws top calls .answers;
-      answered = answered F p ws top (q .1) (q .0);
-      many = answers-length F ws top (q .1);
+      said = ran F ws top (requests calls) .answers;
+      answered = answered F p ws top (requests calls) (q .0);
+      many = omega (arith, ran-length F ws top (requests calls), requests-length (q .1));
       answers = refl;
     })

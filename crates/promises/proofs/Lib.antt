@@ -3,9 +3,11 @@
 --   Follow     stores that follow one another, cell by cell, have the same canonical words
 --   Pairs      a store and that store collected, and both with a register set or with n new cells
 --   Agree, Builds   what an action does in a store, it does in that store collected; without and with new cells
---   Twins      what a call does in a store, it does in any store with the same canonical words
+--   Twins      what an action does in a store, it does in any store with the same canonical words; room sought first
+--   TwinCalls  so does a call
 --   Alikes     alike, by canonical words and by collecting
---   Struck     lists of calls without COLLECT, and cut into batches: demand 3
+--   Requests   lists of requests, run one after the other
+--   Struck     lists of requests without COLLECT, and cut into batches: demand 3
 --   Touching, Acting   which words an action changes, in which store, and its `top`
 --   Calling    demand 2, calls and batches
 --   Gathering  demand 2, collecting
@@ -18,7 +20,9 @@ pub mod Pairs
 pub mod Agree
 pub mod Builds
 pub mod Twins
+pub mod TwinCalls
 pub mod Alikes
+pub mod Requests
 pub mod Struck
 pub mod Touching
 pub mod Acting

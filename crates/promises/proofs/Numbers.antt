@@ -10,7 +10,7 @@ use lib.ListN.{getD}
 use Rattle.meaning.specs.Expr.{Expr, nothing, symbol, parens}
 use Rattle.meaning.specs.Call.{Op, CLEAR, COPY, SYMBOL, WRAP, JOIN, HEAD, REST, OPEN, LENGTH, FIRST, LIVE, COLLECT}
 use Rattle.meaning.specs.Call.{uses, wrong11, wrong12, wrong13, fault}
-use Rattle.meaning.specs.Effect.{does, onEmpty, onOpen, onFirst, orElse}
+use Rattle.meaning.specs.Effect.{Facts, does, onEmpty, onOpen, onFirst, orElse}
 use Rattle.promises.specs.Table.{OneOf}
 
 pub fault-number : (F o d a b : ℕ) → OneOf (fault F o d a b) (0 ∷ 10 ∷ 11 ∷ 12 ∷ 13 ∷ [])
@@ -44,19 +44,20 @@ first-number nothing = inr (inl refl)
 first-number (symbol s r) = inl refl
 first-number (parens i r) = inr (inr (inl refl))
 
-pub unfit-number : (o : Op) (e : ℕ → Expr) (lv d a b : ℕ) → OneOf (does o e lv d a b .unfit) (0 ∷ 14 ∷ 15 ∷ [])
-unfit-number CLEAR e lv d a b = inl refl
-unfit-number COPY e lv d a b = inl refl
-unfit-number SYMBOL e lv d a b = inl refl
-unfit-number WRAP e lv d a b = inl refl
-unfit-number JOIN e lv d a b = inl refl
-unfit-number HEAD e lv d a b = empty-number (e a)
-unfit-number REST e lv d a b = empty-number (e a)
-unfit-number OPEN e lv d a b = open-number (e a)
-unfit-number LENGTH e lv d a b = inl refl
-unfit-number FIRST e lv d a b = first-number (e a)
-unfit-number LIVE e lv d a b = inl refl
-unfit-number COLLECT e lv d a b = inl refl
+pub unfit-number : (o : Op) (e : ℕ → Expr) (fs : Facts) (d a b : ℕ)
+    → OneOf (does o e fs d a b .unfit) (0 ∷ 14 ∷ 15 ∷ [])
+unfit-number CLEAR e fs d a b = inl refl
+unfit-number COPY e fs d a b = inl refl
+unfit-number SYMBOL e fs d a b = inl refl
+unfit-number WRAP e fs d a b = inl refl
+unfit-number JOIN e fs d a b = inl refl
+unfit-number HEAD e fs d a b = empty-number (e a)
+unfit-number REST e fs d a b = empty-number (e a)
+unfit-number OPEN e fs d a b = open-number (e a)
+unfit-number LENGTH e fs d a b = inl refl
+unfit-number FIRST e fs d a b = first-number (e a)
+unfit-number LIVE e fs d a b = inl refl
+unfit-number COLLECT e fs d a b = inl refl
 
 abbrev statuses : List ℕ
 statuses = 0 ∷ 10 ∷ 11 ∷ 12 ∷ 13 ∷ 14 ∷ 15 ∷ 16 ∷ []

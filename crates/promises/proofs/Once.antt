@@ -3,7 +3,7 @@
 use mathlib.Core.Path.{_≡_, refl, sym, ap, ap₂, _∙_}
 use mathlib.Core.Logic.{_⊎_, inl, inr, _≢_}
 use mathlib.Core.Bool.{Bool, true, false}
-use mathlib.Core.List.{List, _++_}
+use mathlib.Core.List.{List, _∷_, _++_}
 use Prim.Native.Nat.{ℕ, zero, suc, _+_, _-_, _≤_, _<_}
 use native.Mathlib.Omega.{arith}
 use lib.ListN.{length, replicate}
@@ -13,13 +13,16 @@ use Rattle.meaning.specs.Sound.{Cell, code, hollow, ends, fst, snd, at, capacit
 use Rattle.meaning.specs.Reach.{reached, live}
 use Rattle.meaning.specs.Collected.{mapEnds, newAddress, collectedTop}
 use Rattle.meaning.specs.Check.{Verdict, only, Done, lengthTest, check}
-use Rattle.meaning.specs.Batch.{Outcome, asLent, Ran, then, runs as calling}
+use Rattle.meaning.specs.Batch.{Outcome, asLent}
 use Rattle.meaning.proofs.Lists.{lt-or-ge}
 use Rattle.meaning.proofs.Cells.{good, BracketIn, read, bracket-words, term-words, free-words}
 use Rattle.meaning.proofs.Checking.{check-sound, sound-check}
 use Rattle.meaning.proofs.Determined.{is-collected}
 use Rattle.promises.specs.Table.{Not, LengthRule, TopRule, CellRule, Judged, badLength, badTop, badCell, isSound}
 use Rattle.promises.specs.Table.{Batched, unsound, badCalls, badSpace, runs}
+use Rattle.promises.specs.Requests.{Request, inWords}
+use Rattle.promises.specs.Alike.{Served}
+use Rattle.promises.proofs.Requests.{ran}
 use Rattle.promises.specs.Calls.{Answered, none, next, BatchRun}
 use Rattle.promises.specs.Unique.{OneAnswer, OneCheck, OneFresh, OneCollected, OneLook, OneCollect, OneBatch}
 use Rattle.promises.proofs.Rules.{refuted, length-rule, rule-length}
@@ -138,24 +141,26 @@ one-collect F ws top r q a b = go (check F ws top .status) refl
 
 -- ---- a batch
 
-answered-runs : (F : ℕ) {ws : List ℕ} {top : ℕ} {cs ans v : List ℕ} {t : ℕ} → Answered F ws top cs ans v t
-    → calling F ws top cs ≡ record { words = v; top = t; answers = ans }
-answered-runs F none = refl
-answered-runs F (next {ws} {top} {o} {d} {a} {b} {cs} r e c k) =
-    rw (← e) (ap (λ (q : Ran). then r q) (answered-runs F k))
+answered-ran : (F : ℕ) {ws : List ℕ} {top : ℕ} {qs : List Request} {said : List Verdict} {v : List ℕ} {t : ℕ}
+    → Answered F ws top qs said v t → ran F ws top qs ≡ record { words = v; top = t; answers = said }
+answered-ran F none = refl
+answered-ran F (next {ws} {top} {q} r e c k) =
+    rw (← e) (ap (λ (s : Served). record { words = s .words; top = s .top; answers = r .verdict ∷ s .answers })
+    (answered-ran F k))
 
 module _ (F : ℕ) (ws : List ℕ) (top : ℕ) (calls out : List ℕ) where
   both-run : (r q : Outcome) → r .verdict ≡ only 0 → q .verdict ≡ only 0 → BatchRun F ws top calls out r
       → BatchRun F ws top calls out q → r ≡ q
   both-run r q e f x y =
-      let z : _≡_ {A = Ran} (record { words = r .words; top = r .top; answers = x .said })
+      let z : _≡_ {A = Served} (record { words = r .words; top = r .top; answers = x .said })
       (record { words = q .words; top = q .top; answers = y .said }) =
-      sym (answered-runs F (x .answered)) ∙ answered-runs F (y .answered) in
-      let w : r .words ≡ q .words = ap (λ (u : Ran). u .words) z in
-      let t : r .top ≡ q .top = ap (λ (u : Ran). u .top) z in
+      sym (answered-ran F (x .answered)) ∙ answered-ran F (y .answered) in
+      let w : r .words ≡ q .words = ap (λ (u : Served). u .words) z in
+      let t : r .top ≡ q .top = ap (λ (u : Served). u .top) z in
       let a : r .answers ≡ q .answers =
-      x .answers ∙ (ap (λ (u : Ran). u .answers ++ replicate (length out - length (u .answers)) 0) z ∙ sym
-      (y .answers)) in
+      x .answers
+      ∙ (ap (λ (u : Served). inWords (u .answers) ++ replicate (length out - length (inWords (u .answers))) 0) z
+      ∙ sym (y .answers)) in
       rw (e ∙ sym f, w, t, a) refl
 
   -- a store is sound or it is not

@@ -12,12 +12,11 @@ use borrow.Author.Tests.{ltb-false, lt-ltb, le-ltb, leb-true, le-leb, eqb-true}
 use Rattle.words.specs.Cell.{firstWord, secondWord}
 use Rattle.meaning.specs.Limits.{limit, callsLimit}
 use Rattle.meaning.specs.Sound.{at, capacity}
-use Rattle.meaning.specs.Check.{Verdict, only, cellTest, lengthTest, topTest, check}
+use Rattle.meaning.specs.Check.{Verdict, cellTest, lengthTest, topTest, check}
 use Rattle.meaning.specs.Batch.{callsTest}
 use Rattle.meaning.proofs.Lists.{lt-or-ge}
 use Rattle.meaning.proofs.Checking.{bracket-yes, yes-bracket, term-yes, yes-term, Checks, length-bad, top-bad, cell-bad}
-use Rattle.meaning.proofs.Checking.{two-zeros}
-use Rattle.meaning.proofs.Checking.{sound, checks}
+use Rattle.meaning.proofs.Checking.{two-zeros, sound, checks}
 use Rattle.promises.specs.Table.{OneOf, Not, LengthRule, TopRule, CellRule, Judged, badLength, badTop, badCell}
 use Rattle.promises.specs.Table.{isSound, CallsRule}
 

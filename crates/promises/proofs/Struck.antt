@@ -1,28 +1,33 @@
--- Lists of calls, cut into batches anywhere: a list answers as the same list without COLLECT does, and leaves a twin
+-- Lists of requests, cut into batches anywhere: a list answers as the same list without COLLECT does, and leaves a twin
 -- of the store that that leaves. Two lists that are equal once struck are compared through their common struck list.
 -- Assumes nothing.
 use mathlib.Core.Path.{_≡_, refl, sym, ap, ap₂, _∙_}
 use mathlib.Core.Bool.{Bool, true, false}
-use mathlib.Core.List.{List, [], _∷_, _++_}
+use mathlib.Core.List.{List, [], _∷_}
 use Prim.Native.Nat.{ℕ, zero, suc, _-_, _*_, _/_, _<_}
 use native.Mathlib.Omega.{arith}
 use lib.ListN.{length, replicate}
 use lib.Seq.{take-at}
 use borrow.Author.Tests.{eqb-true}
 use Rattle.meaning.specs.Sound.{Sound}
-use Rattle.meaning.specs.Check.{Verdict, Done, done, refused}
+use Rattle.meaning.specs.Check.{Verdict, Done}
 use Rattle.meaning.specs.Call.{ops, opAt, fault, planOf, carry, perform, stepAfter, step}
-use Rattle.meaning.specs.Batch.{Ran, then, runs, ended}
-use Rattle.meaning.proofs.Steps.{step-meets, Fours, none, four}
-use Rattle.meaning.proofs.Batches.{runs-cut, batch-runs}
-use Rattle.promises.specs.Alike.{Lent, callsOf, served, NoneRefused, isCollect, strike, strikeAnswers}
-use Rattle.promises.specs.Alike.{CollectionsNeverShow}
+use Rattle.meaning.specs.Batch.{ended}
+use Rattle.meaning.proofs.Steps.{step-meets}
+use Rattle.meaning.proofs.Batches.{batch-runs}
+use Rattle.promises.specs.Requests.{Request, call, requested, requests, inWords}
+use Rattle.promises.specs.Alike.{calls, requestsIn, Accepted, servedBy, Lent, requestsOf, Served, served}
+use Rattle.promises.specs.Alike.{NoneRefused, isCollect, strike, strikeAnswers, CollectionsNeverShow}
+use Rattle.promises.proofs.Requests.{ran, runs-ran, ran-cut, ran-length, requests-length, inWords-length}
+use Rattle.promises.proofs.Requests.{verdicts-inWords}
+use Rattle.promises.proofs.Agree.{Agree}
 use Rattle.promises.proofs.Canons.{canon}
 use Rattle.promises.proofs.Pairs.{canon-collected}
-use Rattle.promises.proofs.Twins.{Twin, twin-self, twin-flip, twin-trans, step-agrees}
+use Rattle.promises.proofs.Twins.{Twin, twin-self, twin-flip, twin-trans}
+use Rattle.promises.proofs.TwinCalls.{step-agrees}
 use Rattle.promises.proofs.Alikes.{alike-canon, canon-alike, collect-sound, same-length, canon-collects}
 
--- ---- one call
+-- ---- one request
 
 module _ (F : ℕ) (p : 0 < F) (ws : List ℕ) (top : ℕ) where
   -- COLLECT leaves a twin of the store, and so does a COLLECT that is refused
@@ -36,117 +41,129 @@ module _ (F : ℕ) (p : 0 < F) (ws : List ℕ) (top : ℕ) where
       go zero = unfold stepAfter ops opAt perform planOf carry in canon-collected F ws top p s
       go (suc f) = unfold stepAfter in refl
 
-  -- a call in twins
-  step-twin : (ws′ : List ℕ) (top′ o d a b : ℕ) → Twin F ws top ws′ top′
-      → Twin F (step F ws top o d a b .words) (step F ws top o d a b .top) (step F ws′ top′ o d a b .words)
-      (step F ws′ top′ o d a b .top)
-  step-twin ws′ top′ o d a b t =
-      let m = step-meets F ws top p (t .one) o d a b in
-      let m′ = step-meets F ws′ top′ p (t .two) o d a b in
+  -- a request leaves a sound store as long as before, and in twins it answers the same and leaves twins
+  leaves : Sound F ws top → (q : Request)
+      → Sound F (requested F ws top q .words) (requested F ws top q .top)
+      × (length (requested F ws top q .words) ≡ length ws)
+  leaves s (call o d a b) = let m = step-meets F ws top p s o d a b in (m .sound, m .len)
+
+  module _ (ws′ : List ℕ) (top′ : ℕ) (t : Twin F ws top ws′ top′) where
+    agrees : (q : Request) → Agree F (requested F ws top q) (requested F ws′ top′ q)
+    agrees (call o d a b) = step-agrees F ws top ws′ top′ p t o d a b
+
+    collects : (q : Request) → isCollect q ≡ true
+        → canon F (requested F ws top q .words) (requested F ws top q .top) ≡ canon F ws top
+    collects (call o d a b) e =
+        let z : o ≡ 11 = eqb-true o 11 e in rw z (collect-canon (t .one) d a b)
+
+-- in twins, with COLLECT in the first alone
+module _ (F : ℕ) (p : 0 < F) (ws : List ℕ) (top : ℕ) (ws′ : List ℕ) (top′ : ℕ) (t : Twin F ws top ws′ top′)
+    (q : Request) where
+  abbrev r : Done
+  r = requested F ws top q
+
+  abbrev r′ : Done
+  r′ = requested F ws′ top′ q
+
+  request-twin : Twin F (r .words) (r .top) (r′ .words) (r′ .top)
+  request-twin =
+      let m = leaves F p ws top (t .one) q in
+      let m′ = leaves F p ws′ top′ (t .two) q in
       record {
-        one = m .sound;
-        two = m′ .sound;
-        len = m .len ∙ (t .len ∙ sym (m′ .len));
-        same = step-agrees F ws top
-            ws′ top′ p t o d a b .same;
+        one = m .0;
+        two = m′ .0;
+        len = m .1 ∙ (t .len ∙ sym (m′ .1));
+        same = agrees F p ws top ws′ top′ t q .same;
       }
 
-  collect-twin : (ws′ : List ℕ) (top′ o d a b : ℕ) → o ≡ 11 → Twin F ws top ws′ top′
-      → Twin F (step F ws top o d a b .words) (step F ws top o d a b .top) ws′ top′
-  collect-twin ws′ top′ o d a b e t =
-      let m = step-meets F ws top p (t .one) o d a b in
+  collect-twin : isCollect q ≡ true → Twin F (r .words) (r .top) ws′ top′
+  collect-twin e =
+      let m = leaves F p ws top (t .one) q in
       record {
-        one = m .sound;
+        one = m .0;
         two = t .two;
-        len = m .len ∙ t .len;
-        same = rw e (collect-canon (t .one) d a b) ∙ t
-            .same;
+        len = m .1 ∙ t .len;
+        same = collects F p ws top ws′ top′ t q e ∙ t .same;
       }
 
--- ---- a list of calls
+-- ---- a list of requests
 
--- the run q of the calls cs, and the run q′ of the calls with COLLECT struck out
-record Same (F : ℕ) (cs : List ℕ) (q q′ : Ran) : Type 0 where
-  answers : strikeAnswers cs (q .answers) ≡ q′ .answers
-  twins : Twin F (q .words) (q .top) (q′ .words) (q′ .top)
+-- the run s of the requests qs, and the run s′ of the requests with COLLECT struck out
+record Same (F : ℕ) (qs : List Request) (s s′ : Served) : Type 0 where
+  answers : strikeAnswers qs (s .answers) ≡ s′ .answers
+  twins : Twin F (s .words) (s .top) (s′ .words) (s′ .top)
 
-runs-struck : (F : ℕ) (p : 0 < F) {cs : List ℕ} → Fours cs → (ws : List ℕ) (top : ℕ) (ws′ : List ℕ) (top′ : ℕ)
-    → Twin F ws top ws′ top′ → Same F cs (runs F ws top cs) (runs F ws′ top′ (strike cs))
-runs-struck F p none ws top ws′ top′ t = record { answers = refl; twins = t }
-runs-struck F p (four {o} {d} {a} {b} {cs} c) ws top ws′ top′ t = go (isCollect o) refl (runs-struck F p c)
+ran-struck : (F : ℕ) (p : 0 < F) (qs : List Request) (ws : List ℕ) (top : ℕ) (ws′ : List ℕ) (top′ : ℕ)
+    → Twin F ws top ws′ top′ → Same F qs (ran F ws top qs) (ran F ws′ top′ (strike qs))
+ran-struck F p [] ws top ws′ top′ t = record { answers = refl; twins = t }
+ran-struck F p (q ∷ qs) ws top ws′ top′ t = go (isCollect q) refl (ran-struck F p qs)
   where
-    go : (x : Bool) → isCollect o ≡ x
+    go : (x : Bool) → isCollect q ≡ x
         → ((v : List ℕ) (u : ℕ) (v′ : List ℕ) (u′ : ℕ) → Twin F v u v′ u′
-        → Same F cs (runs F v u cs) (runs F v′ u′ (strike cs)))
-        → Same F (o ∷ d ∷ a ∷ b ∷ cs) (runs F ws top (o ∷ d ∷ a ∷ b ∷ cs))
-        (runs F ws′ top′ (strike (o ∷ d ∷ a ∷ b ∷ cs)))
+        → Same F qs (ran F v u qs) (ran F v′ u′ (strike qs)))
+        → Same F (q ∷ qs) (ran F ws top (q ∷ qs)) (ran F ws′ top′ (strike (q ∷ qs)))
     go true z rec =
-        let h = rec (step F ws top o d a b .words) (step F ws top o d a b .top) ws′ top′
-        (collect-twin F p ws top ws′ top′ o d a b (eqb-true o 11 z) t) in
+        let h = rec (requested F ws top q .words) (requested F ws top q .top) ws′ top′
+        (collect-twin F p ws top ws′ top′ t q z) in
         record { answers = rw z (h .answers); twins = rw z (h .twins) }
     go false z rec =
-        let v = step-agrees F ws top ws′ top′ p t o d a b .verdict in
-        let h = rec (step F ws top o d a b .words) (step F ws top o d a b .top) (step F ws′ top′ o d a b .words)
-        (step F ws′ top′ o d a b .top) (step-twin F p ws top ws′ top′ o d a b t) in
+        let v = agrees F p ws top ws′ top′ t q .verdict in
+        let h = rec (requested F ws top q .words) (requested F ws top q .top) (requested F ws′ top′ q .words)
+        (requested F ws′ top′ q .top) (request-twin F p ws top ws′ top′ t q) in
         record {
-          answers = rw z (ap₂ {C = List ℕ} (λ (x : Verdict) y. x .status ∷ x .value ∷ y) v (h .answers));
-          twins
-              = rw z (h .twins);
+          answers = rw z (ap₂ {C = List Verdict} (λ x y. x ∷ y) v (h .answers));
+          twins = rw z (h .twins);
         }
 
 -- two lists that are equal once struck
-runs-twin : (F : ℕ) (p : 0 < F) {cs cs′ : List ℕ} → Fours cs → Fours cs′
-    → (ws : List ℕ) (top : ℕ) (ws′ : List ℕ) (top′ : ℕ) → Twin F ws top ws′ top′ → strike cs ≡ strike cs′
-    → (strikeAnswers cs (runs F ws top cs .answers) ≡ strikeAnswers cs′ (runs F ws′ top′ cs′ .answers))
-    × Twin F (runs F ws top cs .words) (runs F ws top cs .top) (runs F ws′ top′ cs′ .words) (runs F ws′ top′ cs′ .top)
-runs-twin F p {cs} {cs′} c c′ ws top ws′ top′ t e =
-    let h = runs-struck F p c ws top ws top (twin-self F ws top (t .one)) in
-    let k : Same F cs′ (runs F ws′ top′ cs′) (runs F ws top (strike cs)) =
-    rw e (runs-struck F p c′ ws′ top′ ws top (twin-flip t)) in
+ran-twin : (F : ℕ) (p : 0 < F) (qs qs′ : List Request) (ws : List ℕ) (top : ℕ) (ws′ : List ℕ) (top′ : ℕ)
+    → Twin F ws top ws′ top′ → strike qs ≡ strike qs′
+    → (let s = ran F ws top qs in
+    let s′ = ran F ws′ top′ qs′ in
+    (strikeAnswers qs (s .answers) ≡ strikeAnswers qs′ (s′ .answers))
+    × Twin F (s .words) (s .top) (s′ .words) (s′ .top))
+ran-twin F p qs qs′ ws top ws′ top′ t e =
+    let h = ran-struck F p qs ws top ws top (twin-self F ws top (t .one)) in
+    let k : Same F qs′ (ran F ws′ top′ qs′) (ran F ws top (strike qs)) =
+    rw e (ran-struck F p qs′ ws′ top′ ws top (twin-flip t)) in
     (h .answers ∙ sym (k .answers), twin-trans (h .twins) (twin-flip (k .twins)))
 
 -- ---- cut into batches
 
-fours-append : {cs : List ℕ} (ds : List ℕ) → Fours cs → Fours ds → Fours (cs ++ ds)
-fours-append ds none g = g
-fours-append ds (four c) g = four (fours-append ds c g)
-
--- two answers a call
-pub answers-length : (F : ℕ) (ws : List ℕ) (top : ℕ) {cs : List ℕ} → Fours cs
-    → length (runs F ws top cs .answers) ≡ 2 * (length cs / 4)
-answers-length F ws top none = refl
-answers-length F ws top (four {o} {d} {a} {b} {cs} c) =
-    omega (arith, answers-length F (step F ws top o d a b .words) (step F ws top o d a b .top) c)
-
-served-runs : (F : ℕ) → 0 < F → (ws : List ℕ) (top : ℕ) (bs : List Lent) → NoneRefused F ws top bs
-    → Fours (callsOf bs) × (served F ws top bs ≡ runs F ws top (callsOf bs))
+lent-ran : (F : ℕ) → 0 < F → (ws : List ℕ) (top : ℕ) (b : Lent) → Accepted F ws top b
+    → servedBy F ws top b ≡ ran F ws top (requestsIn b)
 unfolding ended
-served-runs F p ws top [] q = (none, refl)
-served-runs F p ws top (b ∷ bs) q =
-    let r = batch-runs F p ws top (b .calls) (b .space) (q .0) in
-    let h : Fours (callsOf bs) × (served F (runs F ws top (b .calls) .words) (runs F ws top (b .calls) .top) bs ≡ runs
-    F (runs F ws top (b .calls) .words) (runs F ws top (b .calls) .top) (callsOf bs)) =
-    served-runs F p (runs F ws top (b .calls) .words) (runs F ws top (b .calls) .top) bs (rw (r .2) at (q .1)) in
-    let k = take-at (runs F ws top (b .calls) .answers)
-    (replicate (length (b .space) - length (runs F ws top (b .calls) .answers)) 0) (2 * (length (b .calls) / 4))
-    (answers-length F ws top (r .1)) in
-    (fours-append (callsOf bs) (r .1) (h .0), rw (r .2, h .1, k) (sym (runs-cut F ws top (callsOf bs) (r .1))))
+lent-ran F p ws top (calls cs space) n =
+    let r = batch-runs F p ws top cs space n in
+    let s = ran F ws top (requests cs) in
+    let l : length (inWords (s .answers)) ≡ 2 * (length cs / 4) =
+    omega (arith, inWords-length (s .answers), ran-length F ws top (requests cs), requests-length (r .1)) in
+    let k = take-at (inWords (s .answers)) (replicate (length space - length (inWords (s .answers))) 0)
+    (2 * (length cs / 4)) l in
+    rw (r .2, runs-ran F ws top (r .1), k, verdicts-inWords (s .answers)) refl
+
+served-ran : (F : ℕ) → 0 < F → (ws : List ℕ) (top : ℕ) (bs : List Lent) → NoneRefused F ws top bs
+    → served F ws top bs ≡ ran F ws top (requestsOf bs)
+served-ran F p ws top [] n = refl
+served-ran F p ws top (b ∷ bs) n =
+    let e = lent-ran F p ws top b (n .0) in
+    let s = ran F ws top (requestsIn b) in
+    let h : served F (s .words) (s .top) bs ≡ ran F (s .words) (s .top) (requestsOf bs) =
+    served-ran F p (s .words) (s .top) bs (rw e at (n .1)) in
+    rw (e, h) (sym (ran-cut F ws top (requestsIn b) (requestsOf bs)))
 
 pub collections-never-show : CollectionsNeverShow
 collections-never-show F p ws top ws′ top′ s s′ c a bs bs′ n n′ e =
-    let r = served-runs F p ws top bs n in
-    let r′ = served-runs F p ws′ top′ bs′ n′ in
-    let q = runs F ws top (callsOf bs) in
-    let q′ = runs F ws′ top′ (callsOf bs′) in
+    let q = ran F ws top (requestsOf bs) in
+    let q′ = ran F ws′ top′ (requestsOf bs′) in
     let t : Twin F ws top ws′ top′ = record {
       one = s;
       two = s′;
       len = same-length s s′ c;
-      same = alike-canon F p ws
-          top s ws′ top′ s′ a;
+      same = alike-canon F p ws top s ws′ top′ s′ a;
     } in
-    let h = runs-twin F p (r .0) (r′ .0) ws top ws′ top′ t e in
-    rw (r .1, r′ .1)
+    let h = ran-twin F p (requestsOf bs) (requestsOf bs′) ws top ws′ top′ t e in
+    rw (served-ran F p ws top bs n, served-ran F p ws′ top′ bs′ n′)
     (record {
       answers = h .0;
       alike = canon-alike F p (q .words) (q .top) (h .1 .one) (q′ .words) (q′ .top) (h .1 .two) (h .1 .same);

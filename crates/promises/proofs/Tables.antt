@@ -18,12 +18,12 @@ use Rattle.meaning.specs.Collected.{collected, collectedTop}
 use Rattle.meaning.specs.Check.{Verdict, only, done, refused, lengthTest, check, onZero, fresh, freshIn, collectIn}
 use Rattle.meaning.specs.Check.{look}
 use Rattle.meaning.specs.Call.{fault, opAt, step}
-use Rattle.meaning.specs.Effect.{Effect, after, answer, callStatus}
+use Rattle.meaning.specs.Effect.{Effect, facts, effect, after, answer, callStatus}
 use Rattle.meaning.specs.Batch.{Outcome, asLent, ended, batchOf, callsTest, batch, runs as calling}
 use Rattle.meaning.proofs.Looking.{look-none, look-empty, look-size, look-word, look-unsound}
 use Rattle.meaning.proofs.Checking.{sound, check-sound, sound-check}
 use Rattle.meaning.proofs.Fresh.{fresh-sound, fresh-empty}
-use Rattle.promises.specs.Calls.{effect, lacking}
+use Rattle.promises.specs.Calls.{lacking}
 use Rattle.promises.specs.Table.{OneOf, CheckAnswers, FreshTable, FreshAnswers, CollectTable, CollectAnswers}
 use Rattle.promises.specs.Table.{LookTable, LookAnswers, Batched, unsound, badCalls, badSpace, runs, BatchAnswers}
 use Rattle.promises.specs.Table.{CallAnswers}
@@ -224,8 +224,8 @@ call-answers F p ws top s o d a b =
     let x = effect F ws top o d a b in
     record {
       number = rw (c .status)
-          (first-of (fault F o d a b) (x .unfit) (lacking F ws top (x .need)) (fault-number F o d a b)
-          (unfit-number (opAt o) (meaning ws) (live F ws top) d a b));
+          (first-of (fault F o d a b) (x .unfit) (lacking F ws top o d a b (x .need)) (fault-number F o d a b)
+          (unfit-number (opAt o) (meaning ws) (facts F ws top) d a b));
       value = λ n. c .value ∙ refused-value (r .verdict .status) x n;
       kept = λ k. let z = ten-to-fifteen (r .verdict .status) k in c .refused (λ e. omega (arith, z .0))
           (λ e. omega (arith, z .1));

@@ -8,7 +8,7 @@ use native.Mathlib.Omega.{arith}
 use Rattle.words.proofs.Cells.{firstWord-other, secondWord-other}
 use Rattle.meaning.specs.Sound.{Cell, code, hollow, ends, fst, snd, at}
 use Rattle.words.specs.Cell.{firstWord, secondWord}
-use Rattle.meaning.specs.Check.{Done, done, refused, size, start}
+use Rattle.meaning.specs.Check.{Done, done, size, start}
 use Rattle.meaning.specs.Call.{put, copy, copies, share, newSymbol, newBracket, newRunOf, newRun, head, rest, openTerm}
 use Rattle.meaning.specs.Call.{openFirst, codeTerm, codeFirst}
 use Rattle.promises.specs.Calls.{OnlyThere}
@@ -17,7 +17,7 @@ module _ (d t n : ℕ) where
   pub only-same : (ws : List ℕ) → OnlyThere d t n ws ws
   only-same ws c h g = (refl, refl)
 
-  only-trans : (ws v u : List ℕ) → OnlyThere d t n ws v → OnlyThere d t n v u → OnlyThere d t n ws u
+  pub only-trans : (ws v u : List ℕ) → OnlyThere d t n ws v → OnlyThere d t n v u → OnlyThere d t n ws u
   only-trans ws v u x y c h g = (y c h g .0 ∙ x c h g .0, y c h g .1 ∙ x c h g .1)
 
   only-put : (ws : List ℕ) (b : Cell) → OnlyThere d t n ws (put ws d b)

@@ -1,5 +1,5 @@
 -- Demand 3: collections never show ("What the proofs have to nail"). Two sound stores of equal capacity that are
--- alike, given lists of calls that are equal once COLLECT is struck out, each list cut into batches in its own way,
+-- alike, given lists of requests that are equal once COLLECT is struck out, each list cut into batches in its own way,
 -- none of them refused: all other answers are equal, and one more collection of each makes the stores equal word for
 -- word. Assumes nothing.
 use mathlib.Core.Path.{_≡_}
@@ -7,11 +7,12 @@ use mathlib.Core.Bool.{Bool, cond}
 use mathlib.Core.List.{List, [], _∷_, _++_}
 use Prim.Native.Nat.{ℕ, _*_, _/_, _<_}
 use lib.Dec.{eqb}
-use lib.ListN.{length, getD, take, drop}
+use lib.ListN.{length, getD, take}
 use Rattle.meaning.specs.Sound.{Cell, code, hollow, ends, at, Sound, capacity}
 use Rattle.meaning.specs.Reach.{reached, live}
-use Rattle.meaning.specs.Check.{collectIn}
-use Rattle.meaning.specs.Batch.{Ran, batch}
+use Rattle.meaning.specs.Check.{Verdict, collectIn}
+use Rattle.meaning.specs.Batch.{batch}
+use Rattle.promises.specs.Requests.{Request, call, requests, verdicts}
 
 -- ---- alike
 
@@ -51,58 +52,66 @@ AlikeIsCollected =
     → (Alike F ws top ws′ top′ → collectIn F ws top ≡ collectIn F ws′ top′)
     × (collectIn F ws top ≡ collectIn F ws′ top′ → Alike F ws top ws′ top′)
 
--- ---- calls, cut into batches
+-- ---- requests, cut into batches
 
--- a batch: its call list, and the answer space that is lent with it
-pub record Lent : Type 0 where
-  pub calls : List ℕ
-  pub space : List ℕ
+-- what is lent in one go: a call list, and the answer space for it
+pub data Lent : Type 0 where
+  calls : List ℕ → List ℕ → Lent
 
--- all calls, in order
-abbrev pub callsOf : List Lent → List ℕ
-callsOf [] = []
-callsOf (b ∷ bs) = b .calls ++ callsOf bs
+-- its requests; that it is not refused with 1 to 5; the store and `top` that it leaves, and the answers to its requests
+abbrev pub requestsIn : Lent → List Request
+requestsIn (calls cs space) = requests cs
 
--- each batch on the store that the one before left: the store and `top` after the last, and the answers of all calls
-abbrev pub served : ℕ → List ℕ → ℕ → List Lent → Ran
-served F ws top [] = record { words = ws; top = top; answers = [] }
-served F ws top (b ∷ bs) =
-    let r = batch F ws top (b .calls) (b .space) in
-    let q = served F (r .words) (r .top) bs in
-    record { words = q .words; top = q .top; answers = take (2 * (length (b .calls) / 4)) (r .answers) ++ q .answers }
+abbrev pub Accepted : ℕ → List ℕ → ℕ → Lent → Type 0
+Accepted F ws top (calls cs space) = batch F ws top cs space .verdict .status ≡ 0
 
--- no batch is refused with 1 to 5
+pub record Served : Type 0 where
+  pub words : List ℕ
+  pub top : ℕ
+  pub answers : List Verdict
+
+abbrev pub servedBy : ℕ → List ℕ → ℕ → Lent → Served
+servedBy F ws top (calls cs space) =
+    let r = batch F ws top cs space in
+    record { words = r .words; top = r .top; answers = verdicts (take (2 * (length cs / 4)) (r .answers)) }
+
+-- the same of a list, each on the store that the one before left
+abbrev pub requestsOf : List Lent → List Request
+requestsOf [] = []
+requestsOf (b ∷ bs) = requestsIn b ++ requestsOf bs
+
 abbrev pub NoneRefused : ℕ → List ℕ → ℕ → List Lent → Type 0
 NoneRefused F ws top [] = Unit {0}
 NoneRefused F ws top (b ∷ bs) =
-    let r = batch F ws top (b .calls) (b .space) in (r .verdict .status ≡ 0) × NoneRefused F (r .words) (r .top) bs
+    let r = servedBy F ws top b in Accepted F ws top b × NoneRefused F (r .words) (r .top) bs
 
--- ---- COLLECT struck out of a list of calls, and its answers out of theirs
+abbrev pub served : ℕ → List ℕ → ℕ → List Lent → Served
+served F ws top [] = record { words = ws; top = top; answers = [] }
+served F ws top (b ∷ bs) =
+    let r = servedBy F ws top b in
+    let q = served F (r .words) (r .top) bs in
+    record { words = q .words; top = q .top; answers = r .answers ++ q .answers }
+
+-- ---- COLLECT struck out of a list of requests, and its answers out of theirs
 
 -- operation word 11, whatever the other words are
-abbrev pub isCollect : ℕ → Bool
-isCollect o = eqb o 11
+abbrev pub isCollect : Request → Bool
+isCollect (call o d a b) = eqb o 11
 
-abbrev pub strike : List ℕ → List ℕ
+abbrev pub strike : List Request → List Request
 strike [] = []
-strike (o ∷ []) = []
-strike (o ∷ d ∷ []) = []
-strike (o ∷ d ∷ a ∷ []) = []
-strike (o ∷ d ∷ a ∷ b ∷ cs) = cond (isCollect o) (strike cs) (o ∷ d ∷ a ∷ b ∷ strike cs)
+strike (q ∷ qs) = cond (isCollect q) (strike qs) (q ∷ strike qs)
 
-abbrev pub strikeAnswers : List ℕ → List ℕ → List ℕ
-strikeAnswers [] ans = []
-strikeAnswers (o ∷ []) ans = []
-strikeAnswers (o ∷ d ∷ []) ans = []
-strikeAnswers (o ∷ d ∷ a ∷ []) ans = []
-strikeAnswers (o ∷ d ∷ a ∷ b ∷ cs) ans =
-    cond (isCollect o) (strikeAnswers cs (drop 2 ans)) (getD ans 0 0 ∷ getD ans 1 0 ∷ strikeAnswers cs (drop 2 ans))
+abbrev pub strikeAnswers : List Request → List Verdict → List Verdict
+strikeAnswers [] vs = []
+strikeAnswers (q ∷ qs) [] = []
+strikeAnswers (q ∷ qs) (v ∷ vs) = cond (isCollect q) (strikeAnswers qs vs) (v ∷ strikeAnswers qs vs)
 
 -- ---- collections never show
 
-pub record Unshown (F : ℕ) (bs bs′ : List Lent) (q q′ : Ran) : Type 0 where
+pub record Unshown (F : ℕ) (bs bs′ : List Lent) (q q′ : Served) : Type 0 where
   -- every other answer, status and value, refusals for room included
-  pub answers : strikeAnswers (callsOf bs) (q .answers) ≡ strikeAnswers (callsOf bs′) (q′ .answers)
+  pub answers : strikeAnswers (requestsOf bs) (q .answers) ≡ strikeAnswers (requestsOf bs′) (q′ .answers)
   pub alike : Alike F (q .words) (q .top) (q′ .words) (q′ .top)
   -- one more collection is not refused, and gives equal words, `top` and live
   pub collects : collectIn F (q .words) (q .top) .verdict .status ≡ 0
@@ -113,4 +122,5 @@ CollectionsNeverShow =
     (F : ℕ) → 0 < F → (ws : List ℕ) (top : ℕ) (ws′ : List ℕ) (top′ : ℕ)
     → Sound F ws top → Sound F ws′ top′ → capacity ws ≡ capacity ws′
     → Alike F ws top ws′ top′ → (bs bs′ : List Lent) → NoneRefused F ws top bs → NoneRefused F ws′ top′ bs′
-    → strike (callsOf bs) ≡ strike (callsOf bs′) → Unshown F bs bs′ (served F ws top bs) (served F ws′ top′ bs′)
+    → strike (requestsOf bs) ≡ strike (requestsOf bs′)
+    → Unshown F bs bs′ (served F ws top bs) (served F ws′ top′ bs′)

@@ -3,10 +3,10 @@
 -- come back"). Assumes nothing.
 use mathlib.Core.Path.{_≡_}
 use mathlib.Core.Logic.{_⊎_, _≢_}
-use mathlib.Core.Bool.{Bool, true, cond}
+use mathlib.Core.Bool.{Bool, false, cond}
 use mathlib.Core.List.{List, [], _∷_, _++_}
-use Prim.Native.Nat.{ℕ, _+_, _-_, _*_, _/_, _≤_, _<_}
-use lib.Dec.{ltb, eqb}
+use Prim.Native.Nat.{ℕ, _+_, _-_, _*_, _≤_, _<_}
+use lib.Dec.{ltb}
 use lib.ListN.{length, replicate}
 use Rattle.words.specs.Cell.{firstWord, secondWord}
 use Rattle.meaning.specs.Expr.{Expr, symbol, terms}
@@ -14,31 +14,29 @@ use Rattle.meaning.specs.Sound.{capacity, Sound}
 use Rattle.meaning.specs.Meaning.{meaning}
 use Rattle.meaning.specs.Reach.{live}
 use Rattle.meaning.specs.Collected.{collected}
-use Rattle.meaning.specs.Check.{Done, done}
-use Rattle.meaning.specs.Call.{opAt, fault, step}
-use Rattle.meaning.specs.Effect.{Effect, does, callStatus, after, answer}
+use Rattle.meaning.specs.Check.{Verdict, Done, done}
+use Rattle.meaning.specs.Call.{opAt, fault, soughtBy, step}
+use Rattle.meaning.specs.Effect.{effect, liveForRoom, callStatus, after, answer}
 use Rattle.meaning.specs.Batch.{Outcome, batch}
+use Rattle.promises.specs.Requests.{Request, call, requested, requests, inWords}
 
--- what the call does, by the table of calls
-abbrev pub effect : ℕ → List ℕ → ℕ → ℕ → ℕ → ℕ → ℕ → Effect
-effect F ws top o d a b = does (opAt o) (meaning ws) (live F ws top) d a b
-
--- ---- room for the n new cells that it needs
+-- ---- room for the n new cells that the call needs
 
 -- there is none: F + live + n exceeds the capacity; live counts d's old expression too
-abbrev pub lacking : ℕ → List ℕ → ℕ → ℕ → Bool
-lacking F ws top n = ltb (capacity ws) (F + live F ws top + n)
+abbrev pub lacking : ℕ → List ℕ → ℕ → ℕ → ℕ → ℕ → ℕ → ℕ → Bool
+lacking F ws top o d a b n = ltb (capacity ws) (F + liveForRoom F ws top o d a b + n)
 
--- the store is collected first: by COLLECT, and where `top` + n exceeds the capacity
-abbrev pub collectsFirst : ℕ → List ℕ → ℕ → ℕ → Bool
-collectsFirst o ws top n = cond (eqb o 11) true (ltb (capacity ws) (top + n))
+-- The store in which the call acts, and its `top`: collected by a call that collects without need; else, where `top`
+-- + n exceeds the capacity, the store in which it seeks room, collected; else as it is.
+abbrev pub base : ℕ → List ℕ → ℕ → ℕ → ℕ → ℕ → ℕ → ℕ → List ℕ
+base F ws top o d a b n =
+    cond (effect F ws top o d a b .collects) (collected F ws top)
+    (cond (ltb (capacity ws) (top + n)) (collected F (soughtBy (opAt o) d a b ws) top) ws)
 
--- so this is the store in which the call acts, and its `top`
-abbrev pub base : ℕ → ℕ → List ℕ → ℕ → ℕ → List ℕ
-base F o ws top n = cond (collectsFirst o ws top n) (collected F ws top) ws
-
-abbrev pub baseTop : ℕ → ℕ → List ℕ → ℕ → ℕ → ℕ
-baseTop F o ws top n = cond (collectsFirst o ws top n) (F + live F ws top) top
+abbrev pub baseTop : ℕ → List ℕ → ℕ → ℕ → ℕ → ℕ → ℕ → ℕ → ℕ
+baseTop F ws top o d a b n =
+    cond (effect F ws top o d a b .collects) (F + live F ws top)
+    (cond (ltb (capacity ws) (top + n)) (F + liveForRoom F ws top o d a b) top)
 
 -- ---- one call
 
@@ -50,21 +48,24 @@ OnlyThere d t n ws v =
 -- r is what the call o d a b does in the store ws, with n the new cells that it needs
 pub record Called (F : ℕ) (ws : List ℕ) (top o d a b n : ℕ) (r : Done) : Type 0 where
   -- the first status that applies, of 10 to 16, else 0; the value and the registers' expressions by the effect
-  pub status : r .verdict .status ≡ callStatus F (meaning ws) (live F ws top) (lacking F ws top n) o d a b
+  pub status : r .verdict .status
+      ≡ callStatus (fault F o d a b) (effect F ws top o d a b) (lacking F ws top o d a b n)
   pub value : r .verdict .value ≡ answer (r .verdict .status) (effect F ws top o d a b)
   pub registers : (i : ℕ) → i < F
       → meaning (r .words) i ≡ after (r .verdict .status) (effect F ws top o d a b) (meaning ws) i
   -- a call whose words and operands are right is refused for room exactly when F + live + need exceeds the capacity
   pub noRoom : fault F o d a b ≡ 0 → effect F ws top o d a b .unfit ≡ 0
-      → (r .verdict .status ≡ 16 → capacity ws < F + live F ws top + n)
-      × (capacity ws < F + live F ws top + n → r .verdict .status ≡ 16)
+      → (r .verdict .status ≡ 16 → capacity ws < F + liveForRoom F ws top o d a b + n)
+      × (capacity ws < F + liveForRoom F ws top o d a b + n → r .verdict .status ≡ 16)
   -- done: new cells are laid from the `top` of the store in which it acts, and no other cell but d changes
-  pub doneTop : r .verdict .status ≡ 0 → r .top ≡ baseTop F o ws top n + n
-  pub doneWords : r .verdict .status ≡ 0 → OnlyThere d (baseTop F o ws top n) n (base F o ws top n) (r .words)
+  pub doneTop : r .verdict .status ≡ 0 → r .top ≡ baseTop F ws top o d a b n + n
+  pub doneWords : r .verdict .status ≡ 0
+      → OnlyThere d (baseTop F ws top o d a b n) n (base F ws top o d a b n) (r .words)
   -- LENGTH, FIRST, LIVE and COLLECT change no register's words
-  pub asked : r .verdict .status ≡ 0 → 8 ≤ o → r .words ≡ base F o ws top n
+  pub asked : r .verdict .status ≡ 0 → 8 ≤ o → r .words ≡ base F ws top o d a b n
   -- a call without need never collects, COLLECT apart
-  pub noNeed : r .verdict .status ≡ 0 → o ≢ 11 → n ≡ 0 → (r .top ≡ top) × OnlyThere d top 0 ws (r .words)
+  pub noNeed : r .verdict .status ≡ 0 → effect F ws top o d a b .collects ≡ false → n ≡ 0
+      → (r .top ≡ top) × OnlyThere d top 0 ws (r .words)
   -- 16 leaves the store collected, 10 to 15 leave it as it was
   pub full : r .verdict .status ≡ 16 → (r .words ≡ collected F ws top) × (r .top ≡ F + live F ws top)
   pub refused : r .verdict .status ≢ 0 → r .verdict .status ≢ 16 → (r .words ≡ ws) × (r .top ≡ top)
@@ -87,19 +88,23 @@ pub record Asked (F : ℕ) (ws : List ℕ) (top : ℕ) : Type 0 where
 abbrev pub CallsAnswer : Type 0
 CallsAnswer = (F : ℕ) → 0 < F → (ws : List ℕ) (top : ℕ) → Sound F ws top → Asked F ws top
 
--- ---- a batch answers call by call: a status and a value each, in order; words after those are zero
+-- ---- a batch answers request by request: a status and a value each, in order; words after those are zero
 
-pub data Answered (F : ℕ) : List ℕ → ℕ → List ℕ → List ℕ → List ℕ → ℕ → Type 0 where
+-- r is what the request does in the store ws
+abbrev pub Did : ℕ → List ℕ → ℕ → Request → Done → Type 0
+Did F ws top (call o d a b) r = Called F ws top o d a b (effect F ws top o d a b .need) r
+
+pub data Answered (F : ℕ) : List ℕ → ℕ → List Request → List Verdict → List ℕ → ℕ → Type 0 where
   none : {ws : List ℕ} {top : ℕ} → Answered F ws top [] [] ws top
-  next : {ws : List ℕ} {top o d a b : ℕ} {cs ans v : List ℕ} {t : ℕ} (r : Done) → r ≡ step F ws top o d a b
-      → Called F ws top o d a b (effect F ws top o d a b .need) r → Answered F (r .words) (r .top) cs ans v t
-      → Answered F ws top (o ∷ d ∷ a ∷ b ∷ cs) (r .verdict .status ∷ r .verdict .value ∷ ans) v t
+  next : {ws : List ℕ} {top : ℕ} {q : Request} {qs : List Request} {said : List Verdict} {v : List ℕ} {t : ℕ} (r : Done)
+      → r ≡ requested F ws top q → Did F ws top q r → Answered F (r .words) (r .top) qs said v t
+      → Answered F ws top (q ∷ qs) (r .verdict ∷ said) v t
 
 pub record BatchRun (F : ℕ) (ws : List ℕ) (top : ℕ) (calls out : List ℕ) (r : Outcome) : Type 0 where
-  pub said : List ℕ
-  pub answered : Answered F ws top calls said (r .words) (r .top)
-  pub many : length said ≡ 2 * (length calls / 4)
-  pub answers : r .answers ≡ said ++ replicate (length out - length said) 0
+  pub said : List Verdict
+  pub answered : Answered F ws top (requests calls) said (r .words) (r .top)
+  pub many : length calls ≡ 4 * length said
+  pub answers : r .answers ≡ inWords said ++ replicate (length out - length (inWords said)) 0
 
 abbrev pub BatchesRun : Type 0
 BatchesRun =

@@ -1,5 +1,6 @@
 -- The claims that a customer reads, over the definitions of `meaning` alone; proofs/Final.antt proves each. In order:
 --   Table       demand 1: every answer is from its table, and a refusal leaves everything as it was lent
+--   Requests    what may be asked of a store, and what is answered
 --   Collecting  demand 2: what a collection keeps, and where
 --   Calls       demand 2: what each call does, and a batch call by call
 --   Alike       demand 3: collections never show
@@ -7,6 +8,7 @@
 -- Everything is over the first heap cell F, which is more than 0.
 -- Assumes nothing.
 pub mod Table
+pub mod Requests
 pub mod Collecting
 pub mod Calls
 pub mod Alike

@@ -7,12 +7,11 @@ use Prim.Native.Nat.{ℕ, zero, suc, _+_, _-_, _*_, _%_, _≤_, _<_}
 use native.Mathlib.Numerals.{add-one}
 use native.Mathlib.Omega.{arith}
 use lib.Dec.{ltb, leb, eqb}
-use lib.ListN.{length, take, replicate}
+use lib.ListN.{length, set, take, replicate, length-set}
 use lib.Seq.{take-suc-set}
 use borrow.Author.Tests.{leb-true, ltb-false, eqb-true}
-use Rattle.words.specs.Cell.{putCell, putFirst}
+use Rattle.words.specs.Cell.{putCell}
 use Rattle.words.specs.Second.{bracketTo}
-use Rattle.words.proofs.Cells.{putFirst-length}
 use Rattle.meaning.specs.Limits.{limit}
 use Rattle.meaning.specs.Sound.{capacity}
 use Rattle.meaning.specs.Check.{done, refused, only, lengthTest, hollows, fresh, freshIn}
@@ -40,15 +39,15 @@ hollows-more zero = refl
 hollows-more (suc n) = ap (λ (l : List ℕ). 0 ∷ bracketTo 0 ∷ l) (hollows-more n)
 
 module _ (ws : List ℕ) (c : ℕ) (h : 2 * c + 1 < length ws) (e : take (2 * c) ws ≡ hollows c) where
-  one-word : take (2 * c + 1) (putFirst ws c 0) ≡ hollows c ++ (0 ∷ [])
+  one-word : take (2 * c + 1) (set ws (2 * c) 0) ≡ hollows c ++ (0 ∷ [])
   one-word =
-      ap (λ (n : ℕ). take n (putFirst ws c 0)) (add-one (2 * c))
+      ap (λ (n : ℕ). take n (set ws (2 * c) 0)) (add-one (2 * c))
       ∙ (take-suc-set ws (2 * c) 0 (omega arith) ∙ ap (λ (l : List ℕ). l ++ (0 ∷ [])) e)
 
   pub one-more : take (2 * (c + 1)) (putCell ws c 0 (bracketTo 0)) ≡ hollows (c + 1)
   one-more =
       let n : 2 * (c + 1) ≡ suc (2 * c + 1) = omega arith in
-      let both = take-suc-set (putFirst ws c 0) (2 * c + 1) (bracketTo 0) (omega (arith, putFirst-length ws c 0)) in
+      let both = take-suc-set (set ws (2 * c) 0) (2 * c + 1) (bracketTo 0) (omega (arith, length-set ws (2 * c) 0)) in
       ap (λ (m : ℕ). take m (putCell ws c 0 (bracketTo 0))) n
       ∙ (both ∙ ap (λ (l : List ℕ). l ++ (bracketTo 0 ∷ [])) one-word)
       ∙ (append-assoc (hollows c) (0 ∷ []) (bracketTo 0 ∷ []) ∙ hollows-more c ∙ ap hollows (sym (add-one c)))

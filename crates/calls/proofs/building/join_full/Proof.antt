@@ -1,9 +1,11 @@
 -- `calls::building::join_full` meets its contract. Assumes nothing.
 use mathlib.Core.Path.{sym, _∙_}
-use mathlib.Core.List.{[], _∷_}
 use native.Mathlib.Omega.{arith}
 use borrow.Author.Needs.{needs}
+use Rattle.meaning.specs.Limits.{firstCell}
 use Rattle.meaning.specs.Call.{newRun}
+use Rattle.meaning.proofs.Plans.{sought-meaning}
+use Rattle.store.proofs.Sounds.{firstCell-pos}
 use Rattle.calls.proofs.Registers.{run-below}
 use Rattle.calls.proofs.Rooms.{room-roomy, room-does, room-refuses, room-size}
 use Rattle.calls.proofs.building.join_full.Statement.{statement}
@@ -14,7 +16,7 @@ make-room-requires c κs =
     let s = c .before .before in
     let x = run-below (s .args .a) (s .pre .0 .0) (s .pre .0 .2) in
     let y = run-below (s .args .b) (s .pre .0 .0) (s .pre .0 .3) in
-    (s .pre .0 .0, omega (arith, s .pre .0 .0 .high, s .pre .1 .0))
+    (s .pre .0 .0, omega (arith, s .pre .0 .0 .high, s .pre .1 .1 .0), s .pre .0 .1)
 
 lay-run-requires : tie.Need-lay-run-requires
 lay-run-requires c κs =
@@ -23,16 +25,14 @@ lay-run-requires c κs =
     let m = make-room .make-room .ensures in
     let e = c .before .before .t .given .1 in
     let y = room-roomy m e in
-    let za = room-size m e (s .pre .0 .0) (s .args .a) (s .pre .0 .2) in
-    let zb = room-size m e (s .pre .0 .0) (s .args .b) (s .pre .0 .3) in (
-      (y .0, omega (arith, y .1, s .pre .1 .0)),
-      (
-        s .pre .0 .1,
-        s .pre .0 .2,
-        s .pre .0 .3,
-        omega
-            (arith, s .pre .1 .1),
-      ),
+    let stays = sought-meaning firstCell (s .args .ws .now) (s .args .top) firstCell-pos (s .pre .0 .0) (s .args .kept)
+    (s .args .d) (λ k. s .pre .0 .1) in
+    let za = room-size m e (s .pre .0 .0) (s .args .a) (s .pre .0 .2)
+    (stays (s .args .a) (s .pre .0 .2) (s .pre .1 .0 .0)) in
+    let zb = room-size m e (s .pre .0 .0) (s .args .b) (s .pre .0 .3)
+    (stays (s .args .b) (s .pre .0 .3) (s .pre .1 .0 .1)) in (
+      (y .0, omega (arith, y .1, s .pre .1 .1 .0)),
+      (s .pre .0 .1, s .pre .0 .2, s .pre .0 .3, omega (arith, s .pre .1 .1 .1)),
     )
 
 returns : tie.Need-returns
@@ -41,7 +41,7 @@ returns c =
     let make-room = t .before .before .before .before in
     let s = make-room .before .before .before in
     c .before .before .lay-run .ensures
-    ∙ sym (room-does (make-room .make-room .ensures) (t .t .given .1) (s .args .d) (s .args .a ∷ s .args .b ∷ [])
+    ∙ sym (room-does (make-room .make-room .ensures) (t .t .given .1)
     (newRun (s .args .d) (s .args .a) (s .args .b)))
 
 returns-2 : tie.Need-returns-2
@@ -49,8 +49,8 @@ returns-2 c =
     let make-room = c .before .before .before .before .before .before in
     let s = make-room .before .before .before in
     c .refused .ensures _
-    ∙ sym (room-refuses (make-room .make-room .ensures) (c .before .before .t2 .given .1) (s .args .d)
-    (s .args .a ∷ s .args .b ∷ []) (newRun (s .args .d) (s .args .a) (s .args .b)))
+    ∙ sym (room-refuses (make-room .make-room .ensures) (c .before .before .t2 .given .1)
+    (newRun (s .args .d) (s .args .a) (s .args .b)))
 
 pub join-full-spec : {M : Type 1} → statement M
 join-full-spec =

@@ -1,6 +1,5 @@
 -- `calls::building::symbol` meets its contract. Assumes nothing.
 use mathlib.Core.Path.{sym, _∙_}
-use mathlib.Core.List.{[]}
 use borrow.Author.Needs.{needs}
 use Rattle.meaning.specs.Call.{newSymbol}
 use Rattle.calls.proofs.Rooms.{room-roomy, room-does, room-refuses}
@@ -19,7 +18,7 @@ returns c =
     let make-room = t .before .before .before .before in
     let s = make-room .before .before .before in
     c .before .before .lay-symbol .ensures
-    ∙ sym (room-does (make-room .make-room .ensures) (t .t .given .1) (s .args .d) []
+    ∙ sym (room-does (make-room .make-room .ensures) (t .t .given .1)
     (newSymbol (s .args .d) (s .args .a)))
 
 returns-2 : tie.Need-returns-2
@@ -27,7 +26,7 @@ returns-2 c =
     let make-room = c .before .before .before .before .before .before in
     let s = make-room .before .before .before in
     c .refused .ensures _
-    ∙ sym (room-refuses (make-room .make-room .ensures) (c .before .before .t2 .given .1) (s .args .d) []
+    ∙ sym (room-refuses (make-room .make-room .ensures) (c .before .before .t2 .given .1)
     (newSymbol (s .args .d) (s .args .a)))
 
 pub symbol-spec : {M : Type 1} → statement M

@@ -1,6 +1,5 @@
 -- `calls::step::done` meets its contract. Assumes nothing.
 use mathlib.Core.Path.{refl}
-use Rattle.meaning.specs.Check.{done}
 use Rattle.calls.proofs.step.done.Statement.{statement}
 use Rattle.calls.proofs.step.done.Tie as tie
 

@@ -1,13 +1,13 @@
 -- `calls::step::perform` meets its contract: an arm for each operation, whose words the table of uses has shown to be
 -- registers. Assumes nothing.
-use mathlib.Core.Path.{_≡_, refl}
+use mathlib.Core.Path.{_≡_, refl, sym, _∙_}
 use Prim.Native.Nat.{ℕ, _<_}
 use borrow.Author.Needs.{needs}
 use Rattle.meaning.specs.Limits.{firstCell}
 use Rattle.meaning.specs.Sound.{Sound}
-use Rattle.meaning.specs.Call.{uses, opAt, ops, planOf, carry, perform}
+use Rattle.meaning.specs.Call.{SYMBOL, WRAP, JOIN, uses, useD, useA, useB, opAt, ops, planOf, carry, perform}
 use Rattle.meaning.proofs.Again.{live-kept}
-use Rattle.meaning.proofs.Uses.{useD, useA, useB}
+use Rattle.meaning.proofs.Uses.{keeps-operand, keeps-a, keeps-b}
 use Rattle.store.proofs.Sounds.{firstCell-pos}
 use Rattle.calls.proofs.Performing.{d-register, a-register, b-register, collects}
 use Rattle.calls.proofs.step.perform.Statement.{statement}
@@ -34,6 +34,20 @@ module _ (s : tie.Start) {k : ℕ} (e : s .args .o ≡ k) where
       → Sound firstCell (s .args .ws .now) (s .args .top) × (s .args .d < firstCell) × (s .args .a < firstCell)
   takes u v = (s .pre .0, d u, a v)
 
+-- JOIN keeps d where it is an operand register
+join-requires : tie.Need-join-requires
+unfolding uses opAt ops
+join-requires c κs =
+    let s = c .before .before .before .before in
+    let e = c .before .before .match .keys5 in
+    let q = c .is-operand3 .ensures ∙ sym (keeps-operand JOIN (s .args .d) (s .args .a) (s .args .b) refl) in (
+      (s .pre .0, d s e refl, a s e refl, b s e refl),
+      (
+        λ h. q ∙ keeps-a JOIN (s .args .d) (s .args .a) (s .args .b) refl h,
+        λ h. q ∙ keeps-b JOIN (s .args .d) (s .args .a) (s .args .b) refl h,
+      ),
+    )
+
 -- what is left of the match is COLLECT
 last : tie.Need-returns-12
 unfolding opAt ops planOf carry perform
@@ -50,12 +64,11 @@ perform-spec =
     (tie.spec
     (λ c κs. sets (c .before .before .before) (c .before .match .keys1) refl)
     (λ c κs. takes (c .before .before .before) (c .before .match .keys2) refl refl)
-    (λ c κs. sets (c .before .before .before) (c .before .match .keys3) refl)
-    (λ c κs. takes (c .before .before .before) (c .before .match .keys4) refl refl)
-    (λ c κs.
-    let s = c .before .before .before in
-    let e = c .before .match .keys5 in
-    (s .pre .0, d s e refl, a s e refl, b s e refl))
+    (λ c κs. search needs)
+    (λ c κs. sets (c .before .before .before .before) (c .before .before .match .keys3) refl)
+    (λ c κs. search needs)
+    (λ c κs. takes (c .before .before .before .before) (c .before .before .match .keys4) refl refl)
+    (λ c κs. search needs) join-requires
     (λ c κs. takes (c .before .before .before) (c .before .match .keys6) refl refl)
     (λ c κs. takes (c .before .before .before) (c .before .match .keys7) refl refl)
     (λ c κs. takes (c .before .before .before) (c .before .match .keys8) refl refl)
@@ -64,9 +77,21 @@ perform-spec =
     (λ c κs. search needs) (λ c κs. search needs)
     (λ c. search needs) (λ c. rw (c .before .before .before .before .match .keys1) (c .before .before .clear .ensures))
     (λ c. search needs) (λ c. rw (c .before .before .before .before .match .keys2) (c .before .before .share .ensures))
-    (λ c. search needs) (λ c. rw (c .before .before .before .before .match .keys3) (c .before .before .symbol .ensures))
-    (λ c. search needs) (λ c. rw (c .before .before .before .before .match .keys4) (c .before .before .wrap .ensures))
-    (λ c. search needs) (λ c. rw (c .before .before .before .before .match .keys5) (c .before .before .join .ensures))
+    (λ c. search needs)
+    (λ c. let match = c .before .before .before .before .before in
+    let s = match .before .before in
+    let k = keeps-operand SYMBOL (s .args .d) (s .args .a) (s .args .b) refl in
+    rw (match .match .keys3, k, ← c .before .before .before .is-operand .ensures) (c .before .before .symbol .ensures))
+    (λ c. search needs)
+    (λ c. let match = c .before .before .before .before .before in
+    let s = match .before .before in
+    let k = keeps-operand WRAP (s .args .d) (s .args .a) (s .args .b) refl in
+    rw (match .match .keys4, k, ← c .before .before .before .is-operand2 .ensures) (c .before .before .wrap .ensures))
+    (λ c. search needs)
+    (λ c. let match = c .before .before .before .before .before in
+    let s = match .before .before in
+    let k = keeps-operand JOIN (s .args .d) (s .args .a) (s .args .b) refl in
+    rw (match .match .keys5, k, ← c .before .before .before .is-operand3 .ensures) (c .before .before .join .ensures))
     (λ c. search needs) (λ c. rw (c .before .before .before .before .match .keys6) (c .before .before .head .ensures))
     (λ c. search needs) (λ c. rw (c .before .before .before .before .match .keys7) (c .before .before .rest .ensures))
     (λ c. search needs)

@@ -1,6 +1,5 @@
 -- `calls::step::refused` meets its contract. Assumes nothing.
 use mathlib.Core.Path.{refl}
-use Rattle.meaning.specs.Check.{refused, only}
 use Rattle.calls.proofs.step.refused.Statement.{statement}
 use Rattle.calls.proofs.step.refused.Tie as tie
 

@@ -1,0 +1,32 @@
+-- What may be asked of a store, and what is answered: demand 2 speaks of each request, demand 3 of lists of them.
+-- Assumes nothing.
+use mathlib.Core.List.{List, [], _∷_}
+use Prim.Native.Nat.{ℕ}
+use Rattle.meaning.specs.Check.{Verdict, Done}
+use Rattle.meaning.specs.Call.{step}
+
+-- a call: operation, d, a, b
+pub data Request : Type 0 where
+  call : ℕ → ℕ → ℕ → ℕ → Request
+
+-- what a request does in a store with its `top`
+abbrev pub requested : ℕ → List ℕ → ℕ → Request → Done
+requested F ws top (call o d a b) = step F ws top o d a b
+
+-- the requests of a call list: a call is four words
+abbrev pub requests : List ℕ → List Request
+requests [] = []
+requests (o ∷ []) = []
+requests (o ∷ d ∷ []) = []
+requests (o ∷ d ∷ a ∷ []) = []
+requests (o ∷ d ∷ a ∷ b ∷ cs) = call o d a b ∷ requests cs
+
+-- answers as they are written into the answer space, a status and a value each; and as they are read there
+abbrev pub inWords : List Verdict → List ℕ
+inWords [] = []
+inWords (v ∷ vs) = v .status ∷ v .value ∷ inWords vs
+
+abbrev pub verdicts : List ℕ → List Verdict
+verdicts [] = []
+verdicts (s ∷ []) = []
+verdicts (s ∷ v ∷ ws) = record { status = s; value = v } ∷ verdicts ws
