@@ -5,7 +5,6 @@ use mathlib.Core.List.{List}
 use Prim.Native.Nat.{ℕ}
 use Rattle.meaning.specs.Check.{Done, Span}
 use Rattle.meaning.specs.Batch.{Outcome}
-use Rattle.store.specs.declared.Extent.{Extent}
 use Rattle.capi.specs.Answers.{answer, verdictIs, doneIs, outcomeIs}
 use Rattle.capi.specs.Unique.{OneCheck, OneFresh, OneCollect, OneRun, OneLook}
 use Rattle.capi.specs.declared.Answer.{Answer}

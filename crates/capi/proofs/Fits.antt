@@ -9,7 +9,7 @@ use lib.Dec.{leb}
 use lib.ListN.{length}
 use Rattle.meaning.specs.Limits.{limit}
 use Rattle.meaning.specs.Sound.{Sound}
-use Rattle.meaning.specs.Check.{Verdict, only, Done, done, refused, check, onZero, ifSound, collectIn}
+use Rattle.meaning.specs.Check.{Verdict, only, Done, check, onZero, ifSound, collectIn}
 use Rattle.meaning.specs.Batch.{Outcome, callsTest, ended, runs, asLent, batchOf, batch}
 use Rattle.meaning.proofs.Checking.{Checks, length-bad, top-bad, cell-bad, sound, checks, check-sound}
 use Rattle.meaning.proofs.Reaching.{live-le}

@@ -6,7 +6,7 @@ use native.Mathlib.Omega.{arith}
 use Rattle.meaning.specs.Sound.{Sound}
 use Rattle.meaning.specs.Reach.{live}
 use Rattle.meaning.specs.Collected.{collected, collectedTop}
-use Rattle.meaning.specs.Check.{Verdict, only, done, refused, check, collectIn}
+use Rattle.meaning.specs.Check.{Verdict, done, refused, check, collectIn}
 use Rattle.store.specs.Answers.{verdictOf}
 use Rattle.store.specs.declared.Checked.{Checked}
 use Rattle.store.specs.declared.Checked.the-variants as checked

@@ -1,15 +1,13 @@
--- The sweep and the pass up, one after the other: what they leave of a sound store is the collected store, word for word;
--- and what the sweep alone leaves, where it packs nothing, is the store. In order:
---   final-words   a cell's words at the end, both ends mapped
+-- The sweep and the pass up, one after the other: what they leave of a sound store is the collected store, word for
+-- word. In order:
+--   gone, top-is  the number of unreached cells, and the new `top`
 --   lowerable, settleable  what the pass up asks for
 --   compacted     the collected store;  not-lowered  where no cell is unreached
---   restored      the store itself
 -- Assumes nothing.
 use mathlib.Core.Path.{_≡_, refl, sym, _∙_, ap, subst}
-use mathlib.Core.Bool.{Bool, true, false, cond, not, _||_, false≢true}
+use mathlib.Core.Bool.{Bool, true, false, not, _||_, false≢true}
 use mathlib.Core.List.{List}
 use Prim.Native.Nat.{ℕ, _+_, _-_, _*_, _/_, _^_, _≤_, _<_}
-use native.Mathlib.Nat.{sub-zero}
 use native.Mathlib.Omega.{arith}
 use native.Mathlib.Decide.{decLt}
 use lib.Dec.{ltb}
@@ -17,9 +15,7 @@ use lib.ListN.{length, getD}
 use borrow.Author.Tests.{lt-ltb, le-ltb, ne-eqb}
 use Rattle.words.specs.Cell.{firstWord, secondWord}
 use Rattle.words.specs.Second.{Second, decode, plain}
-use Rattle.words.proofs.Plain.{decode-zero, plain-word, plain-code}
-use Rattle.words.proofs.Laws.{decode-inj}
-use Rattle.words.proofs.Cells.{words-ext}
+use Rattle.words.proofs.Plain.{decode-zero}
 use Rattle.meaning.specs.Limits.{firstCell}
 use Rattle.meaning.specs.Sound as S
 use Rattle.meaning.specs.Reach.{reached, live}
@@ -31,48 +27,12 @@ use Rattle.collect.specs.Chain.{Heap, full, holder, Proper, place, place
 use Rattle.collect.specs.Step.{lowered}
 use Rattle.collect.specs.Passes.{fullWord, Sweeping, Sweeps, Layable, Lowerable, Lowers, Settleable}
 use Rattle.collect.specs.Passes.{Settles, Cleared}
-use Rattle.meaning.proofs.Fields.{Fields, cell-fields, ends-in, second-lt}
-use Rattle.collect.proofs.Order.{holder-br, holder-full}
+use Rattle.meaning.proofs.Fields.{Fields, cell-fields, ends-in}
+use Rattle.collect.proofs.Order.{holder-full}
 use Rattle.collect.proofs.Places.{new-bound, place-own, place-packed, place-up}
-use Rattle.collect.proofs.Swept.{swept-place, swept-free, swept-kept, place-onto}
-use Rattle.collect.proofs.Heaps.{heapOf, live-of, proper, old-cell, begun}
-
--- ---- a cell's words
-
--- its second word's fields
-abbrev fieldsOf : Cell → Second
-fieldsOf c = record { br = c .br; used = c .used; lc = c .l .tag; rc = c .r .tag; ri = c .r .num }
-
--- the words of a cell without mark and chains
-module _ (v : List ℕ) (d x n : ℕ) (fits : secondWord v d < 2 ^ 32) where
-  bracket-is : cell v d ≡ mk true false (val x) (val n) → (firstWord v d ≡ x) × (secondWord v d ≡ S.snd (S.ends x n))
-  bracket-is e = (ap (λ (c : Cell). c .l .num) e, plain-word (secondWord v d) n fits (ap fieldsOf e))
-
-  code-is : cell v d ≡ mk false false (val x) (val n) → (firstWord v d ≡ x) × (secondWord v d ≡ n)
-  code-is e = (ap (λ (c : Cell). c .l .num) e, plain-code (secondWord v d) n fits (ap fieldsOf e))
-
--- a placed cell lowered by d, of a holder and of any other cell
-module _ (g : Heap) (d c : ℕ) (k : (ltb c (g .F) || g .live c) ≡ true) where
-  lowered-holder : holder g c ≡ true → 0 < place g (g .ri c)
-      → lowered d (placedCell g c) ≡ mk (g .br c) false (val (place g (g .li c) - d)) (val (place g (g .ri c) - d))
-  unfolding lowered placedCell
-  lowered-holder h z = rw (h, holder-br g c h, ne-eqb (place g (g .ri c)) 0 (λ q. omega (arith, q)))
-
-  lowered-other : holder g c ≡ false → lowered d (placedCell g c) ≡ mk (g .br c) false (val (g .li c)) (val (g .ri c))
-  unfolding lowered placedCell
-  lowered-other h = rw (h, sym (holder-full g c k) ∙ h)
-
-  -- nothing is lower by 0
-  lowered-zero : lowered 0 (placedCell g c) ≡ placedCell g c
-  unfolding lowered placedCell
-  lowered-zero =
-      let l : ℕ = placedCell g c .l .num in
-      let r : ℕ = placedCell g c .r .num in
-      λ i. mk (g .br c) false (val (same (full (g .br c) r) l i)) (val (same (full (g .br c) r) r i))
-    where
-      same : (b : Bool) (x : ℕ) → cond b (x - 0) x ≡ x
-      same true x = sub-zero x
-      same false x = refl
+use Rattle.collect.proofs.Swept.{swept-place, swept-free, place-onto}
+use Rattle.collect.proofs.Lowered.{bracket-is, code-is, lowered-holder, lowered-other, lowered-zero}
+use Rattle.collect.proofs.Heaps.{heapOf, live-of, proper, begun}
 
 -- ---- packed, then lowered
 
@@ -271,7 +231,8 @@ module _ (ws : List ℕ) (top : ℕ) (s : S.Sound firstCell ws top) where
                 (t₂ .rest c (λ y. omega arith) ∙ free-cell c z lt))
 
     -- where no cell is unreached, the sweep has done it all
-    pub not-lowered : dead ≡ 0 → length s₁ ≡ length ws → ((i : ℕ) → getD s₁ i 0 < 2 ^ 32) → s₁ ≡ collected firstCell ws top
+    pub not-lowered : dead ≡ 0 → length s₁ ≡ length ws → ((i : ℕ) → getD s₁ i 0 < 2 ^ 32)
+        → s₁ ≡ collected firstCell ws top
     not-lowered none len fits = is-compacted s₁ len fits regs heap free
       where
         same : (c : ℕ) → Kept c → placedCell h c ≡ lowered dead (placedCell h c)
@@ -289,43 +250,3 @@ module _ (ws : List ℕ) (top : ℕ) (s : S.Sound firstCell ws top) where
 
         free : (c : ℕ) → new top ≤ c → c < length ws / 2 → (firstWord s₁ c ≡ 0) × (secondWord s₁ c ≡ 0)
         free c low lt = code-is s₁ c 0 0 (fits (2 * c + 1)) (free-cell c (omega (arith, gone)) lt)
-
--- ---- not packed
-
-module _ (ws : List ℕ) (top : ℕ) (s : S.Sound firstCell ws top) (s₁ : List ℕ) (dead : ℕ)
-    (w : Sweeps ws s₁ top false dead) where
-  abbrev some : 0 < firstCell
-  some = omega arith
-
-  abbrev k : Heap
-  k = heapOf firstCell ws top false
-
-  pub live-is : top - firstCell - dead ≡ live firstCell ws top
-  unfolding collectedTop
-  live-is =
-      omega (
-        arith,
-        w k (begun firstCell ws top false some s refl) .1,
-        new-last firstCell ws top some s,
-      )
-
-  pub live-low : dead ≤ top - firstCell
-  unfolding collectedTop
-  live-low =
-      omega (
-        arith,
-        w k (begun firstCell ws top false some s refl) .1,
-        new-last firstCell ws top some s,
-      )
-
-  pub restored : length s₁ ≡ length ws → ((i : ℕ) → getD s₁ i 0 < 2 ^ 32) → s₁ ≡ ws
-  restored len fits =
-      words-ext s₁ ws len (omega (arith, s .even)) (λ c lt. ap (λ (x : Cell). x .l .num) (same c))
-      (λ c lt. decode-inj (secondWord s₁ c) (secondWord ws c) (fits (2 * c + 1)) (second-lt firstCell ws top some s c)
-      (ap fieldsOf (same c)))
-    where
-      same : (c : ℕ) → cell s₁ c ≡ cell ws c
-      same c =
-          swept-kept k (proper firstCell ws top false some s) (cell s₁)
-          (w k (begun firstCell ws top false some s refl) .0 .at) refl c
-          ∙ sym (old-cell firstCell ws top false some s c)

@@ -2,7 +2,7 @@
 use mathlib.Core.Path.{_≡_, refl, sym, ap, _∙_}
 use mathlib.Core.List.{List}
 use Prim.Native.Nat.{ℕ, zero, suc}
-use Rattle.meaning.specs.Check.{Done, only, done, refused}
+use Rattle.meaning.specs.Check.{Done}
 use Rattle.collect.specs.Answers.{collectedIn}
 use Rattle.collect.specs.Unique.{OneCollect}
 use Rattle.collect.specs.declared.Collected.{Collected}

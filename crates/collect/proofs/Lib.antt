@@ -3,12 +3,16 @@
 --   Order      the order of the sweep
 --   Places     where it puts the cells
 --   Spots      the cells' fields, and where they stand
+--   Mending    when a holder is mended
 --   Undoing    the chain of a cell undone
 --   Turning    its turn
+--   Telling    what a chain tells
 --   Swept      the store after all turns
 --   Heaps      a sound store as what the sweep starts from
 --   Puts       cells after their words are put
+--   Lowered    a cell's words, and a placed cell lowered
 --   Compacted  the passes one after the other, and the collected words
+--   Restored   the sweep that packs nothing
 --   Alone      collecting alone, by the answer of the check
 --   Final      collecting's statement leaves no second outcome
 -- Assumes nothing.
@@ -16,11 +20,15 @@ pub mod Counting
 pub mod Order
 pub mod Places
 pub mod Spots
+pub mod Mending
 pub mod Undoing
 pub mod Turning
+pub mod Telling
 pub mod Swept
 pub mod Heaps
 pub mod Puts
+pub mod Lowered
 pub mod Compacted
+pub mod Restored
 pub mod Alone
 pub mod Final

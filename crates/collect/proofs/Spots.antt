@@ -16,7 +16,7 @@ use Rattle.collect.specs.Cells.{Link, val, ptr}
 use Rattle.collect.specs.Chain.{Heap, holder, Proper, pos, turn, place, last, heldL, heldR, sweepL, sweepR}
 use Rattle.collect.specs.Chain.{spot, Stands}
 use Rattle.collect.proofs.Counting.{both-true}
-use Rattle.collect.proofs.Order.{pos-reg, pos-heap, pos-free, turn-pos}
+use Rattle.collect.proofs.Order.{pos-heap, turn-pos}
 use Rattle.collect.proofs.Places.{place-own, place-up, place-less}
 
 -- the cell at place x in the order is a holder of m

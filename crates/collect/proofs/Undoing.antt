@@ -1,75 +1,29 @@
--- The chain of m undone, in its turn. `unlink-hit` is the step, `chain-head` says where it is taken, `chain-end` when the
--- chain is gone, `unlink-none` that a cell without holders has none. With the cells goes what the sweep knows of them.
+-- The chain of m undone, in its turn; with the cells goes what the sweep knows of them. In order:
+--   Undone       the cells and what is known, the chain undone down to a place in the order
+--   chain-head   where it leads on, the next holder;  chain-end  where it does not, the chain is gone
+--   unlink-none  a cell without holders has no chain
+--   unlink-apart, unlink-low, unlink-span, unlink-first  what is known of the next holder
+--   unlink-hit   it is taken off
 -- Assumes nothing.
 use mathlib.Core.Path.{_≡_, refl, sym, _∙_, ap, subst}
-use mathlib.Core.Logic.{_≢_, _⊎_, inl, inr}
-use mathlib.Core.Bool.{Bool, true, false, cond, _&&_, true≢false}
+use mathlib.Core.Logic.{_≢_}
+use mathlib.Core.Bool.{Bool, true, false, true≢false}
 use Prim.Native.Nat.{ℕ, zero, suc, _-_, _≤_, _<_, min}
 use native.Mathlib.Omega.{arith}
 use native.Mathlib.Decide.{decLt, ℕ-discrete}
-use lib.Dec.{eqb, leb}
-use borrow.Author.Tests.{eqb-true, eq-eqb, le-ltb, lt-leb, le-leb}
-use Rattle.collect.specs.Cells.{Cell, val, ptr}
-use Rattle.collect.specs.Chain.{Heap, holder, Proper, pos, turn, place, span, last, mended, heldL, heldR}
+use lib.Dec.{eqb}
+use borrow.Author.Tests.{eqb-true, eq-eqb}
+use Rattle.collect.specs.Cells.{Cell, val}
+use Rattle.collect.specs.Chain.{Heap, holder, Proper, pos, turn, place, span, last, mended}
 use Rattle.collect.specs.Chain.{sweepL, sweepCell, oldCell, spot, Stands, SweptTo, Known}
 use Rattle.collect.specs.Step.{Unlinked}
-use Rattle.collect.proofs.Counting.{both-true, leb-suc}
+use Rattle.collect.proofs.Counting.{both-true}
 use Rattle.collect.proofs.Order.{turn-pos, pos-turn, pos-other, pos-holder, holder-live, ri-other, ri-live}
 use Rattle.collect.proofs.Places.{place-own, place-up, place-run}
-use Rattle.collect.proofs.Spots.{holds, last-hit, last-miss, ahead-r, next-l, later-l, past-l, past-r}
+use Rattle.collect.proofs.Spots.{holds, last-miss, ahead-r, next-l, later-l, past-l, past-r}
 use Rattle.collect.proofs.Spots.{other-l, other-r, spot-ahead, spot-past, spot-other}
-
--- ---- a mended holder
-
-module _ (g : Heap) (j : ℕ) where
-  mended-same : (x c : ℕ) → pos g c ≢ x → mended g j (suc x) c ≡ mended g j x c
-  unfolding mended
-  mended-same x c n = rw (leb-suc (pos g c) x n)
-
-  -- only the holders of the cell whose turn it is are mended
-  mended-off : (x c : ℕ) → pos g (g .ri c) ≢ j → mended g j (suc x) c ≡ mended g j x c
-  unfolding mended
-  mended-off x c n = go (leb (suc x) (pos g c)) (leb x (pos g c))
-    where
-      go : (a b : Bool) → cond a (leb (pos g (g .ri c)) j) (leb (suc (pos g (g .ri c))) j)
-          ≡ cond b (leb (pos g (g .ri c)) j) (leb (suc (pos g (g .ri c))) j)
-      go true true = refl
-      go true false = sym (leb-suc j (pos g (g .ri c)) (λ e. n (sym e)))
-      go false true = leb-suc j (pos g (g .ri c)) (λ e. n (sym e))
-      go false false = refl
-
-  mended-yes : (c : ℕ) → pos g (g .ri c) ≡ j → mended g j (pos g c) c ≡ true
-  unfolding mended
-  mended-yes c e = rw (le-leb (pos g c) (pos g c) (omega arith), le-leb (pos g (g .ri c)) j (omega arith))
-
-  mended-no : (c : ℕ) → pos g (g .ri c) ≡ j → mended g j (suc (pos g c)) c ≡ false
-  unfolding mended
-  mended-no c e =
-      rw (lt-leb (suc (pos g c)) (pos g c) (omega arith), le-ltb (pos g (g .ri c)) j (omega arith))
-
-  heldL-same : (x c : ℕ) → mended g j (suc x) c ≡ mended g j x c → heldL g j (suc x) c ≡ heldL g j x c
-  unfolding heldL
-  heldL-same x c e = rw e
-
-  heldR-same : (x c : ℕ) → mended g j (suc x) c ≡ mended g j x c → heldR g j (suc x) c ≡ heldR g j x c
-  unfolding heldR
-  heldR-same x c e = rw e
-
-  pub heldL-yes : (x c : ℕ) → mended g j x c ≡ true → heldL g j x c ≡ val (place g (g .ri c) - span g c)
-  unfolding heldL
-  heldL-yes x c e = rw e
-
-  pub heldL-no : (x c : ℕ) → mended g j x c ≡ false → heldL g j x c ≡ val (span g c)
-  unfolding heldL
-  heldL-no x c e = rw e
-
-  pub heldR-yes : (x c : ℕ) → mended g j x c ≡ true → heldR g j x c ≡ val (place g (g .ri c))
-  unfolding heldR
-  heldR-yes x c e = rw e
-
-  pub heldR-no : (x c : ℕ) → mended g j x c ≡ false → heldR g j x c ≡ last g (g .ri c) (pos g c)
-  unfolding heldR
-  heldR-no x c e = rw e
+use Rattle.collect.proofs.Mending.{mended-same, mended-off, mended-yes, mended-no, heldL-same, heldR-same}
+use Rattle.collect.proofs.Mending.{heldL-yes, heldL-no, heldR-yes, heldR-no}
 
 module _ (g : Heap) (s : Proper g) (m : ℕ) where
   abbrev j : ℕ
@@ -95,11 +49,20 @@ module _ (g : Heap) (s : Proper g) (m : ℕ) where
           rw (other-l g j (suc x) c p h, other-l g j x c p h, other-r g j (suc x) c h, other-r g j x c h)
       go (no p) b h (yes q) =
           let w : pos g c ≡ j = ap (pos g) q in
-          rw (ahead-r g j (suc x) c (omega arith), ahead-r g j x c (omega arith), next-l g j (suc x) c w, next-l g j x c w)
-          (rw (q, k q))
+          rw (
+            ahead-r g j (suc x) c (omega arith),
+            ahead-r g j x c (omega arith),
+            next-l g j (suc x) c w,
+            next-l g j x c w,
+          ) (rw (q, k q))
       go (no p) b h (no q) =
           let w : j < pos g c = (let z = pos-other g s c m q in omega arith) in
-          rw (ahead-r g j (suc x) c (omega arith), ahead-r g j x c (omega arith), later-l g j (suc x) c w, later-l g j x c w)
+          rw (
+            ahead-r g j (suc x) c (omega arith),
+            ahead-r g j x c (omega arith),
+            later-l g j (suc x) c w,
+            later-l g j x c w,
+          )
 
   -- the cell at place x in the order is no holder of m
   skip-mended : (x c : ℕ) → holds g m x ≡ false → holder g c ≡ true → mended g j (suc x) c ≡ mended g j x c
@@ -222,8 +185,8 @@ module _ (g : Heap) (s : Proper g) (m : ℕ) where
     live-m : g .live m ≡ true
     live-m = subst (λ (x : ℕ). g .live x ≡ true) e (ri-live g k s h)
 
-    pub unlink-hit : (low : ℕ) (M M′ : ℕ → Cell) → Undone (suc (pos g k)) low M → Unlinked M M′ m (place g k) (place g m)
-        → Undone (pos g k) (min (m - span g k) low) M′
+    pub unlink-hit : (low : ℕ) (M M′ : ℕ → Cell) → Undone (suc (pos g k)) low M
+        → Unlinked M M′ m (place g k) (place g m) → Undone (pos g k) (min (m - span g k) low) M′
     unlink-hit low M M′ u w = record {
       cells = record { at = λ c p. at c p (ℕ-discrete c m) (ℕ-discrete c k); dead = dead };
       known = record { reached = reached; covers = λ b p q r. covers b p q r (ℕ-discrete b k) };

@@ -111,8 +111,8 @@ pub record SweptTo (g : Heap) (j x : ℕ) (M : ℕ → Cell) : Type 0 where
   pub dead : (c : ℕ) → g .F ≤ c → g .live c ≡ false → ((y : ℕ) → g .live y ≡ true → place g y ≢ c)
       → M c ≡ oldCell g c
 
--- What the sweep knows when the cells from c up have had their turn: those from `low` up to c are reached, and no mended
--- holder reaches below `low`.
+-- What the sweep knows when the cells from c up have had their turn: those from `low` up to c are reached, and no
+-- mended holder reaches below `low`.
 pub record Known (g : Heap) (j x low c : ℕ) : Type 0 where
   pub reached : (y : ℕ) → low ≤ y → y < c → g .live y ≡ true
   pub covers : (b : ℕ) → holder g b ≡ true → pos g b < j → mended g j x b ≡ true → low ≤ g .li b

@@ -2,7 +2,7 @@
 -- cell lowered. Assumes nothing.
 use mathlib.Core.Path.{_≡_}
 use mathlib.Core.Logic.{_≢_}
-use mathlib.Core.Bool.{false, cond}
+use mathlib.Core.Bool.{cond}
 use Prim.Native.Nat.{ℕ, _-_}
 use Rattle.collect.specs.Chain.{full}
 use Rattle.collect.specs.Cells.{Cell, val, ptr, mk}

@@ -1,10 +1,12 @@
 // The collector by chains (000, 3.2 to 3.5), in place, without a second array and without recursion. References in the
-// heap point down and registers never move, so one sweep down can mark, link and mend; one pass up then moves the cells.
+// heap point down and registers never move, so one sweep down can find what is reached, link and mend; one pass up then
+// moves the cells.
 //
 //     Sound ──sweep──> Swept ──lower_heap──> Lowered ──lower_registers──> Settled ──clear──> Sound
 //
-// In the sweep a bracket is, in turn: as it was; on the chain of its right end, with its length less one in place of its
-// left end; off that chain, both ends mended. No cell is marked: what has a chain, or lies within a run, is reached.
+// In the sweep a bracket is, in turn: as it was; on the chain of its right end, with its length less one in place of
+// its left end; off that chain, both ends mended. No cell is marked: what has a chain, or lies within a run, is
+// reached.
 //
 // Swept    the reached cells lie in order below `top`, without gaps, and both ends of a reference are where the cells
 //          that it named lie now.

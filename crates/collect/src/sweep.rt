@@ -1,9 +1,9 @@
 // The sweep: the registers, then the heap from the top down. References in the heap point down, so every holder of a
 // cell has its turn before it, and the sweep comes to each cell once, however many hold it. No stack and no recursion.
 //
-// A holder is linked to the chain of its right end when its turn comes. The chain tells the right end, in its turn, that
-// it is reached, how far down its holders reach, and whose ends to mend; then it is undone. The cells from `low` up to
-// where the sweep stands are known to be reached. Where none is known, those without a chain are held by nothing.
+// A holder is linked to the chain of its right end when its turn comes. The chain tells the right end, in its turn,
+// that it is reached, how far down its holders reach, and whose ends to mend; then it is undone. The cells from `low`
+// up to where the sweep stands are known to be reached. Where none is known, those without a chain are held by nothing.
 ghost use mathlib.Core.Path.{_≡_};
 ghost use mathlib.Core.Bool.{cond};
 ghost use Rattle.collect.specs.Passes.{Standable, Stood, MyTurn, Turned, Untouched, HoldsRegisters};
@@ -70,8 +70,8 @@ fn lift(dead: usize, packs: bool) -> usize
     if packs { dead } else { 0 }
 }
 
-// All turns. Gives the number of unreached cells. With `packs` the reached ones end packed against `top`, their ends too;
-// without, every word ends as it began.
+// All turns. Gives the number of unreached cells. With `packs` the reached ones end packed against `top`, their ends
+// too; without, every word ends as it began.
 pub fn sweep(ws: &mut [u32], top: usize, packs: bool) -> usize
     requires { ⌜ Sweepable (now ws) top packs ⌝ }
     ensures { λ r. ⌜ Sweeps (now (ws .entry)) (now (ws .exit)) top packs r ⌝ }

@@ -1,5 +1,5 @@
--- What `at ws c` says of the words and fields of cell c of a sound store, for every c, also past the end, where it reads
--- as a symbol of code 0 whatever a code may be. In order:
+-- What `at ws c` says of the words and fields of cell c of a sound store, for every c, also past the end, where it
+-- reads as a symbol of code 0 whatever a code may be. In order:
 --   Fields       what a cell's kind says of its first word and its second word's fields
 --   cell-fields  that it holds;  second-lt  a second word is below 2 ^ 32
 --   cell-ends    `ends l r`: first word l, second word's fields `plain true r`, 0 < r

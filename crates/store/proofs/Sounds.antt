@@ -11,7 +11,7 @@ use lib.ListN.{length}
 use borrow.Author.Tests.{eqb-true, eqb-false, eq-eqb}
 use Rattle.meaning.specs.Limits.{firstCell, limit}
 use Rattle.meaning.specs.Sound.{Sound}
-use Rattle.meaning.specs.Check.{Verdict, only, check, onZero, ifSound}
+use Rattle.meaning.specs.Check.{Verdict, check, onZero, ifSound}
 use Rattle.meaning.proofs.Checking.{sound-check, check-sound}
 use Rattle.store.specs.Answers.{verdictOf}
 use Rattle.store.specs.Holds.{Bracketed, Termed}

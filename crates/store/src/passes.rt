@@ -1,7 +1,6 @@
 // Passes over the cells of a store whose length and `top` are right. A pass gathers what fails in one word and is never
 // left, so that the compiler can test several cells at a time. It says whether a cell is damaged, and not which.
 use super::cells;
-ghost use mathlib.Core.Path.{_≡_};
 ghost use Prim.Native.Nat.{_*_, _^_, _≤_, _<_};
 ghost use lib.ListN.{length};
 ghost use Rattle.meaning.specs.Limits.{firstCell};

@@ -1,5 +1,5 @@
--- The words of a store, cell by cell: what a cell put leaves at each cell, and that the words of all cells are the store.
--- Assumes nothing.
+-- The words of a store, cell by cell: what a cell put leaves at each cell, and that the words of all cells are the
+-- store. Assumes nothing.
 use mathlib.Core.Path.{_≡_, _∙_}
 use mathlib.Core.Logic.{_≢_}
 use mathlib.Core.List.{List}

@@ -1,6 +1,6 @@
 // A cell's two words. This is the only crate that knows which bit says what: the second word is taken apart and put
-// together here, by masks and shifts, and the cells of a lent slice are read, written and zeroed here. The mark, bit 30,
-// is neither set nor read: it is 0 between calls, and the collector needs none.
+// together here, by masks and shifts, and the cells of a lent slice are read, written and zeroed here. The mark, bit
+// 30, is neither set nor read: it is 0 between calls, and the collector needs none.
 ghost use mathlib.Core.Path.{_≡_};
 ghost use mathlib.Core.Bool.{true, false, _&&_, not};
 ghost use mathlib.Core.List.{_++_};

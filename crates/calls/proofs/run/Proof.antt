@@ -1,7 +1,6 @@
 -- `calls::run` meets its contract. Assumes nothing.
 use mathlib.Core.Path.{sym, _∙_}
 use borrow.Author.Needs.{needs}
-use Rattle.meaning.specs.Check.{only}
 use Rattle.calls.proofs.Batching.{batch-by, found-sound}
 use Rattle.calls.proofs.run.Statement.{statement}
 use Rattle.calls.proofs.run.Tie as tie

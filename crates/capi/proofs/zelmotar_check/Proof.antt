@@ -1,7 +1,6 @@
 -- `capi::zelmotar_check` meets its contract. Assumes nothing.
 use mathlib.Core.Path.{refl}
 use Rattle.meaning.specs.Limits.{firstCell}
-use Rattle.meaning.specs.Check.{only}
 use Rattle.capi.proofs.Fits.{check-fits}
 use borrow.Author.Needs.{needs}
 use Rattle.capi.proofs.zelmotar_check.Statement.{statement}

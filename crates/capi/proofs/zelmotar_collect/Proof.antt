@@ -1,6 +1,5 @@
 -- `capi::zelmotar_collect` meets its contract. Assumes nothing.
 use Rattle.meaning.specs.Limits.{firstCell}
-use Rattle.meaning.specs.Check.{only, done, refused}
 use Rattle.store.proofs.Sounds.{firstCell-pos}
 use Rattle.capi.proofs.Fits.{collect-fits}
 use borrow.Author.Needs.{needs}

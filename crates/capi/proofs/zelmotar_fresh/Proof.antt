@@ -1,5 +1,4 @@
 -- `capi::zelmotar_fresh` meets its contract. Assumes nothing.
-use Rattle.meaning.specs.Check.{only, done, refused}
 use borrow.Author.Needs.{needs}
 use Rattle.capi.proofs.zelmotar_fresh.Statement.{statement}
 use Rattle.capi.proofs.zelmotar_fresh.Tie as tie

@@ -1,7 +1,5 @@
 -- `capi::zelmotar_run` meets its contract. Assumes nothing.
 use Rattle.meaning.specs.Limits.{firstCell}
-use Rattle.meaning.specs.Check.{only}
-use Rattle.meaning.specs.Batch.{asLent}
 use Rattle.capi.proofs.Fits.{batch-fits}
 use borrow.Author.Needs.{needs}
 use Rattle.capi.proofs.zelmotar_run.Statement.{statement}

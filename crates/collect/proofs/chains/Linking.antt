@@ -3,12 +3,11 @@ use mathlib.Core.Path.{_≡_, _∙_}
 use mathlib.Core.Logic.{_≢_}
 use mathlib.Core.Bool.{true}
 use mathlib.Core.List.{List}
-use Prim.Native.Nat.{ℕ, _+_, _-_, _*_, _<_}
-use lib.ListN.{length}
+use Prim.Native.Nat.{ℕ, _-_}
 use Rattle.words.specs.Cell.{firstWord, secondWord, putCell}
 use Rattle.words.specs.Second.{decode, withRi, withRc, withLc}
 use Rattle.words.proofs.Cells.{putCell-length}
-use Rattle.collect.specs.Cells.{cell, linked, val, ptr, mk}
+use Rattle.collect.specs.Cells.{cell, val, ptr, mk}
 use Rattle.collect.specs.Passes.{Linkable, Links}
 use Rattle.collect.proofs.Puts.{cell-put, cell-put-other}
 

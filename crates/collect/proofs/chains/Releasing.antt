@@ -127,8 +127,8 @@ module _ {s₀ : List ℕ} {m w to low₀ : ℕ} where
     link-is g t =
         sym (ap (λ (c : Cell). c .l) (cell-put s m a b (omega (arith, m-room g t, o .same))))
         ∙ ap (λ (c : Cell). c .l)
-        (subst (λ (c : ℕ). back s m a b c ≡ sweepCell g (pos g m) (o .at g t .0) m) (spot-ahead g (pos g m) m (omega arith))
-        (o .at g t .1 .cells .at m (λ f p. absurd (omega arith))))
+        (subst (λ (c : ℕ). back s m a b c ≡ sweepCell g (pos g m) (o .at g t .0) m)
+        (spot-ahead g (pos g m) m (omega arith)) (o .at g t .1 .cells .at m (λ f p. absurd (omega arith))))
         ∙ next-l g (pos g m) (o .at g t .0) m refl
 
     pub release-end : decode b .lc ≡ false → Releases s₀ s m w to low₀ a b low

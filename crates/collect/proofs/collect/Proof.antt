@@ -1,6 +1,5 @@
 -- `collect` meets its contract: the check decides, and only a sound store is collected. Assumes nothing.
 use mathlib.Core.Path.{refl}
-use Rattle.meaning.specs.Check.{only}
 use Rattle.collect.proofs.Alone.{passed, refuses, alone-done, top-low}
 use borrow.Author.Needs.{needs}
 use Rattle.collect.proofs.collect.Statement.{statement}

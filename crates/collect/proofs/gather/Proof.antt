@@ -5,7 +5,7 @@ use mathlib.Core.Path.{refl, _∙_}
 use native.Mathlib.Omega.{arith}
 use Rattle.meaning.specs.Limits.{firstCell}
 use Rattle.meaning.proofs.Cells.{limit-fits}
-use Rattle.collect.proofs.Heaps.{heapOf, begun}
+use Rattle.collect.proofs.Heaps.{begun}
 use Rattle.collect.proofs.Compacted.{gone, top-is, lowerable, settleable, compacted, not-lowered}
 use Rattle.collect.proofs.gather.Statement.{statement}
 use Rattle.collect.proofs.gather.Tie as tie
@@ -13,14 +13,14 @@ use Rattle.collect.proofs.gather.Tie as tie
 sweep-requires : tie.Need-sweep-requires
 sweep-requires c κs =
     let a = c .before .before in
-    (heapOf firstCell (a .args .ws .now) (a .args .top) true, begun firstCell (a .args .ws .now) (a .args .top) true (omega arith) (a .pre) refl)
+    (_, begun firstCell (a .args .ws .now) (a .args .top) true (omega arith) (a .pre) refl)
 
 returns : tie.Need-returns
 returns c =
     let w = c .before .before .before in
     let a = w .before .before .before in
-    let t = top-is (a .args .ws .now) (a .args .top) (a .pre) (w .sweep .last .0) (w .sweep .result) (w .sweep .ensures) in (
-      not-lowered (a .args .ws .now) (a .args .top) (a .pre) (w .sweep .last .0) (w .sweep .result) (w .sweep .ensures) (c .if1 .taken) (w .sweep .kept .0)
+    let t = top-is _ _ (a .pre) _ _ (w .sweep .ensures) in (
+      not-lowered _ _ (a .pre) _ _ (w .sweep .ensures) (c .if1 .taken) (w .sweep .kept .0)
           (λ i. omega (arith, c .before .slice-known2 .given i)),
       omega (arith, t, c .if1 .taken),
     )
@@ -28,25 +28,25 @@ returns c =
 lower-heap-requires : tie.Need-lower-heap-requires
 lower-heap-requires c κs =
     let w = c .before .before .before .before in
-    lowerable (w .before .before .before .args .ws .now) (w .before .before .before .args .top) (w .before .before .before .pre) (w .sweep .last .0) (w .sweep .result) (w .sweep .ensures)
+    lowerable _ _ (w .before .before .before .pre) _ _ (w .sweep .ensures)
 
 cast-lower-registers : tie.Need-cast-lower-registers
 cast-lower-registers c =
     let w = c .before .before .before .before .before .before .before .before in
     let a = w .before .before .before in
-    omega (arith, gone (a .args .ws .now) (a .args .top) (a .pre) (w .sweep .last .0) (w .sweep .result) (w .sweep .ensures), a .pre .high, a .pre .small, limit-fits)
+    omega (arith, gone _ _ (a .pre) _ _ (w .sweep .ensures), a .pre .high, a .pre .small, limit-fits)
 
 lower-registers-requires : tie.Need-lower-registers-requires
 lower-registers-requires c κs =
     let l = c .before .before .before in
     let w = l .before .before .before .before .before in
-    settleable (w .before .before .before .args .ws .now) (w .before .before .before .args .top) (w .before .before .before .pre) (w .sweep .last .0) (w .sweep .result) (w .sweep .ensures) (l .lower-heap .last .0) (l .lower-heap .kept .0)
+    settleable _ _ (w .before .before .before .pre) _ _ (w .sweep .ensures) _ (l .lower-heap .kept .0)
     (l .lower-heap .ensures)
 
 sub-clear : tie.Need-sub-clear
 sub-clear c =
     let w = c .before .before .before .before .before .before .before .before .before .before .before .before in
-    omega (arith, gone (w .before .before .before .args .ws .now) (w .before .before .before .args .top) (w .before .before .before .pre) (w .sweep .last .0) (w .sweep .result) (w .sweep .ensures))
+    omega (arith, gone _ _ (w .before .before .before .pre) _ _ (w .sweep .ensures))
 
 clear-requires : tie.Need-clear-requires
 clear-requires c κs =
@@ -54,13 +54,20 @@ clear-requires c κs =
     let l = r .before .before .before .before in
     let w = l .before .before .before .before .before in (
       omega arith,
-      omega (arith, w .before .before .before .pre .high, w .sweep .kept .0, l .lower-heap .kept .0, r .lower-registers .kept .0),
+      omega (
+        arith,
+        w .before .before .before .pre .high,
+        w .sweep .kept .0,
+        l .lower-heap .kept .0,
+        r .lower-registers .kept .0,
+      ),
     )
 
 sub-result : tie.Need-sub-result
 sub-result c =
-    let w = c .before .before .before .before .before .before .before .before .before .before .before .before .before .before .before in
-    omega (arith, gone (w .before .before .before .args .ws .now) (w .before .before .before .args .top) (w .before .before .before .pre) (w .sweep .last .0) (w .sweep .result) (w .sweep .ensures))
+    let w = c .before .before .before .before .before .before .before .before .before .before .before .before .before
+    .before .before in
+    omega (arith, gone _ _ (w .before .before .before .pre) _ _ (w .sweep .ensures))
 
 returns-2 : tie.Need-returns-2
 returns-2 c =
@@ -69,11 +76,11 @@ returns-2 c =
     let l = r .before .before .before .before in
     let w = l .before .before .before .before .before in
     let a = w .before .before .before in (
-      compacted (a .args .ws .now) (a .args .top) (a .pre) (w .sweep .last .0) (w .sweep .result) (w .sweep .ensures) (l .lower-heap .last .0) (r .lower-registers .last .0) (z .clear .last .0) (l .lower-heap .ensures) (r .lower-registers .ensures)
+      compacted _ _ (a .pre) _ _ (w .sweep .ensures) _ _ _ (l .lower-heap .ensures) (r .lower-registers .ensures)
           (z .clear .ensures)
           (z .clear .kept .0 ∙ r .lower-registers .kept .0 ∙ l .lower-heap .kept .0 ∙ w .sweep .kept .0)
           (λ i. omega (arith, c .slice-known5 .given i)),
-      top-is (a .args .ws .now) (a .args .top) (a .pre) (w .sweep .last .0) (w .sweep .result) (w .sweep .ensures),
+      top-is _ _ (a .pre) _ _ (w .sweep .ensures),
     )
 
 pub gather-spec : {M : Type 1} → statement M

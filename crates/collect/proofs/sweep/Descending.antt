@@ -20,7 +20,8 @@ use Rattle.collect.specs.Passes.{Sweeping, HoldsRegisters, Head, AtHead,
 use Rattle.collect.proofs.Order.{pos-heap}
 use Rattle.collect.proofs.Places.{new-bound, new-run, place-lift}
 use Rattle.collect.proofs.Undoing.{Undone}
-use Rattle.collect.proofs.Turning.{dead-turn, dead-undone, known-on, is-live, is-dead}
+use Rattle.collect.proofs.Turning.{dead-turn, known-on}
+use Rattle.collect.proofs.Telling.{dead-undone, is-live, is-dead}
 use Rattle.collect.proofs.sweep.Running.{chain-is, known-none}
 
 -- the number of turns that are over when the heap cells from c up have had theirs
@@ -67,7 +68,8 @@ module _ {s₁ : List ℕ} {top : ℕ} {packs : Bool} where
           high = omega (arith, t .ends);
           known = record {
             reached = λ y a b. absurd (omega arith);
-            covers = subst (λ (x : ℕ). (b : ℕ) → holder g b ≡ true → pos g b < x → mended g x x b ≡ true → top ≤ g .li b)
+            covers =
+                subst (λ (x : ℕ). (b : ℕ) → holder g b ≡ true → pos g b < x → mended g x x b ≡ true → top ≤ g .li b)
                 e (λ b h q z. absurd (fresh g p b h q z));
           };
           gone = omega (arith, ap (g .new) (t .ends), t .ends);

@@ -20,7 +20,7 @@ use Rattle.collect.specs.Passes.{Sweeping, Turn, MyTurn, Turned, Head, A
 use Rattle.collect.proofs.Order.{pos-heap}
 use Rattle.collect.proofs.Places.{place-up, place-next}
 use Rattle.collect.proofs.Spots.{whole-l, spot-ahead}
-use Rattle.collect.proofs.Turning.{is-live}
+use Rattle.collect.proofs.Telling.{is-live}
 
 -- the chain flag of the cell whose turn it is
 pub chain-is : (g : Heap) (c : ℕ) {s : List ℕ} {w : ℕ} → Sweeping g s (pos g c) → w ≡ secondWord s c

@@ -1,30 +1,29 @@
--- A cell put down in its turn: what `stand` leaves, what it is asked for, and the phase after it; a register's turn and a
--- reached cell's; the loop over the registers. Assumes nothing.
+-- A cell put down in its turn: what `stand` leaves, what it is asked for, and the phase after it; a reached cell's
+-- turn; the loop over the registers. Assumes nothing.
 use mathlib.Core.Path.{_≡_, refl, sym, _∙_, ap, subst}
 use mathlib.Core.Logic.{_≢_}
 use mathlib.Core.Bool.{Bool, true, false, cond, _&&_, _||_, true≢false, false≢true}
 use mathlib.Core.List.{List}
 use Prim.Native.Nat.{ℕ, zero, suc, _+_, _*_, _^_, _≤_, _<_}
 use native.Mathlib.Omega.{arith}
-use native.Mathlib.Numerals.{add-one}
 use native.Mathlib.Decide.{decLt}
 use lib.Dec.{ltb, eqb}
 use lib.ListN.{length}
 use borrow.Author.Tests.{lt-ltb, le-ltb}
 use Rattle.words.specs.Cell.{firstWord, secondWord, putCell}
-use Rattle.words.specs.Second.{decode, plain}
+use Rattle.words.specs.Second.{decode}
 use Rattle.meaning.specs.Limits.{firstCell}
 use Rattle.meaning.proofs.Cells.{limit-fits}
-use Rattle.collect.specs.Cells.{Link, Cell, linked, cell, val, ptr}
+use Rattle.collect.specs.Cells.{Link, Cell, linked, cell, ptr}
 use Rattle.collect.specs.Chain.{Heap, full, holder, Proper, pos, turn, place, last, sweepCell, oldCell, SweptTo}
 use Rattle.collect.specs.Step.{Linked, Laid}
-use Rattle.collect.specs.Passes.{Frame, fullWord, PlainWord, Linkable, Links, Standable, Stood, Sweeping}
+use Rattle.collect.specs.Passes.{Frame, fullWord, Linkable, Links, Standable, Stood, Sweeping}
 use Rattle.collect.specs.Passes.{Turn, MyTurn, Releases, Turned, Untouched, HoldsRegisters}
-use Rattle.collect.proofs.Order.{pos-reg, holder-full, holder-low, holder-live, pos-holder, ri-other}
+use Rattle.collect.proofs.Order.{pos-reg, holder-full, holder-live, pos-holder, ri-other}
 use Rattle.collect.proofs.Places.{place-own, place-up}
 use Rattle.collect.proofs.Spots.{later-l, spot-ahead}
-use Rattle.collect.proofs.Undoing.{Undone}
-use Rattle.collect.proofs.Turning.{own, turn-held, turn-laid, known-on, reg-undone}
+use Rattle.collect.proofs.Turning.{own, turn-held, turn-laid, known-on}
+use Rattle.collect.proofs.Telling.{reg-undone}
 use Rattle.collect.proofs.Puts.{cell-put, cell-put-other}
 
 -- ---- what `stand` leaves
@@ -237,5 +236,5 @@ module _ {s₀ s : List ℕ} {r : ℕ} (w : Registers s₀ s r) (lt : r < firstC
             let l = low g t in
             let e : suc (pos g r) ≡ r + 1 = omega (arith, pos-reg g r l) in
             subst (λ (x : ℕ). Sweeping g s′ x) e
-            (has-stood (w .at g t .frame) r a v (rw (lt-ltb r (g .F) l)) (cell s) (undone g t) (λ x n. refl) (rw (ea, ev))
-            s′ len (subst (λ (x : ℕ). Stood s s′ x a v) (sym (place-own g (t .frame .proper) r l)) d))
+            (has-stood (w .at g t .frame) r a v (rw (lt-ltb r (g .F) l)) (cell s) (undone g t) (λ x n. refl)
+            (rw (ea, ev)) s′ len (subst (λ (x : ℕ). Stood s s′ x a v) (sym (place-own g (t .frame .proper) r l)) d))

@@ -1,5 +1,4 @@
 -- `store::is_sound` meets its contract. Assumes nothing.
-use Rattle.meaning.specs.Check.{only}
 use borrow.Author.Needs.{needs}
 use Rattle.store.proofs.is_sound.Statement.{statement}
 use Rattle.store.proofs.is_sound.Tie as tie

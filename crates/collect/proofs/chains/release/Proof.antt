@@ -1,6 +1,6 @@
 -- `chains::release` undoes the chain of a cell. Assumes nothing.
 use borrow.Author.Needs.{needs}
-use mathlib.Core.Path.{_≡_, sym, _∙_}
+use mathlib.Core.Path.{sym, _∙_}
 use native.Mathlib.Omega.{arith}
 use Rattle.collect.proofs.chains.Releasing.{Releasing, Taken, left, release-room, release-start, release-next}
 use Rattle.collect.proofs.chains.Releasing.{release-again, release-less, release-end}

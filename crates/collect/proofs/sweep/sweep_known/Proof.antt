@@ -1,5 +1,4 @@
 -- `sweep::sweep_known` gives the cells that become known their turns. Assumes nothing.
-use borrow.Author.Needs.{needs}
 use mathlib.Core.Path.{_∙_}
 use native.Mathlib.Omega.{arith}
 use Rattle.collect.proofs.sweep.Running.{Running, run-turn, run-place, run-within, run-start, run-pred, run-room}

@@ -1,7 +1,7 @@
 -- `store::passes::free_ok` meets its contract. The loop's invariant: nothing is gathered only where the words passed
 -- are zero. The measure is the number of words left. Assumes nothing.
 use mathlib.Core.Path.{_≡_}
-use Prim.Native.Nat.{ℕ, _-_, _*_, _≤_}
+use Prim.Native.Nat.{_-_, _*_, _≤_}
 use native.Mathlib.Omega.{arith}
 use lib.ListN.{length, getD}
 use borrow.Author.Tests.{eqb-true}
