@@ -18,7 +18,7 @@ use Rattle.store.specs.declared.Term.{Term}
 use Rattle.store.specs.declared.Term.the-variants.{Symbol, Bracket}
 use Rattle.store.proofs.Sounds.{heap-termed, heap-inside}
 use Rattle.store.proofs.Held.{symbol-is, bracket-by}
-use Rattle.calls.proofs.Registers.{is-empty, is-full, first-in}
+use Rattle.store.proofs.Registers.{is-empty, is-full, first-in}
 
 -- ---- by the register's run
 

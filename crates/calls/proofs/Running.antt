@@ -15,7 +15,7 @@ use Rattle.meaning.proofs.Batches.{fours, runs-cut}
 use Rattle.store.proofs.Sounds.{firstCell-pos}
 use Rattle.calls.specs.Answers.{steppedIn}
 use Rattle.calls.specs.Calling.{callAt, Called, ranTo}
-use Rattle.calls.specs.declared.step.Stepped.{Stepped}
+use Rattle.calls.specs.declared.answer.Stepped.{Stepped}
 
 -- ---- four more words of a list, and two
 

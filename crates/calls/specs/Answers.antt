@@ -6,7 +6,7 @@ use mathlib.Core.List.{List}
 use Prim.Native.Nat.{ℕ}
 use Rattle.meaning.specs.Check.{Done, done, refused, only}
 use Rattle.meaning.specs.Batch.{Outcome, asLent}
-use Rattle.calls.specs.declared.step.Stepped.{Stepped}
+use Rattle.calls.specs.declared.answer.Stepped.{Stepped}
 use Rattle.calls.specs.declared.Ran.{Ran}
 use Rattle.calls.specs.declared.Ran.the-variants as ran
 

@@ -1,7 +1,7 @@
 // The calls that answer with a value and leave every word as it is: LENGTH, FIRST and LIVE.
-use crate::step::Stepped;
-use crate::step::done;
-use crate::step::refused;
+use crate::answer::Stepped;
+use crate::answer::done;
+use crate::answer::refused;
 ghost use mathlib.Core.Path.{_≡_};
 ghost use Prim.Native.Nat.{_<_};
 ghost use Rattle.meaning.specs.Limits.{firstCell};

@@ -10,12 +10,13 @@ ghost use Rattle.meaning.specs.Batch.{runs, callsTest, batchOf, batch};
 ghost use Rattle.calls.specs.Answers.{ranIn};
 ghost use Rattle.calls.specs.Calling.{callAt, Called, ranTo};
 
-pub mod asking;
-pub mod building;
-pub mod operands;
-pub mod room;
-pub mod sharing;
-pub mod step;
+mod answer;
+mod asking;
+mod building;
+mod collecting;
+mod operands;
+mod sharing;
+mod step;
 
 // What becomes of a batch: `top` after its last call, or why it is refused.
 pub enum Ran {

@@ -1,11 +1,11 @@
 // The calls that set a register and need no new cells: CLEAR, COPY, HEAD, REST and OPEN. What the register then holds
 // is shared with the one that held it.
-use crate::building::copy_cell;
-use crate::building::put_empty;
-use crate::building::put_ends;
-use crate::step::Stepped;
-use crate::step::done;
-use crate::step::refused;
+use crate::answer::Stepped;
+use crate::answer::done;
+use crate::answer::refused;
+use build::cells::copy_cell;
+use build::cells::put_empty;
+use build::cells::put_ends;
 ghost use mathlib.Core.Path.{_≡_};
 ghost use Prim.Native.Nat.{_<_};
 ghost use Rattle.meaning.specs.Limits.{firstCell};

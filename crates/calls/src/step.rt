@@ -1,13 +1,15 @@
-// One call: its own words are tested first, and then it is carried out. And what a call answers: done, or refused.
+// One call: its own words are tested first, and then it is carried out.
+use crate::answer::Stepped;
+use crate::answer::refused;
 use crate::asking::first;
 use crate::asking::length;
 use crate::asking::live;
 use crate::building::join;
 use crate::building::symbol;
 use crate::building::wrap;
+use crate::collecting::gather;
 use crate::operands::fault;
 use crate::operands::is_operand;
-use crate::room::gather;
 use crate::sharing::clear;
 use crate::sharing::head;
 use crate::sharing::open_first;
@@ -17,36 +19,7 @@ ghost use mathlib.Core.Path.{_≡_};
 ghost use Rattle.meaning.specs.Limits.{firstCell};
 ghost use Rattle.meaning.specs.Sound.{Sound};
 ghost use Rattle.meaning.specs.Call.{fault, opAt, perform, step};
-ghost use Rattle.calls.specs.Answers.{steppedIn, IsDone, IsRefused};
-
-// What one call answers: its status and value, and `top` after it.
-pub struct Stepped {
-    pub status: u32,
-    pub value: u32,
-    pub top: usize,
-}
-
-// A call that is done, with its value.
-pub fn done(value: u32, top: usize) -> Stepped
-    ensures { λ r. ⌜ IsDone r value top ⌝ }
-{
-    Stepped {
-        status: 0,
-        value,
-        top,
-    }
-}
-
-// A call that is refused, whose value is 0.
-pub fn refused(status: u32, top: usize) -> Stepped
-    ensures { λ r. ⌜ IsRefused r status top ⌝ }
-{
-    Stepped {
-        status,
-        value: 0,
-        top,
-    }
-}
+ghost use Rattle.calls.specs.Answers.{steppedIn};
 
 // A call whose own words are right.
 fn perform(ws: &mut [u32], top: usize, o: u32, d: u32, a: u32, b: u32) -> Stepped

@@ -4,6 +4,7 @@
 --   Scan      the check by its tests, and its scan of the cells
 --   Sounds    what the answer of the check says of the store; which cells of a sound store may be read
 --   Hollow    an allowed length, and the words of a fresh store
+--   Registers the contents of a register
 --   Held      a bracket's contents and a term, from the second word; what a `match` on a term learns
 --   Looked    where a register's cells lie
 --   Final     no statement of this crate leaves a second outcome
@@ -13,6 +14,7 @@ mod Gathered
 pub mod Scan
 pub mod Sounds
 pub mod Hollow
+pub mod Registers
 pub mod Held
 pub mod Looked
 pub mod Final

@@ -2,7 +2,7 @@
 use mathlib.Core.Path.{sym, _∙_}
 use borrow.Author.Needs.{needs}
 use Rattle.meaning.specs.Call.{codeFirst}
-use Rattle.calls.proofs.Registers.{readable}
+use Rattle.store.proofs.Registers.{readable}
 use Rattle.calls.proofs.Firsts.{first-readable, on-empty, code-symbol, code-bracket}
 use Rattle.calls.proofs.asking.first.Statement.{statement}
 use Rattle.calls.proofs.asking.first.Tie as tie

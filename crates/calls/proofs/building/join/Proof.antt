@@ -6,7 +6,7 @@ use native.Mathlib.Omega.{arith}
 use borrow.Author.Needs.{needs}
 use Rattle.meaning.specs.Limits.{firstCell}
 use Rattle.meaning.specs.Call.{sought}
-use Rattle.calls.proofs.Registers.{readable, run-below}
+use Rattle.store.proofs.Registers.{readable, run-below}
 use Rattle.calls.proofs.Joining.{join-first-empty, join-second-empty, join-neither-empty}
 use Rattle.calls.proofs.building.join.Statement.{statement}
 use Rattle.calls.proofs.building.join.Tie as tie

@@ -6,8 +6,8 @@ use Rattle.meaning.specs.Limits.{firstCell}
 use Rattle.meaning.specs.Call.{newRun}
 use Rattle.meaning.proofs.Plans.{sought-meaning}
 use Rattle.store.proofs.Sounds.{firstCell-pos}
-use Rattle.calls.proofs.Registers.{run-below}
-use Rattle.calls.proofs.Rooms.{room-roomy, room-does, room-refuses, room-size}
+use Rattle.store.proofs.Registers.{run-below}
+use Rattle.build.proofs.Rooms.{room-roomy, room-does, room-refuses, room-size}
 use Rattle.calls.proofs.building.join_full.Statement.{statement}
 use Rattle.calls.proofs.building.join_full.Tie as tie
 
@@ -37,10 +37,10 @@ lay-run-requires c κs =
 
 returns : tie.Need-returns
 returns c =
-    let t = c .before .before .before .before .before in
+    let t = c .before .before .before .before .before .before in
     let make-room = t .before .before .before .before in
     let s = make-room .before .before .before in
-    c .before .before .lay-run .ensures
+    c .done .ensures _ ∙ c .before .before .before .lay-run .ensures
     ∙ sym (room-does (make-room .make-room .ensures) (t .t .given .1)
     (newRun (s .args .d) (s .args .a) (s .args .b)))
 
@@ -56,5 +56,5 @@ pub join-full-spec : {M : Type 1} → statement M
 join-full-spec =
     tie.close
     (tie.spec
-    make-room-requires (λ c. search needs) lay-run-requires (λ c. search needs) (λ c κs. search needs)
-    (λ c. search needs) returns (λ c. search needs) returns-2)
+    make-room-requires (λ c. search needs) lay-run-requires (λ c κs. search needs) (λ c. search needs)
+    (λ c κs. search needs) (λ c. search needs) returns (λ c. search needs) returns-2)

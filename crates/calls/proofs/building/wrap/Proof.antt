@@ -2,7 +2,7 @@
 use mathlib.Core.Path.{sym, _∙_}
 use borrow.Author.Needs.{needs}
 use Rattle.meaning.specs.Call.{newBracket}
-use Rattle.calls.proofs.Rooms.{room-roomy, room-does, room-refuses}
+use Rattle.build.proofs.Rooms.{room-roomy, room-does, room-refuses}
 use Rattle.calls.proofs.building.wrap.Statement.{statement}
 use Rattle.calls.proofs.building.wrap.Tie as tie
 
@@ -14,10 +14,10 @@ lay-bracket-requires c κs =
 
 returns : tie.Need-returns
 returns c =
-    let t = c .before .before .before .before .before in
+    let t = c .before .before .before .before .before .before in
     let make-room = t .before .before .before .before in
     let s = make-room .before .before .before in
-    c .before .before .lay-bracket .ensures
+    c .done .ensures _ ∙ c .before .before .before .lay-bracket .ensures
     ∙ sym (room-does (make-room .make-room .ensures) (t .t .given .1)
     (newBracket (s .args .d) (s .args .a)))
 
@@ -33,5 +33,5 @@ pub wrap-spec : {M : Type 1} → statement M
 wrap-spec =
     tie.close
     (tie.spec
-    (λ c κs. search needs) (λ c. search needs) lay-bracket-requires (λ c. search needs) (λ c κs. search needs)
-    (λ c. search needs) returns (λ c. search needs) returns-2)
+    (λ c κs. search needs) (λ c. search needs) lay-bracket-requires (λ c κs. search needs) (λ c. search needs)
+    (λ c κs. search needs) (λ c. search needs) returns (λ c. search needs) returns-2)

@@ -3,7 +3,7 @@ use mathlib.Core.Path.{sym, _∙_}
 use native.Mathlib.Omega.{arith}
 use borrow.Author.Needs.{needs}
 use Rattle.meaning.specs.Call.{rest}
-use Rattle.calls.proofs.Registers.{readable, run-below}
+use Rattle.store.proofs.Registers.{readable, run-below}
 use Rattle.calls.proofs.Firsts.{on-empty, rest-one, rest-more}
 use Rattle.calls.proofs.sharing.rest.Statement.{statement}
 use Rattle.calls.proofs.sharing.rest.Tie as tie

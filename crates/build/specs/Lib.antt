@@ -1,0 +1,2 @@
+-- The definitions that the contracts of `build` cite: what making room leaves. Assumes nothing.
+pub mod Room
