@@ -65,8 +65,8 @@ clear-requires c κs =
 
 sub-result : tie.Need-sub-result
 sub-result c =
-    let w = c .before .before .before .before .before .before .before .before .before .before .before .before .before
-    .before .before in
+    let r = c .before .before .before .before .before .before in
+    let w = r .before .before .before .before .before .before .before .before .before in
     omega (arith, gone _ _ (w .before .before .before .pre) _ _ (w .sweep .ensures))
 
 returns-2 : tie.Need-returns-2

@@ -7,12 +7,12 @@ use Rattle.bytes.proofs.writing.put_word.Tie as tie
 
 returns : tie.Need-returns
 returns c =
-    let put = c .before .before .before .before .before .before .before .before .before .before .before .before .before
-    .before .put in
-    let put2 = c .before .before .before .before .before .before .before .before .before .before .put2 in
-    let put3 = c .before .before .before .before .before .before .put3 in
-    let put4 = c .before .before .put4 in
-    put4 .ensures ∙ ap (putByte _) (put3 .ensures ∙ ap (putByte _) (put2 .ensures ∙ ap (putByte _) (put .ensures)))
+    let p₄ = c .before .before in
+    let p₃ = p₄ .before .before .before .before in
+    let p₂ = p₃ .before .before .before .before in
+    let p₁ = p₂ .before .before .before .before in
+    p₄ .put4 .ensures
+    ∙ ap (putByte _) (p₃ .put3 .ensures ∙ ap (putByte _) (p₂ .put2 .ensures ∙ ap (putByte _) (p₁ .put .ensures)))
 
 pub put-word-spec : {M : Type 1} → statement M
 put-word-spec =

@@ -6,29 +6,14 @@ use Rattle.serve.proofs.running.run_fresh.Tie as tie
 
 returns : tie.Need-returns
 returns c =
-    let args = c .before .before .before .before .before .before .before .before .before .before .before .before
-    .before .before .before .before .args in
-    let pre = c .before .before .before .before .before .before .before .before .before .before .before .before
-    .before .before .before .before .pre in
-    let fresh = c .before .before .before .before .before .before .before .before .before .before .before .fresh in
-    let top-made = c .before .before .before .before .before .before .before .before .top-made in
-    let run = c .before .before .before .before .before .run in
-    run-served
-    (args .ws .now)
-    (args .calls .now)
-    (args .answers .now)
-    (pre)
-    (fresh .result)
-    (fresh .last .0)
-    (fresh .ensures)
-    (run .result)
-    (run .last .0)
-    (run .last .1 .1 .1 .0)
-    (top-made .result)
-    (c .top-ran .result)
-    (top-made .ensures)
-    (run .ensures)
-    (c .top-ran .ensures)
+    let run = c .before .before .before .before .before in
+    let made = run .before .before .before in
+    let fresh = made .before .before .before in
+    let s = fresh .before .before .before .before .before in
+    run-served (s .args .ws .now) (s .args .calls .now) (s .args .answers .now) (s .pre) (fresh .fresh .result)
+    (fresh .fresh .last .0) (fresh .fresh .ensures) (run .run .result) (run .run .last .0)
+    (run .run .last .1 .1 .1 .0) (made .top-made .result) (c .top-ran .result) (made .top-made .ensures)
+    (run .run .ensures) (c .top-ran .ensures)
 
 pub run-fresh-spec : {M : Type 1} → statement M
 run-fresh-spec =
