@@ -1,5 +1,5 @@
 -- A batch by the tests that it passes, as the code makes them. Assumes nothing.
-use mathlib.Core.Path.{_≡_, refl, sym, ap, _∙_}
+use mathlib.Core.Path.{_≡_, refl}
 use mathlib.Core.Bool.{Bool, true, false, cond, false≢true}
 use mathlib.Core.List.{List, _++_}
 use Prim.Native.Nat.{ℕ, _-_, _*_, _/_, _%_, _≤_, _<_}
@@ -10,12 +10,14 @@ use lib.Seq.{length-take-le}
 use borrow.Author.Tests.{le-leb, lt-leb, eqb-true}
 use Rattle.meaning.specs.Limits.{firstCell, callsLimit}
 use Rattle.meaning.specs.Sound.{Sound}
-use Rattle.meaning.specs.Check.{Verdict, only, check, ifSound}
+use Rattle.meaning.specs.Check.{Verdict, only, check}
 use Rattle.meaning.specs.Batch.{runs, asLent, ended, callsTest, batchOf, batch}
-use Rattle.meaning.proofs.Checking.{check-sound}
-use Rattle.store.specs.Answers.{verdictOf}
+use Rattle.meaning.proofs.Checking.{sound-check}
+use Rattle.store.specs.Answers.{refusalOf, verdictOf}
+use Rattle.store.specs.declared.Unsound.{Unsound}
 use Rattle.store.specs.declared.Checked.{Checked}
 use Rattle.store.specs.declared.Checked.the-variants as checked
+use Rattle.store.proofs.Sounds.{found-refused}
 use Rattle.calls.specs.Calling.{ranTo}
 
 pub calls-fours : (n : ℕ) → callsTest n ≡ true → n % 4 ≡ 0
@@ -51,14 +53,12 @@ module _ (ws : List ℕ) (top : ℕ) (calls out : List ℕ) where
 
   -- ---- the store
 
-  module _ {found v : Checked} (q : verdictOf found ≡ check firstCell ws top) (e : found ≡ v) where
-    pub batch-by : batch firstCell ws top calls out
-        ≡ ifSound (verdictOf v) (batchOf firstCell ws top calls out) (asLent (verdictOf v) ws top out)
-    unfolding batch
-    batch-by = rw (← q, e) refl
+  pub batch-sound : Sound firstCell ws top → batchOf firstCell ws top calls out ≡ batch firstCell ws top calls out
+  unfolding batch
+  batch-sound s = rw (sound-check firstCell ws top s) refl
 
-  pub found-sound : {found : Checked} → verdictOf found ≡ check firstCell ws top → found ≡ checked.Sound
-      → Sound firstCell ws top
-  found-sound q e =
-      check-sound firstCell ws top
-      (ap (λ (v : Verdict). v .status) (sym q) ∙ ap (λ (c : Checked). verdictOf c .status) e)
+  pub batch-refused : (found : Checked) {u : Unsound} → verdictOf found ≡ check firstCell ws top
+      → found ≡ checked.Refused u → asLent (refusalOf u) ws top out ≡ batch firstCell ws top calls out
+  unfolding batch
+  batch-refused found q e =
+      found-refused firstCell ws top found q _ (λ (v : Verdict). asLent v ws top out) e

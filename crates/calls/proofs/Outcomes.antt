@@ -1,30 +1,38 @@
 -- What came of a batch is read off its outcome. Assumes nothing.
 use mathlib.Core.Path.{_≡_, refl, sym, ap, _∙_}
 use mathlib.Core.List.{List}
-use Prim.Native.Nat.{ℕ, zero, suc}
+use Prim.Native.Nat.{ℕ, zero, suc, _-_}
+use Rattle.meaning.specs.Check.{onZero}
 use Rattle.meaning.specs.Batch.{Outcome}
+use Rattle.store.specs.Answers.{refusalOf}
+use Rattle.store.specs.declared.Unsound.{Unsound}
+use Rattle.store.proofs.Refusals.{unsoundOf, unsoundOf-back, refusal-by}
 use Rattle.calls.specs.Answers.{ranIn}
 use Rattle.calls.specs.declared.Ran.{Ran}
-use Rattle.calls.specs.declared.Ran.the-variants.{Ended, BadLength, BadTop, Damaged, BadCalls, ShortAnswers}
+use Rattle.calls.specs.declared.Ran.the-variants.{Ended, Refused, BadCalls, ShortAnswers}
 
--- by the status, with the new `top` or the damaged cell
-abbrev ranBy : ℕ → ℕ → ℕ → Ran
-ranBy zero t c = Ended t
-ranBy (suc zero) t c = BadLength
-ranBy (suc (suc zero)) t c = BadTop
-ranBy (suc (suc (suc zero))) t c = Damaged c
-ranBy (suc (suc (suc (suc zero)))) t c = BadCalls
-ranBy (suc (suc (suc (suc (suc s))))) t c = ShortAnswers
+-- refused, by the status less 3: an unsound store, 4 or 5
+abbrev refusedBy : ℕ → Unsound → Ran
+refusedBy zero u = Refused u
+refusedBy (suc zero) u = BadCalls
+refusedBy (suc (suc s)) u = ShortAnswers
+
+-- by the status
+abbrev ranBy : ℕ → ℕ → Unsound → Ran
+ranBy s t u = onZero s (Ended t) (refusedBy (s - 3) u)
 
 abbrev ranOf : Outcome → Ran
-ranOf o = ranBy (o .verdict .status) (o .top) (o .verdict .value)
+ranOf o = ranBy (o .verdict .status) (o .top) (unsoundOf (o .verdict))
+
+refused-back : (t : ℕ) (u : Unsound) → ranBy (refusalOf u .status) t (unsoundOf (refusalOf u)) ≡ Refused u
+refused-back t u =
+    refusal-by (λ (s : ℕ). ranBy s t (unsoundOf (refusalOf u))) (Refused (unsoundOf (refusalOf u))) refl refl refl u
+    ∙ ap Refused (unsoundOf-back u)
 
 back : (ws : List ℕ) (top : ℕ) (out : List ℕ) (r : Ran)
     → (ranOf (ranIn r ws top out) ≡ r) × (ranIn r ws top out .words ≡ ws) × (ranIn r ws top out .answers ≡ out)
 back ws top out (Ended t) = (refl, refl, refl)
-back ws top out BadLength = (refl, refl, refl)
-back ws top out BadTop = (refl, refl, refl)
-back ws top out (Damaged c) = (refl, refl, refl)
+back ws top out (Refused u) = (refused-back top u, refl, refl)
 back ws top out BadCalls = (refl, refl, refl)
 back ws top out ShortAnswers = (refl, refl, refl)
 

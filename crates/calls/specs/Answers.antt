@@ -6,6 +6,7 @@ use mathlib.Core.List.{List}
 use Prim.Native.Nat.{ℕ}
 use Rattle.meaning.specs.Check.{Done, done, refused, only}
 use Rattle.meaning.specs.Batch.{Outcome, asLent}
+use Rattle.store.specs.Answers.{refusalOf}
 use Rattle.calls.specs.declared.answer.Stepped.{Stepped}
 use Rattle.calls.specs.declared.Ran.{Ran}
 use Rattle.calls.specs.declared.Ran.the-variants as ran
@@ -21,12 +22,10 @@ IsDone r value top = (ws : List ℕ) → steppedIn r ws ≡ done ws top value
 abbrev pub IsRefused : Stepped → ℕ → ℕ → Type 0
 IsRefused r status top = (ws : List ℕ) → steppedIn r ws ≡ refused ws top (only status)
 
--- a batch: run to its end, with the new `top`; or one of 1 to 5, with the words and the answers as they are, and `top`
--- as it came
+-- a batch: run to its end, with the new `top`; or the check's refusal, 4 or 5, with the words and the answers as they
+-- are, and `top` as it came
 abbrev pub ranIn : Ran → List ℕ → ℕ → List ℕ → Outcome
 ranIn (ran.Ended t) ws top out = record { verdict = only 0; words = ws; top = t; answers = out }
-ranIn ran.BadLength ws top out = asLent (only 1) ws top out
-ranIn ran.BadTop ws top out = asLent (only 2) ws top out
-ranIn (ran.Damaged c) ws top out = asLent (record { status = 3; value = c }) ws top out
+ranIn (ran.Refused u) ws top out = asLent (refusalOf u) ws top out
 ranIn ran.BadCalls ws top out = asLent (only 4) ws top out
 ranIn ran.ShortAnswers ws top out = asLent (only 5) ws top out

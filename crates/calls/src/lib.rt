@@ -21,9 +21,7 @@ mod step;
 // What becomes of a batch: `top` after its last call, or why it is refused.
 pub enum Ran {
     Ended(usize),
-    BadLength,
-    BadTop,
-    Damaged(usize),
+    Refused(store::Unsound),
     BadCalls,
     ShortAnswers,
 }
@@ -101,8 +99,6 @@ pub fn run(ws: &mut [u32], top: usize, calls: &[u32], answers: &mut [u32]) -> Ra
 {
     match store::check(ws, top) {
         store::Checked::Sound => run_sound(ws, top, calls, answers),
-        store::Checked::BadLength => Ran::BadLength,
-        store::Checked::BadTop => Ran::BadTop,
-        store::Checked::Damaged(c) => Ran::Damaged(c),
+        store::Checked::Refused(why) => Ran::Refused(why),
     }
 }

@@ -6,12 +6,13 @@ use collect::Collected;
 use store::Checked;
 use store::Extent;
 use store::Made;
+use store::Unsound;
 ghost use mathlib.Core.Path.{_≡_};
 ghost use Prim.Native.Nat.{_≤_};
 ghost use Rattle.meaning.specs.Limits.{firstCell, limit};
 ghost use Rattle.meaning.specs.Check.{check, freshIn, collectIn, lookSpan};
 ghost use Rattle.meaning.specs.Batch.{batch};
-ghost use Rattle.store.specs.Answers.{spanIn};
+ghost use Rattle.store.specs.Answers.{refusalOf, spanIn};
 ghost use Rattle.capi.specs.Answers.{answer, verdictIs, doneIs, outcomeIs};
 
 // A status, the value that goes with it, and `top` afterwards.
@@ -34,6 +35,18 @@ fn reply(status: u32, value: usize, top: usize) -> Answer
     }
 }
 
+// Why a store is refused. `top` comes back as it came.
+fn refuse(why: Unsound, top: usize) -> Answer
+    requires { ⌜ refusalOf why .value ≤ limit ⌝ }
+    ensures { λ r. ⌜ r ≡ answer (refusalOf why .status) (refusalOf why .value) top ⌝ }
+{
+    match why {
+        Unsound::BadLength => reply(1, 0, top),
+        Unsound::BadTop => reply(2, 0, top),
+        Unsound::Damaged(cell) => reply(3, cell, top),
+    }
+}
+
 // The check alone. `top` comes back as it came.
 #[no_mangle]
 pub extern "C" fn zelmotar_check(words: &[u32], top: usize) -> Answer
@@ -41,9 +54,7 @@ pub extern "C" fn zelmotar_check(words: &[u32], top: usize) -> Answer
 {
     match store::check(words, top) {
         Checked::Sound => reply(0, 0, top),
-        Checked::BadLength => reply(1, 0, top),
-        Checked::BadTop => reply(2, 0, top),
-        Checked::Damaged(cell) => reply(3, cell, top),
+        Checked::Refused(why) => refuse(why, top),
     }
 }
 
@@ -65,9 +76,7 @@ pub extern "C" fn zelmotar_collect(words: &mut [u32], top: usize) -> Answer
 {
     match collect::collect(words, top) {
         Collected::Done(live, low) => reply(0, live, low),
-        Collected::BadLength => reply(1, 0, top),
-        Collected::BadTop => reply(2, 0, top),
-        Collected::Damaged(cell) => reply(3, cell, top),
+        Collected::Refused(why) => refuse(why, top),
     }
 }
 
@@ -84,9 +93,7 @@ pub extern "C" fn zelmotar_run(
 {
     match calls::run(words, top, calls, answers) {
         Ran::Ended(end) => reply(0, 0, end),
-        Ran::BadLength => reply(1, 0, top),
-        Ran::BadTop => reply(2, 0, top),
-        Ran::Damaged(cell) => reply(3, cell, top),
+        Ran::Refused(why) => refuse(why, top),
         Ran::BadCalls => reply(4, 0, top),
         Ran::ShortAnswers => reply(5, 0, top),
     }

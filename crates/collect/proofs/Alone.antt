@@ -1,27 +1,25 @@
 -- Collecting alone, by the answer of the check. Assumes nothing.
-use mathlib.Core.Path.{_≡_, refl, sym, ap, _∙_}
+use mathlib.Core.Path.{_≡_, refl}
 use mathlib.Core.List.{List}
-use Prim.Native.Nat.{ℕ, suc, _-_, _≤_}
+use Prim.Native.Nat.{ℕ, _-_, _≤_}
 use native.Mathlib.Omega.{arith}
 use Rattle.meaning.specs.Sound.{Sound}
 use Rattle.meaning.specs.Reach.{live}
 use Rattle.meaning.specs.Collected.{collected, collectedTop}
-use Rattle.meaning.specs.Check.{Verdict, done, refused, check, collectIn}
-use Rattle.store.specs.Answers.{verdictOf}
+use Rattle.meaning.specs.Check.{done, refused, check, collectIn}
+use Rattle.meaning.proofs.Checking.{sound-check}
+use Rattle.store.specs.Answers.{refusalOf, verdictOf}
+use Rattle.store.specs.declared.Unsound.{Unsound}
 use Rattle.store.specs.declared.Checked.{Checked}
 use Rattle.store.specs.declared.Checked.the-variants as checked
-use Rattle.meaning.proofs.Checking.{sound-check, check-sound}
+use Rattle.store.proofs.Sounds.{found-refused}
 
 module _ (F : ℕ) (ws : List ℕ) (top : ℕ) where
-  -- the arms of a match on the check's answer
-  pub passed : {found : Checked} → verdictOf found ≡ check F ws top → found ≡ checked.Sound → Sound F ws top
-  passed e q = check-sound F ws top (ap (λ (x : Verdict). x .status) (sym e ∙ ap verdictOf q))
-
-  pub refuses : {found x : Checked} → verdictOf found ≡ check F ws top → found ≡ x → (n : ℕ)
-      → verdictOf x .status ≡ suc n
-      → refused ws top (verdictOf x) ≡ collectIn F ws top
+  -- the check refuses
+  pub refuses : (found : Checked) {u : Unsound} → verdictOf found ≡ check F ws top → found ≡ checked.Refused u
+      → refused ws top (refusalOf u) ≡ collectIn F ws top
   unfolding collectIn
-  refuses e q n z = rw (← e, q, z) refl
+  refuses found q e = found-refused F ws top found q _ (refused ws top) e
 
   -- what is left of a sound store: its words collected, and the new `top`
   pub alone-done : Sound F ws top → (ws′ : List ℕ) (top′ : ℕ) → ws′ ≡ collected F ws top → top′ ≡ collectedTop F ws top

@@ -2,13 +2,12 @@
 -- Assumes nothing.
 use mathlib.Core.List.{List}
 use Prim.Native.Nat.{ℕ}
-use Rattle.meaning.specs.Check.{Done, only, done, refused}
+use Rattle.meaning.specs.Check.{Done, done, refused}
+use Rattle.store.specs.Answers.{refusalOf}
 use Rattle.collect.specs.declared.Collected.{Collected}
 use Rattle.collect.specs.declared.Collected.the-variants as collected
 
--- 0 with live and the new `top`, or 1 to 3 with `top` as it came; and the words that are left
+-- 0 with live and the new `top`, or the check's refusal with `top` as it came; and the words that are left
 abbrev pub collectedIn : Collected → List ℕ → ℕ → Done
 collectedIn (collected.Done n t) ws top = done ws t n
-collectedIn collected.BadLength ws top = refused ws top (only 1)
-collectedIn collected.BadTop ws top = refused ws top (only 2)
-collectedIn (collected.Damaged c) ws top = refused ws top (record { status = 3; value = c })
+collectedIn (collected.Refused u) ws top = refused ws top (refusalOf u)

@@ -21,6 +21,7 @@ ghost use Rattle.meaning.specs.Collected.{collected, collectedTop};
 ghost use Rattle.meaning.specs.Check.{collectIn};
 ghost use Rattle.collect.specs.Answers.{collectedIn};
 use store::Checked;
+use store::Unsound;
 
 mod chains;
 mod lower;
@@ -54,9 +55,7 @@ pub fn live(ws: &mut [u32], top: usize) -> usize
 // What collecting answers: live and the new `top`, or why it is refused.
 pub enum Collected {
     Done(usize, usize),
-    BadLength,
-    BadTop,
-    Damaged(usize),
+    Refused(Unsound),
 }
 
 // Collects any store that is sound; every other is left as it was lent.
@@ -69,8 +68,6 @@ pub fn collect(ws: &mut [u32], top: usize) -> Collected
             let new = gather(ws, top);
             Collected::Done(new - meaning::FIRST_CELL, new)
         }
-        Checked::BadLength => Collected::BadLength,
-        Checked::BadTop => Collected::BadTop,
-        Checked::Damaged(cell) => Collected::Damaged(cell),
+        Checked::Refused(why) => Collected::Refused(why),
     }
 }

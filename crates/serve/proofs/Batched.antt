@@ -22,7 +22,7 @@ use Rattle.calls.specs.Answers.{ranIn}
 use Rattle.store.specs.declared.Made.{Made}
 use Rattle.store.specs.declared.Made.the-variants as made
 use Rattle.calls.specs.declared.Ran as ran
-use Rattle.calls.specs.declared.Ran.the-variants.{Ended, BadLength, BadTop, Damaged, BadCalls, ShortAnswers}
+use Rattle.calls.specs.declared.Ran.the-variants.{Ended, Refused, BadCalls, ShortAnswers}
 
 -- ---- what an answer's case says apart from the words and the answers
 
@@ -37,17 +37,13 @@ made-words made.BadLength ws = refl
 pub ran-top : (r : ran.Ran) (ws : List ℕ) (top : ℕ) (answers : List ℕ)
     → ranIn r ws top answers .top ≡ ranIn r [] top [] .top
 ran-top (Ended t) ws top answers = refl
-ran-top BadLength ws top answers = refl
-ran-top BadTop ws top answers = refl
-ran-top (Damaged c) ws top answers = refl
+ran-top (Refused u) ws top answers = refl
 ran-top BadCalls ws top answers = refl
 ran-top ShortAnswers ws top answers = refl
 
 ran-answers : (r : ran.Ran) (ws : List ℕ) (top : ℕ) (answers : List ℕ) → ranIn r ws top answers .answers ≡ answers
 ran-answers (Ended t) ws top answers = refl
-ran-answers BadLength ws top answers = refl
-ran-answers BadTop ws top answers = refl
-ran-answers (Damaged c) ws top answers = refl
+ran-answers (Refused u) ws top answers = refl
 ran-answers BadCalls ws top answers = refl
 ran-answers ShortAnswers ws top answers = refl
 

@@ -34,9 +34,7 @@ fn top_ran(ran: Ran, top: usize) -> usize
 {
     match ran {
         Ran::Ended(last) => last,
-        Ran::BadLength => top,
-        Ran::BadTop => top,
-        Ran::Damaged(_) => top,
+        Ran::Refused(_) => top,
         Ran::BadCalls => top,
         Ran::ShortAnswers => top,
     }

@@ -3,9 +3,9 @@
 -- Assumes nothing.
 use mathlib.Core.Path.{_≡_, refl, sym, ap, _∙_}
 use mathlib.Core.List.{List}
-use Prim.Native.Nat.{ℕ, zero, suc, _-_}
+use Prim.Native.Nat.{ℕ, _-_}
 use lib.ListN.{take, drop}
-use Rattle.meaning.specs.Check.{Verdict, Done, Span, onZero, look}
+use Rattle.meaning.specs.Check.{Verdict, Done, Span, onZero, ifSound, look}
 use Rattle.store.specs.Answers.{verdictOf, madeIn}
 use Rattle.store.specs.Unique.{VerdictsDiffer, OneCheck, OneFresh, OneSpan, OneLook, LookAtSpan}
 use Rattle.store.specs.declared.Checked.{Checked}
@@ -13,22 +13,17 @@ use Rattle.store.specs.declared.Checked.the-variants as checked
 use Rattle.store.specs.declared.Made.{Made}
 use Rattle.store.specs.declared.Made.the-variants as made
 use Rattle.store.specs.declared.Extent.{Extent}
+use Rattle.store.proofs.Refusals.{unsoundOf, unsoundOf-back, ifSound-refusal}
 
-abbrev numbered : ℕ → ℕ → Checked
-numbered zero v = checked.Sound
-numbered (suc zero) v = checked.BadLength
-numbered (suc (suc zero)) v = checked.BadTop
-numbered (suc (suc (suc s))) v = checked.Damaged v
+abbrev checkedOf : Verdict → Checked
+checkedOf v = ifSound v checked.Sound (checked.Refused (unsoundOf v))
 
-numbered-back : (r : Checked) → numbered (verdictOf r .status) (verdictOf r .value) ≡ r
-numbered-back checked.Sound = refl
-numbered-back checked.BadLength = refl
-numbered-back checked.BadTop = refl
-numbered-back (checked.Damaged c) = refl
+checked-back : (r : Checked) → checkedOf (verdictOf r) ≡ r
+checked-back checked.Sound = refl
+checked-back (checked.Refused u) = ifSound-refusal u _ _ ∙ ap checked.Refused (unsoundOf-back u)
 
 pub verdicts-differ : VerdictsDiffer
-verdicts-differ r r′ e =
-    sym (numbered-back r) ∙ ap (λ (v : Verdict). numbered (v .status) (v .value)) e ∙ numbered-back r′
+verdicts-differ r r′ e = sym (checked-back r) ∙ ap checkedOf e ∙ checked-back r′
 
 pub one-check : OneCheck
 one-check ws top r r′ p q = verdicts-differ r r′ (p ∙ sym q)

@@ -2,6 +2,7 @@
 --   Rules     a cell's rules, tested with no branch
 --   Gathered  passes that gather damage in a word
 --   Scan      the check by its tests, and its scan of the cells
+--   Refusals  an unsound store's refusal and its numbers
 --   Sounds    what the answer of the check says of the store; which cells of a sound store may be read
 --   Hollow    an allowed length, and the words of a fresh store
 --   Registers the contents of a register
@@ -12,6 +13,7 @@
 mod Rules
 mod Gathered
 pub mod Scan
+pub mod Refusals
 pub mod Sounds
 pub mod Hollow
 pub mod Registers

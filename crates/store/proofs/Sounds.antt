@@ -13,9 +13,12 @@ use Rattle.meaning.specs.Limits.{firstCell, limit}
 use Rattle.meaning.specs.Sound.{Sound}
 use Rattle.meaning.specs.Check.{Verdict, check, onZero, ifSound}
 use Rattle.meaning.proofs.Checking.{sound-check, check-sound}
-use Rattle.store.specs.Answers.{verdictOf}
+use Rattle.store.specs.Answers.{refusalOf, verdictOf}
 use Rattle.store.specs.Holds.{Bracketed, Termed}
+use Rattle.store.specs.declared.Unsound.{Unsound}
 use Rattle.store.specs.declared.Checked.{Checked}
+use Rattle.store.specs.declared.Checked.the-variants as checked
+use Rattle.store.proofs.Refusals.{ifSound-refusal}
 
 pub firstCell-pos : 0 < firstCell
 firstCell-pos = lit< tt
@@ -46,6 +49,15 @@ module _ (F : ℕ) (ws : List ℕ) (top : ℕ) (found : Checked) (q : verdictOf 
 
   pub ifSound-no : {A : Type 0} (x y : A) → zero? ≡ false → ifSound (check F ws top) x y ≡ y
   ifSound-no x y e = onZero-no (check F ws top .status) x y (sound-no e)
+
+  -- the arms of a `match` on the answer: the store is sound
+  pub found-sound : found ≡ checked.Sound → Sound F ws top
+  found-sound e = sound-iff .0 (ap (λ (x : Checked). eqb (verdictOf x .status) 0) e)
+
+  -- or it is refused, and what depends on the check is what the refusal gives
+  pub found-refused : {A : Type 0} {u : Unsound} (x : A) (f : Verdict → A) → found ≡ checked.Refused u
+      → f (refusalOf u) ≡ ifSound (check F ws top) x (f (check F ws top))
+  found-refused {u = u} x f e = rw (← q, e) (sym (ifSound-refusal u x (f (refusalOf u))))
 
 -- a sound store's cells may be read
 module _ (ws : List ℕ) (top : ℕ) (s : Sound firstCell ws top) where

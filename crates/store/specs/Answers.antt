@@ -6,18 +6,24 @@ use Prim.Native.Nat.{ℕ, _+_, _*_, _≤_}
 use lib.ListN.{length}
 use denote.Ref.{RefT}
 use Rattle.meaning.specs.Check.{Verdict, only, Done, done, refused, Span, lookSpan}
+use Rattle.store.specs.declared.Unsound.{Unsound}
+use Rattle.store.specs.declared.Unsound.the-variants as unsound
 use Rattle.store.specs.declared.Checked.{Checked}
 use Rattle.store.specs.declared.Checked.the-variants as checked
 use Rattle.store.specs.declared.Made.{Made}
 use Rattle.store.specs.declared.Made.the-variants as made
 use Rattle.store.specs.declared.Extent.{Extent}
 
--- the check: 0; 1 for the length; 2 for `top`; 3 with the first damaged cell
+-- an unsound store: 1 for the length; 2 for `top`; 3 with the first damaged cell
+abbrev pub refusalOf : Unsound → Verdict
+refusalOf unsound.BadLength = only 1
+refusalOf unsound.BadTop = only 2
+refusalOf (unsound.Damaged c) = record { status = 3; value = c }
+
+-- the check: 0, or why the store is unsound
 abbrev pub verdictOf : Checked → Verdict
 verdictOf checked.Sound = only 0
-verdictOf checked.BadLength = only 1
-verdictOf checked.BadTop = only 2
-verdictOf (checked.Damaged c) = record { status = 3; value = c }
+verdictOf (checked.Refused u) = refusalOf u
 
 -- a fresh store: 0 with its `top`, or 1 with `top` 0; and the words that are left
 abbrev pub madeIn : Made → List ℕ → Done

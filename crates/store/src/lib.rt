@@ -13,12 +13,18 @@ ghost use Rattle.store.specs.Holds.{Bracketed, Termed, RunIs, termIs};
 pub mod cells;
 mod passes;
 
-// What the check finds.
-pub enum Checked {
-    Sound,
+// Why a store is unsound: its length, its `top`, or its first damaged cell. Every answer that may refuse a store holds
+// this as the check found it.
+pub enum Unsound {
     BadLength,
     BadTop,
     Damaged(usize),
+}
+
+// What the check finds.
+pub enum Checked {
+    Sound,
+    Refused(Unsound),
 }
 
 fn length_ok(n: usize) -> bool
@@ -48,11 +54,11 @@ pub fn check(ws: &[u32], top: usize) -> Checked
     ensures { λ r. ⌜ verdictOf r ≡ check firstCell (now (ws .entry)) top ⌝ }
 {
     if !length_ok(ws.len()) {
-        return Checked::BadLength;
+        return Checked::Refused(Unsound::BadLength);
     }
     let cells = ws.len() / 2;
     if !top_ok(top, cells) {
-        return Checked::BadTop;
+        return Checked::Refused(Unsound::BadTop);
     }
     if passes::all_ok(ws, top) {
         return Checked::Sound;
@@ -69,7 +75,7 @@ pub fn check(ws: &[u32], top: usize) -> Checked
             meaning::FIRST_CELL,
             top,
         ) {
-            break Checked::Damaged(c);
+            break Checked::Refused(Unsound::Damaged(c));
         }
         c += 1;
     }
@@ -80,9 +86,7 @@ pub fn is_sound(found: Checked) -> bool
 {
     match found {
         Checked::Sound => true,
-        Checked::BadLength => false,
-        Checked::BadTop => false,
-        Checked::Damaged(_) => false,
+        Checked::Refused(_) => false,
     }
 }
 

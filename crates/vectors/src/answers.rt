@@ -2,6 +2,7 @@
 use calls::Ran;
 use store::Checked;
 use store::Made;
+use store::Unsound;
 
 pub fn made_status(m: Made) -> u64 {
     match m {
@@ -17,30 +18,40 @@ pub fn made_top(m: Made) -> usize {
     }
 }
 
+fn unsound_status(u: Unsound) -> u64 {
+    match u {
+        Unsound::BadLength => 1,
+        Unsound::BadTop => 2,
+        Unsound::Damaged(_) => 3,
+    }
+}
+
+fn unsound_value(u: Unsound) -> u64 {
+    match u {
+        Unsound::BadLength => 0,
+        Unsound::BadTop => 0,
+        Unsound::Damaged(cell) => cell as u64,
+    }
+}
+
 pub fn checked_status(c: Checked) -> u64 {
     match c {
         Checked::Sound => 0,
-        Checked::BadLength => 1,
-        Checked::BadTop => 2,
-        Checked::Damaged(_) => 3,
+        Checked::Refused(why) => unsound_status(why),
     }
 }
 
 pub fn checked_value(c: Checked) -> u64 {
     match c {
         Checked::Sound => 0,
-        Checked::BadLength => 0,
-        Checked::BadTop => 0,
-        Checked::Damaged(cell) => cell as u64,
+        Checked::Refused(why) => unsound_value(why),
     }
 }
 
 pub fn ran_status(r: Ran) -> u64 {
     match r {
         Ran::Ended(_) => 0,
-        Ran::BadLength => 1,
-        Ran::BadTop => 2,
-        Ran::Damaged(_) => 3,
+        Ran::Refused(why) => unsound_status(why),
         Ran::BadCalls => 4,
         Ran::ShortAnswers => 5,
     }
@@ -49,9 +60,7 @@ pub fn ran_status(r: Ran) -> u64 {
 pub fn ran_value(r: Ran) -> u64 {
     match r {
         Ran::Ended(_) => 0,
-        Ran::BadLength => 0,
-        Ran::BadTop => 0,
-        Ran::Damaged(cell) => cell as u64,
+        Ran::Refused(why) => unsound_value(why),
         Ran::BadCalls => 0,
         Ran::ShortAnswers => 0,
     }
@@ -61,9 +70,7 @@ pub fn ran_value(r: Ran) -> u64 {
 pub fn ran_top(r: Ran, top: usize) -> usize {
     match r {
         Ran::Ended(last) => last,
-        Ran::BadLength => top,
-        Ran::BadTop => top,
-        Ran::Damaged(_) => top,
+        Ran::Refused(_) => top,
         Ran::BadCalls => top,
         Ran::ShortAnswers => top,
     }

@@ -6,9 +6,9 @@ use borrow.Author.Needs.{needs}
 use Rattle.capi.proofs.zelmotar_check.Statement.{statement}
 use Rattle.capi.proofs.zelmotar_check.Tie as tie
 
-reply-requires-4 : tie.Need-reply-requires-4
-reply-requires-4 c κs =
-    check-fits firstCell _ _ (rw (c .before .cell .given .1) at (c .before .before .before .check .ensures))
+refuse-requires : tie.Need-refuse-requires
+refuse-requires c κs =
+    check-fits firstCell _ _ (rw (c .before .why .given .1) at (c .before .before .before .check .ensures))
 
 returns : tie.Need-returns
 returns c =
@@ -17,23 +17,12 @@ returns c =
 
 returns-2 : tie.Need-returns-2
 returns-2 c =
-    let found = c .before .before .before .check in
-    rw (c .reply2 .ensures) (rw (c .before .enum-told2 .given .1) at (found .ensures), refl)
-
-returns-3 : tie.Need-returns-3
-returns-3 c =
-    let found = c .before .before .before .check in
-    rw (c .reply3 .ensures) (rw (c .before .enum-told3 .given .1) at (found .ensures), refl)
-
-returns-4 : tie.Need-returns-4
-returns-4 c =
     let found = c .before .before .before .before .check in
-    rw (c .reply4 .ensures) (rw (c .before .before .cell .given .1) at (found .ensures), refl)
+    rw (c .refuse .ensures) (rw (c .before .before .why .given .1) at (found .ensures), refl)
 
 pub zelmotar-check-spec : {M : Type 1} → statement M
 zelmotar-check-spec =
     tie.close
     (tie.spec
-    (λ c κs. search needs) (λ c. search needs) (λ c κs. search needs) (λ c. search needs) (λ c κs. search needs)
-    (λ c. search needs) (λ c κs. search needs) (λ c. search needs) reply-requires-4 returns returns-2 returns-3
-    returns-4)
+    (λ c κs. search needs) (λ c. search needs) (λ c κs. search needs) (λ c. search needs) refuse-requires returns
+    returns-2)

@@ -11,10 +11,10 @@ reply-requires c κs =
     let found = c .before .before .before .before .before .collect in
     collect-fits firstCell _ _ firstCell-pos (rw (c .before .live .given .1) at (found .ensures))
 
-reply-requires-4 : tie.Need-reply-requires-4
-reply-requires-4 c κs =
+refuse-requires : tie.Need-refuse-requires
+refuse-requires c κs =
     let found = c .before .before .before .before .before .collect in
-    collect-fits firstCell _ _ firstCell-pos (rw (c .before .cell .given .1) at (found .ensures))
+    collect-fits firstCell _ _ firstCell-pos (rw (c .before .why .given .1) at (found .ensures))
 
 returns : tie.Need-returns
 returns c =
@@ -23,23 +23,12 @@ returns c =
 
 returns-2 : tie.Need-returns-2
 returns-2 c =
-    let found = c .before .before .before .before .before .collect in
-    rw (c .reply2 .ensures) (rw (c .before .enum-told .given .1) at (found .ensures))
-
-returns-3 : tie.Need-returns-3
-returns-3 c =
-    let found = c .before .before .before .before .before .collect in
-    rw (c .reply3 .ensures) (rw (c .before .enum-told2 .given .1) at (found .ensures))
-
-returns-4 : tie.Need-returns-4
-returns-4 c =
     let found = c .before .before .before .before .before .before .collect in
-    rw (c .reply4 .ensures) (rw (c .before .before .cell .given .1) at (found .ensures))
+    rw (c .refuse .ensures) (rw (c .before .before .why .given .1) at (found .ensures))
 
 pub zelmotar-collect-spec : {M : Type 1} → statement M
 zelmotar-collect-spec =
     tie.close
     (tie.spec
-    (λ c κs. search needs) (λ c. search needs) reply-requires (λ c. search needs) (λ c κs. search needs)
-    (λ c. search needs) (λ c κs. search needs) (λ c. search needs) reply-requires-4 (λ c. search needs) returns
-    (λ c. search needs) returns-2 (λ c. search needs) returns-3 (λ c. search needs) returns-4)
+    (λ c κs. search needs) (λ c. search needs) reply-requires (λ c. search needs) refuse-requires (λ c. search needs)
+    returns (λ c. search needs) returns-2)

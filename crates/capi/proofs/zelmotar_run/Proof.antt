@@ -5,10 +5,10 @@ use borrow.Author.Needs.{needs}
 use Rattle.capi.proofs.zelmotar_run.Statement.{statement}
 use Rattle.capi.proofs.zelmotar_run.Tie as tie
 
-reply-requires-4 : tie.Need-reply-requires-4
-reply-requires-4 c κs =
+refuse-requires : tie.Need-refuse-requires
+refuse-requires c κs =
     let ran = c .before .before .before .before .before .before .before .run in
-    batch-fits firstCell _ _ _ _ (rw (c .before .cell .given .1) at (ran .ensures))
+    batch-fits firstCell _ _ _ _ (rw (c .before .why .given .1) at (ran .ensures))
 
 returns : tie.Need-returns
 returns c =
@@ -17,36 +17,24 @@ returns c =
 
 returns-2 : tie.Need-returns-2
 returns-2 c =
-    let ran = c .before .before .before .before .before .before .before .run in
-    rw (c .reply2 .ensures) (rw (c .before .enum-told .given .1) at (ran .ensures))
+    let ran = c .before .before .before .before .before .before .before .before .run in
+    rw (c .refuse .ensures) (rw (c .before .before .why .given .1) at (ran .ensures))
 
 returns-3 : tie.Need-returns-3
 returns-3 c =
     let ran = c .before .before .before .before .before .before .before .run in
-    rw (c .reply3 .ensures) (rw (c .before .enum-told2 .given .1) at (ran .ensures))
+    rw (c .reply2 .ensures) (rw (c .before .enum-told .given .1) at (ran .ensures))
 
 returns-4 : tie.Need-returns-4
 returns-4 c =
-    let ran = c .before .before .before .before .before .before .before .before .run in
-    rw (c .reply4 .ensures) (rw (c .before .before .cell .given .1) at (ran .ensures))
-
-returns-5 : tie.Need-returns-5
-returns-5 c =
     let ran = c .before .before .before .before .before .before .before .run in
-    rw (c .reply5 .ensures) (rw (c .before .enum-told3 .given .1) at (ran .ensures))
-
-returns-6 : tie.Need-returns-6
-returns-6 c =
-    let ran = c .before .before .before .before .before .before .before .run in
-    rw (c .reply6 .ensures) (rw (c .before .enum-told4 .given .1) at (ran .ensures))
+    rw (c .reply3 .ensures) (rw (c .before .enum-told2 .given .1) at (ran .ensures))
 
 pub zelmotar-run-spec : {M : Type 1} → statement M
 zelmotar-run-spec =
     tie.close
     (tie.spec
-    (λ c κs. search needs) (λ c. search needs) (λ c κs. search needs) (λ c. search needs) (λ c κs. search needs)
-    (λ c. search needs) (λ c κs. search needs) (λ c. search needs) reply-requires-4 (λ c. search needs)
-    (λ c κs. search needs) (λ c. search needs) (λ c κs. search needs) (λ c. search needs) (λ c. search needs) returns
-    (λ c. search needs) (λ c. search needs) returns-2 (λ c. search needs) (λ c. search needs) returns-3
-    (λ c. search needs) (λ c. search needs) returns-4 (λ c. search needs) (λ c. search needs) returns-5
-    (λ c. search needs) (λ c. search needs) returns-6)
+    (λ c κs. search needs) (λ c. search needs) (λ c κs. search needs) (λ c. search needs) refuse-requires
+    (λ c. search needs) (λ c κs. search needs) (λ c. search needs) (λ c κs. search needs) (λ c. search needs)
+    (λ c. search needs) returns (λ c. search needs) (λ c. search needs) returns-2 (λ c. search needs)
+    (λ c. search needs) returns-3 (λ c. search needs) (λ c. search needs) returns-4)

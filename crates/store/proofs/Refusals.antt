@@ -1,0 +1,37 @@
+-- An unsound store's refusal: it is got back from its numbers, and its number is 1, 2 or 3.
+-- Assumes nothing.
+use mathlib.Core.Path.{_≡_, refl}
+use mathlib.Core.Bool.{false}
+use Prim.Native.Nat.{ℕ, zero, suc, _-_}
+use lib.Dec.{eqb}
+use Rattle.meaning.specs.Check.{Verdict, onZero, ifSound}
+use Rattle.store.specs.Answers.{refusalOf}
+use Rattle.store.specs.declared.Unsound.{Unsound}
+use Rattle.store.specs.declared.Unsound.the-variants as unsound
+
+-- by the status less one, with the value
+abbrev numbered : ℕ → ℕ → Unsound
+numbered zero v = unsound.BadLength
+numbered (suc zero) v = unsound.BadTop
+numbered (suc (suc s)) v = unsound.Damaged v
+
+abbrev pub unsoundOf : Verdict → Unsound
+unsoundOf v = numbered (v .status - 1) (v .value)
+
+pub unsoundOf-back : (u : Unsound) → unsoundOf (refusalOf u) ≡ u
+unsoundOf-back unsound.BadLength = refl
+unsoundOf-back unsound.BadTop = refl
+unsoundOf-back (unsound.Damaged c) = refl
+
+-- what is said of 1, 2 and 3 is said of the refusal's status
+pub refusal-by : {A : Type 0} (f : ℕ → A) (y : A) → f 1 ≡ y → f 2 ≡ y → f 3 ≡ y → (u : Unsound)
+    → f (refusalOf u .status) ≡ y
+refusal-by f y p q r unsound.BadLength = p
+refusal-by f y p q r unsound.BadTop = q
+refusal-by f y p q r (unsound.Damaged c) = r
+
+pub refusal-positive : (u : Unsound) → eqb (refusalOf u .status) 0 ≡ false
+refusal-positive = refusal-by (λ (s : ℕ). eqb s 0) false refl refl refl
+
+pub ifSound-refusal : {A : Type 0} (u : Unsound) (x y : A) → ifSound (refusalOf u) x y ≡ y
+ifSound-refusal u x y = refusal-by (λ (s : ℕ). onZero s x y) y refl refl refl u
