@@ -19,7 +19,7 @@ use Rattle.meaning.specs.Check.{Verdict, only, done, refused, lengthTest, check
 use Rattle.meaning.specs.Check.{look}
 use Rattle.meaning.specs.Call.{fault, opAt, step}
 use Rattle.meaning.specs.Effect.{Effect, facts, effect, after, answer, callStatus}
-use Rattle.meaning.specs.Batch.{Outcome, asLent, ended, batchOf, callsTest, batch}
+use Rattle.meaning.specs.Batch.{Outcome, asLent, ended, batchOf, callsTest, batch, runs as calling}
 use Rattle.meaning.proofs.Looking.{look-none, look-empty, look-size, look-word, look-unsound}
 use Rattle.meaning.proofs.Checking.{sound, check-sound, sound-check}
 use Rattle.meaning.proofs.Fresh.{fresh-sound, fresh-empty}
