@@ -1,8 +1,6 @@
 -- Laws that belong to no one function, for this crate's proofs and its callers'. In order:
---   Copying  a run copied cell by cell
---   Runs     two runs laid one after the other
---   Rooms    the rule for room, whatever the store is in which it is sought
+--   Runs   two runs laid one after the other
+--   Rooms  the rule for room, whatever the store is in which it is sought
 -- Assumes nothing.
-mod Copying
 mod Runs
 pub mod Rooms

@@ -14,10 +14,10 @@ use Rattle.meaning.specs.Reach.{live}
 use Rattle.meaning.specs.Collected.{collected, collectedTop}
 use Rattle.meaning.specs.Check.{Done, refused, only, size}
 use Rattle.meaning.specs.Call.{withRoom}
-use Rattle.meaning.proofs.Reaching.{live-le}
-use Rattle.meaning.proofs.Collecting.{collected-sound, length-collected, meaning-kept}
-use Rattle.meaning.proofs.Stepping.{size-terms}
-use Rattle.meaning.proofs.Plans.{as-it-is, once-collected}
+use Rattle.meaning.proofs.reach.Reaching.{live-le}
+use Rattle.meaning.proofs.collected.Collecting.{collected-sound, length-collected, meaning-kept}
+use Rattle.meaning.proofs.effect.Stepping.{size-terms}
+use Rattle.meaning.proofs.call.Plans.{as-it-is, once-collected}
 use Rattle.store.proofs.Sounds.{firstCell-pos}
 use Rattle.build.specs.Room.{RoomMade, Sought, Roomy, roomThen}
 use Rattle.build.specs.declared.room.Room.{Room}

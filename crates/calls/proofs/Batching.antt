@@ -12,7 +12,7 @@ use Rattle.meaning.specs.Limits.{firstCell, callsLimit}
 use Rattle.meaning.specs.Sound.{Sound}
 use Rattle.meaning.specs.Check.{Verdict, only, check}
 use Rattle.meaning.specs.Batch.{runs, asLent, ended, callsTest, batchOf, batch}
-use Rattle.meaning.proofs.Checking.{sound-check}
+use Rattle.meaning.proofs.check.Checking.{sound-check}
 use Rattle.store.specs.Answers.{refusalOf, verdictOf}
 use Rattle.store.specs.declared.Unsound.{Unsound}
 use Rattle.store.specs.declared.Checked.{Checked}

@@ -10,8 +10,8 @@ use Rattle.meaning.specs.Limits.{firstCell}
 use Rattle.meaning.specs.Sound.{Sound}
 use Rattle.meaning.specs.Check.{Done}
 use Rattle.meaning.specs.Batch.{Ran, runs}
-use Rattle.meaning.proofs.Steps.{step-meets}
-use Rattle.meaning.proofs.Batches.{fours, runs-cut}
+use Rattle.meaning.proofs.effect.Steps.{step-meets}
+use Rattle.meaning.proofs.batch.Batches.{fours, runs-cut}
 use Rattle.store.proofs.Sounds.{firstCell-pos}
 use Rattle.calls.specs.Answers.{steppedIn}
 use Rattle.calls.specs.Calling.{callAt, Called, ranTo}

@@ -20,14 +20,14 @@ use Rattle.meaning.specs.Limits.{firstCell}
 use Rattle.meaning.specs.Sound as S
 use Rattle.meaning.specs.Reach.{reached, live}
 use Rattle.meaning.specs.Collected.{mapEnds, newAddress, collected, collectedTop}
-use Rattle.meaning.proofs.Cells.{words-of-cells}
-use Rattle.meaning.proofs.Determined.{new-last, is-collected}
+use Rattle.meaning.proofs.sound.Cells.{words-of-cells}
+use Rattle.meaning.proofs.collected.Determined.{new-last, is-collected}
 use Rattle.collect.specs.Cells.{Cell, cell, val, mk}
 use Rattle.collect.specs.Chain.{Heap, full, holder, Proper, place, placedCell}
 use Rattle.collect.specs.Step.{lowered}
 use Rattle.collect.specs.Passes.{fullWord, Sweeping, Sweeps, Layable, Lowerable, Lowers, Settleable}
 use Rattle.collect.specs.Passes.{Settles, Cleared}
-use Rattle.meaning.proofs.Fields.{Fields, cell-fields, ends-in}
+use Rattle.meaning.proofs.sound.Fields.{Fields, cell-fields, ends-in}
 use Rattle.collect.proofs.Order.{holder-full}
 use Rattle.collect.proofs.Places.{new-bound, place-own, place-packed, place-up}
 use Rattle.collect.proofs.Swept.{swept-place, swept-free, place-onto}

@@ -18,15 +18,15 @@ use Rattle.meaning.specs.Sound as S
 use Rattle.meaning.specs.Reach.{Between, Reached, byRegister, byBracket, reached}
 use Rattle.meaning.specs.Collected.{newAddress}
 use Rattle.meaning.proofs.Lists.{In}
-use Rattle.meaning.proofs.Cells.{limit-fits, good}
-use Rattle.meaning.proofs.Reaching.{or-left, or-right, or-cases, reached-heap, listed-iff}
-use Rattle.meaning.proofs.Determined.{new-first, new-after, new-skip}
+use Rattle.meaning.proofs.sound.Cells.{limit-fits, good}
+use Rattle.meaning.proofs.reach.Reaching.{or-left, or-right, or-cases, reached-heap, listed-iff}
+use Rattle.meaning.proofs.collected.Determined.{new-first, new-after, new-skip}
 use Rattle.collect.specs.Cells.{cell}
 use Rattle.collect.specs.Chain.{Heap, holder, Proper, oldCell, SweptTo}
 use Rattle.collect.specs.Passes.{fullWord, Begun}
-use Rattle.meaning.proofs.Fields.{Fields, cell-fields, cell-ends, cell-plain, full-ends, ends-full, ends-in}
-use Rattle.meaning.proofs.Fields.{ends-down}
-use Rattle.collect.proofs.Counting.{both-true}
+use Rattle.meaning.proofs.sound.Fields.{Fields, cell-fields, cell-ends, cell-plain, full-ends, ends-full, ends-in}
+use Rattle.meaning.proofs.sound.Fields.{ends-down}
+use Rattle.meaning.proofs.Counting.{both-true}
 use Rattle.collect.proofs.Spots.{last-zero, whole-l, ahead-r, spot-ahead}
 
 -- ---- whether a number is in a list

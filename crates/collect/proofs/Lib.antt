@@ -1,5 +1,4 @@
 -- Laws that belong to no one function, for this crate's proofs and its callers'. In order:
---   Counting   the count of cells below an address that are in a set
 --   Order      the order of the sweep
 --   Places     where it puts the cells
 --   Spots      the cells' fields, and where they stand
@@ -13,10 +12,8 @@
 --   Lowered    a cell's words, and a placed cell lowered
 --   Compacted  the passes one after the other, and the collected words
 --   Restored   the sweep that packs nothing
---   Alone      collecting alone, by the answer of the check
 --   Final      collecting's statement leaves no second outcome
 -- Assumes nothing.
-pub mod Counting
 pub mod Order
 pub mod Places
 pub mod Spots
@@ -30,5 +27,4 @@ pub mod Puts
 pub mod Lowered
 pub mod Compacted
 pub mod Restored
-pub mod Alone
 pub mod Final

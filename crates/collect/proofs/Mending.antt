@@ -12,7 +12,7 @@ use lib.Dec.{leb}
 use borrow.Author.Tests.{le-ltb, lt-leb, le-leb}
 use Rattle.collect.specs.Cells.{val}
 use Rattle.collect.specs.Chain.{Heap, pos, place, span, last, mended, heldL, heldR}
-use Rattle.collect.proofs.Counting.{leb-suc}
+use Rattle.meaning.proofs.Counting.{leb-suc}
 
 module _ (g : Heap) (j : ℕ) where
   pub mended-same : (x c : ℕ) → pos g c ≢ x → mended g j (suc x) c ≡ mended g j x c

@@ -14,7 +14,7 @@ use native.Mathlib.Decide.{decLt}
 use lib.Dec.{ltb, eqb}
 use borrow.Author.Tests.{lt-ltb, le-ltb}
 use Rattle.collect.specs.Chain.{Heap, full, holder, Proper, pos, turn}
-use Rattle.collect.proofs.Counting.{both-true}
+use Rattle.meaning.proofs.Counting.{both-true}
 
 -- ---- the order
 

@@ -13,8 +13,8 @@ use Rattle.meaning.specs.Limits.{firstCell}
 use Rattle.meaning.specs.Sound as S
 use Rattle.meaning.specs.Reach.{live}
 use Rattle.meaning.specs.Collected.{collectedTop}
-use Rattle.meaning.proofs.Determined.{new-last}
-use Rattle.meaning.proofs.Fields.{second-lt}
+use Rattle.meaning.proofs.collected.Determined.{new-last}
+use Rattle.meaning.proofs.sound.Fields.{second-lt}
 use Rattle.collect.specs.Cells.{Cell, cell}
 use Rattle.collect.specs.Chain.{Heap}
 use Rattle.collect.specs.Passes.{Sweeps}

@@ -15,7 +15,7 @@ use borrow.Author.Tests.{eqb-true, lt-ltb, le-ltb, eq-eqb, ne-eqb}
 use Rattle.collect.specs.Cells.{Link, val, ptr}
 use Rattle.collect.specs.Chain.{Heap, holder, Proper, pos, turn, place, last, heldL, heldR, sweepL, sweepR}
 use Rattle.collect.specs.Chain.{spot, Stands}
-use Rattle.collect.proofs.Counting.{both-true}
+use Rattle.meaning.proofs.Counting.{both-true}
 use Rattle.collect.proofs.Order.{pos-heap, turn-pos}
 use Rattle.collect.proofs.Places.{place-own, place-up, place-less}
 

@@ -16,7 +16,7 @@ use borrow.Author.Tests.{eqb-true, lt-ltb, le-ltb, lt-leb}
 use Rattle.collect.specs.Cells.{Cell, val}
 use Rattle.collect.specs.Chain.{Heap, holder, Proper, pos, turn, place, span, last, mended}
 use Rattle.collect.specs.Chain.{sweepCell, oldCell, placedCell, SweptTo}
-use Rattle.collect.proofs.Counting.{both-true}
+use Rattle.meaning.proofs.Counting.{both-true}
 use Rattle.collect.proofs.Order.{pos-low, pos-free}
 use Rattle.collect.proofs.Places.{place-packed, place-kept, place-run}
 use Rattle.collect.proofs.Spots.{holds, last-zero, last-miss, past-l, past-r, other-l, other-r, whole-l, ahead-r}

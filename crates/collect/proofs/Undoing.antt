@@ -17,7 +17,7 @@ use Rattle.collect.specs.Cells.{Cell, val}
 use Rattle.collect.specs.Chain.{Heap, holder, Proper, pos, turn, place, span, last, mended}
 use Rattle.collect.specs.Chain.{sweepL, sweepCell, oldCell, spot, Stands, SweptTo, Known}
 use Rattle.collect.specs.Step.{Unlinked}
-use Rattle.collect.proofs.Counting.{both-true}
+use Rattle.meaning.proofs.Counting.{both-true}
 use Rattle.collect.proofs.Order.{turn-pos, pos-turn, pos-other, pos-holder, holder-live, ri-other, ri-live}
 use Rattle.collect.proofs.Places.{place-own, place-up, place-run}
 use Rattle.collect.proofs.Spots.{holds, last-miss, ahead-r, next-l, later-l, past-l, past-r}

@@ -6,12 +6,12 @@ use Rattle.promises.specs.Collecting.{LiveCounts, CollectingGathers}
 use Rattle.promises.specs.Calls.{CallsDo, CallsAnswer, BatchesRun}
 use Rattle.promises.specs.Alike.{AlikeIsCollected, CollectionsNeverShow}
 use Rattle.promises.specs.Unique.{OneAnswer, OneCheck, OneFresh, OneCollected, OneLook, OneCollect, OneBatch}
-use Rattle.promises.proofs.Tables as tables
-use Rattle.promises.proofs.Gathering as gathering
-use Rattle.promises.proofs.Calling as calling
-use Rattle.promises.proofs.Alikes as alikes
-use Rattle.promises.proofs.Struck as struck
-use Rattle.promises.proofs.Once as once
+use Rattle.promises.proofs.table.Tables as tables
+use Rattle.promises.proofs.collecting.Keeping as gathering
+use Rattle.promises.proofs.calls.Calling as calling
+use Rattle.promises.proofs.alike.Alikes as alikes
+use Rattle.promises.proofs.alike.Striking as struck
+use Rattle.promises.proofs.unique.Outcomes as once
 
 -- ---- demand 1
 

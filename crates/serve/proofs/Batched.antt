@@ -13,8 +13,8 @@ use Rattle.meaning.specs.Check.{Done, done, lengthTest, fresh, freshIn}
 use Rattle.meaning.specs.Batch.{Ran, runs, Outcome, ended, callsTest, batchOf, batch}
 use Rattle.meaning.specs.Call.{step}
 use Rattle.meaning.specs.Program.{linesOf, written, served}
-use Rattle.meaning.proofs.Fresh.{fresh-sound}
-use Rattle.meaning.proofs.Checking.{sound-check}
+use Rattle.meaning.proofs.check.Fresh.{fresh-sound}
+use Rattle.meaning.proofs.check.Checking.{sound-check}
 use Rattle.serve.specs.Lines.{topLine}
 use Rattle.serve.specs.Lent.{Lent, Served, programAnswers}
 use Rattle.store.specs.Answers.{madeIn}

@@ -12,7 +12,7 @@ use Rattle.words.proofs.Plain.{decode-zero, decode-bracket}
 use Rattle.meaning.specs.Limits.{limit}
 use Rattle.meaning.specs.Sound.{Cell, code, hollow, ends, at, IsBracket, isEmpty, isFull, IsTerm, isSymbol, isBracket}
 use Rattle.meaning.specs.Check.{start, size}
-use Rattle.meaning.proofs.Cells.{limit-fits, read, read-ends}
+use Rattle.meaning.proofs.sound.Cells.{limit-fits, read, read-ends}
 use Rattle.store.specs.Holds.{RunIs, isCode, termIs}
 use Rattle.store.specs.declared.Run.{Run}
 use Rattle.store.specs.declared.Term.{Term}

@@ -9,8 +9,8 @@ use lib.Dec.{eqb}
 use lib.ListN.{length}
 use Rattle.meaning.specs.Sound.{at, Sound}
 use Rattle.meaning.specs.Check.{start, size, check, spanOf, lookSpan}
-use Rattle.meaning.proofs.Looking.{span-register, run-fits}
-use Rattle.meaning.proofs.Looking as looking
+use Rattle.meaning.proofs.check.Looking.{span-register, run-fits}
+use Rattle.meaning.proofs.check.Looking as looking
 use Rattle.store.specs.Answers.{verdictOf}
 use Rattle.store.specs.declared.Checked.{Checked}
 use Rattle.store.proofs.Sounds.{ifSound-no}

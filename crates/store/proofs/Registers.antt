@@ -8,7 +8,7 @@ use lib.ListN.{length}
 use Rattle.meaning.specs.Limits.{firstCell}
 use Rattle.meaning.specs.Sound.{Cell, code, hollow, ends, at, Sound}
 use Rattle.meaning.specs.Check.{start, size}
-use Rattle.meaning.proofs.Cells.{BracketIn, good}
+use Rattle.meaning.proofs.sound.Cells.{BracketIn, good}
 use Rattle.store.specs.Holds.{Bracketed, RunIs}
 use Rattle.store.specs.declared.Run.{Run}
 use Rattle.store.proofs.Sounds.{firstCell-pos, register-bracketed, register-inside}

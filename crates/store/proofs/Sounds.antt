@@ -12,7 +12,7 @@ use borrow.Author.Tests.{eqb-true, eqb-false, eq-eqb}
 use Rattle.meaning.specs.Limits.{firstCell, limit}
 use Rattle.meaning.specs.Sound.{Sound}
 use Rattle.meaning.specs.Check.{Verdict, check, onZero, ifSound}
-use Rattle.meaning.proofs.Checking.{sound-check, check-sound}
+use Rattle.meaning.proofs.check.Checking.{sound-check, check-sound}
 use Rattle.store.specs.Answers.{refusalOf, verdictOf}
 use Rattle.store.specs.Holds.{Bracketed, Termed}
 use Rattle.store.specs.declared.Unsound.{Unsound}

@@ -1,6 +1,6 @@
 -- `capi::reply` meets its contract. Assumes nothing.
 use native.Mathlib.Omega.{arith}
-use Rattle.meaning.proofs.Cells.{limit-fits}
+use Rattle.meaning.proofs.sound.Cells.{limit-fits}
 use borrow.Author.Needs.{needs}
 use Rattle.capi.proofs.reply.Statement.{statement}
 use Rattle.capi.proofs.reply.Tie as tie

@@ -1,7 +1,7 @@
 -- `capi::zelmotar_check` meets its contract. Assumes nothing.
 use mathlib.Core.Path.{refl}
 use Rattle.meaning.specs.Limits.{firstCell}
-use Rattle.capi.proofs.Fits.{check-fits}
+use Rattle.meaning.proofs.batch.Fits.{check-fits}
 use borrow.Author.Needs.{needs}
 use Rattle.capi.proofs.zelmotar_check.Statement.{statement}
 use Rattle.capi.proofs.zelmotar_check.Tie as tie

@@ -1,7 +1,7 @@
 -- `capi::zelmotar_collect` meets its contract. Assumes nothing.
 use Rattle.meaning.specs.Limits.{firstCell}
 use Rattle.store.proofs.Sounds.{firstCell-pos}
-use Rattle.capi.proofs.Fits.{collect-fits}
+use Rattle.meaning.proofs.batch.Fits.{collect-fits}
 use borrow.Author.Needs.{needs}
 use Rattle.capi.proofs.zelmotar_collect.Statement.{statement}
 use Rattle.capi.proofs.zelmotar_collect.Tie as tie

@@ -1,6 +1,6 @@
 -- `capi::zelmotar_run` meets its contract. Assumes nothing.
 use Rattle.meaning.specs.Limits.{firstCell}
-use Rattle.capi.proofs.Fits.{batch-fits}
+use Rattle.meaning.proofs.batch.Fits.{batch-fits}
 use borrow.Author.Needs.{needs}
 use Rattle.capi.proofs.zelmotar_run.Statement.{statement}
 use Rattle.capi.proofs.zelmotar_run.Tie as tie

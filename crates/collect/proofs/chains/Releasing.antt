@@ -12,12 +12,12 @@ use lib.ListN.{length}
 use Rattle.words.specs.Cell.{firstWord, secondWord, putCell}
 use Rattle.words.specs.Second.{Second, decode, withRi, withRc, withLc, bit}
 use Rattle.words.proofs.Cells.{putCell-length, firstWord-other, secondWord-same, secondWord-other}
-use Rattle.meaning.proofs.Cells.{limit-fits}
+use Rattle.meaning.proofs.sound.Cells.{limit-fits}
 use Rattle.collect.specs.Cells.{Link, Cell, linked, cell, val, mk}
 use Rattle.collect.specs.Chain.{Heap, holder, pos, place, span, last, sweepCell, SweptTo}
 use Rattle.collect.specs.Step.{Unlinked}
 use Rattle.collect.specs.Passes.{Turn, MyTurn, Releases}
-use Rattle.collect.proofs.Counting.{count, count-same, count-less-one}
+use Rattle.meaning.proofs.Counting.{count, count-same, count-less-one}
 use Rattle.collect.proofs.Places.{place-up}
 use Rattle.collect.proofs.Spots.{next-l, spot-ahead}
 use Rattle.collect.proofs.Undoing.{Undone, chain-head, chain-end, unlink-hit, unlink-apart, unlink-low}

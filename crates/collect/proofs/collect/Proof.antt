@@ -1,7 +1,7 @@
 -- `collect` meets its contract: the check decides, and only a sound store is collected. Assumes nothing.
 use Rattle.meaning.specs.Limits.{firstCell}
 use Rattle.store.proofs.Sounds.{found-sound}
-use Rattle.collect.proofs.Alone.{refuses, alone-done, top-low}
+use Rattle.store.proofs.Alone.{refuses, alone-done, top-low}
 use borrow.Author.Needs.{needs}
 use Rattle.collect.proofs.collect.Statement.{statement}
 use Rattle.collect.proofs.collect.Tie as tie

@@ -4,7 +4,7 @@ use mathlib.Core.Bool.{true}
 use mathlib.Core.Path.{refl, _∙_}
 use native.Mathlib.Omega.{arith}
 use Rattle.meaning.specs.Limits.{firstCell}
-use Rattle.meaning.proofs.Cells.{limit-fits}
+use Rattle.meaning.proofs.sound.Cells.{limit-fits}
 use Rattle.collect.proofs.Heaps.{begun}
 use Rattle.collect.proofs.Compacted.{gone, top-is, lowerable, settleable, compacted, not-lowered}
 use Rattle.collect.proofs.gather.Statement.{statement}

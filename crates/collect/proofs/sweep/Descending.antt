@@ -13,7 +13,7 @@ use borrow.Author.Tests.{lt-leb, ltb-true}
 use Rattle.words.specs.Cell.{secondWord}
 use Rattle.words.specs.Second.{decode}
 use Rattle.meaning.specs.Limits.{firstCell}
-use Rattle.meaning.proofs.Cells.{limit-fits}
+use Rattle.meaning.proofs.sound.Cells.{limit-fits}
 use Rattle.collect.specs.Cells.{cell}
 use Rattle.collect.specs.Chain.{Heap, holder, Proper, pos, mended, Known}
 use Rattle.collect.specs.Passes.{Sweeping, HoldsRegisters, Head, AtHead, Passes, Begun, Sweeps}

@@ -13,7 +13,7 @@ use native.Mathlib.Decide.{ℕ-discrete}
 use lib.ListN.{length}
 use Rattle.words.specs.Cell.{secondWord}
 use Rattle.words.specs.Second.{decode}
-use Rattle.meaning.proofs.Cells.{limit-fits}
+use Rattle.meaning.proofs.sound.Cells.{limit-fits}
 use Rattle.collect.specs.Cells.{Link, Cell, cell}
 use Rattle.collect.specs.Chain.{Heap, holder, Proper, pos, place, last, mended, sweepCell, Known}
 use Rattle.collect.specs.Passes.{Sweeping, Turn, MyTurn, Turned, Head, AtHead, Passes}

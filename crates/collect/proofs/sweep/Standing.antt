@@ -13,7 +13,7 @@ use borrow.Author.Tests.{lt-ltb, le-ltb}
 use Rattle.words.specs.Cell.{firstWord, secondWord, putCell}
 use Rattle.words.specs.Second.{decode}
 use Rattle.meaning.specs.Limits.{firstCell}
-use Rattle.meaning.proofs.Cells.{limit-fits}
+use Rattle.meaning.proofs.sound.Cells.{limit-fits}
 use Rattle.collect.specs.Cells.{Link, Cell, linked, cell, ptr}
 use Rattle.collect.specs.Chain.{Heap, full, holder, Proper, pos, turn, place, last, sweepCell, oldCell, SweptTo}
 use Rattle.collect.specs.Step.{Linked, Laid}

@@ -2,7 +2,7 @@
 use native.Mathlib.Omega.{arith}
 use Rattle.meaning.specs.Limits.{programCells, programBytes}
 use Rattle.serve.proofs.Spacing.{refusal-short}
-use Rattle.serve.proofs.Tests.{too-short, too-small, too-large, too-long, broken, right}
+use Rattle.meaning.proofs.program.Tests.{too-short, too-small, too-large, too-long, broken, right}
 use borrow.Author.Needs.{needs}
 use Rattle.serve.proofs.serve.Statement.{statement}
 use Rattle.serve.proofs.serve.Tie as tie

@@ -6,7 +6,7 @@ use native.Mathlib.Omega.{arith}
 use lib.ListN.{length, take, length-set}
 use Rattle.meaning.specs.Limits.{firstCell}
 use Rattle.meaning.specs.Check.{hollows}
-use Rattle.store.proofs.Hollow.{one-more}
+use Rattle.meaning.proofs.check.Making.{one-more}
 use Rattle.store.proofs.empty_registers.Statement.{statement}
 use Rattle.store.proofs.empty_registers.Tie as tie
 

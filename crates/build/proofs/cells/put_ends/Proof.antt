@@ -2,7 +2,7 @@
 use native.Mathlib.Omega.{arith}
 use borrow.Author.Needs.{needs}
 use Rattle.meaning.specs.Call.{put}
-use Rattle.meaning.proofs.Cells.{limit-fits}
+use Rattle.meaning.proofs.sound.Cells.{limit-fits}
 use Rattle.build.proofs.cells.put_ends.Statement.{statement}
 use Rattle.build.proofs.cells.put_ends.Tie as tie
 

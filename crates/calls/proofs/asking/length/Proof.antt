@@ -2,7 +2,7 @@
 use mathlib.Core.Path.{_∙_}
 use native.Mathlib.Omega.{arith}
 use borrow.Author.Needs.{needs}
-use Rattle.meaning.proofs.Cells.{limit-fits}
+use Rattle.meaning.proofs.sound.Cells.{limit-fits}
 use Rattle.store.proofs.Registers.{readable, run-below}
 use Rattle.calls.proofs.asking.length.Statement.{statement}
 use Rattle.calls.proofs.asking.length.Tie as tie

@@ -3,8 +3,8 @@ use mathlib.Core.Path.{_∙_}
 use native.Mathlib.Omega.{arith}
 use borrow.Author.Needs.{needs}
 use Rattle.meaning.specs.Limits.{firstCell}
-use Rattle.meaning.proofs.Cells.{limit-fits}
-use Rattle.meaning.proofs.Reaching.{live-le}
+use Rattle.meaning.proofs.sound.Cells.{limit-fits}
+use Rattle.meaning.proofs.reach.Reaching.{live-le}
 use Rattle.store.proofs.Sounds.{firstCell-pos}
 use Rattle.calls.proofs.asking.live.Statement.{statement}
 use Rattle.calls.proofs.asking.live.Tie as tie

@@ -7,7 +7,7 @@ use borrow.Author.Needs.{needs}
 use Rattle.meaning.specs.Limits.{firstCell}
 use Rattle.meaning.specs.Call.{sought}
 use Rattle.store.proofs.Registers.{readable, run-below}
-use Rattle.calls.proofs.Joining.{join-first-empty, join-second-empty, join-neither-empty}
+use Rattle.meaning.proofs.call.Joining.{join-first-empty, join-second-empty, join-neither-empty}
 use Rattle.calls.proofs.building.join.Statement.{statement}
 use Rattle.calls.proofs.building.join.Tie as tie
 

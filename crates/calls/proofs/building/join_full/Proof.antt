@@ -4,7 +4,7 @@ use native.Mathlib.Omega.{arith}
 use borrow.Author.Needs.{needs}
 use Rattle.meaning.specs.Limits.{firstCell}
 use Rattle.meaning.specs.Call.{newRun}
-use Rattle.meaning.proofs.Plans.{sought-meaning}
+use Rattle.meaning.proofs.call.Plans.{sought-meaning}
 use Rattle.store.proofs.Sounds.{firstCell-pos}
 use Rattle.store.proofs.Registers.{run-below}
 use Rattle.build.proofs.Rooms.{room-roomy, room-does, room-refuses, room-size}

@@ -5,7 +5,7 @@ use native.Mathlib.Omega.{arith}
 use borrow.Author.Needs.{needs}
 use Rattle.meaning.specs.Limits.{firstCell}
 use Rattle.meaning.specs.Reach.{live}
-use Rattle.meaning.proofs.Cells.{limit-fits}
+use Rattle.meaning.proofs.sound.Cells.{limit-fits}
 use Rattle.build.proofs.Rooms.{low-live, live-small}
 use Rattle.calls.proofs.collecting.gather.Statement.{statement}
 use Rattle.calls.proofs.collecting.gather.Tie as tie

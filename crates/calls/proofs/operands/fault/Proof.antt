@@ -9,7 +9,7 @@ use borrow.Author.Tests.{lt-ltb, le-ltb}
 use borrow.Author.Needs.{needs}
 use Rattle.meaning.specs.Limits.{firstCell}
 use Rattle.meaning.specs.Call.{uses, wrong11, wrong12, wrong13, fault}
-use Rattle.calls.proofs.Table.{rows, three, three-read}
+use Rattle.meaning.proofs.call.Table.{rows, three, three-read}
 use Rattle.calls.proofs.operands.fault.Statement.{statement}
 use Rattle.calls.proofs.operands.fault.Tie as tie
 

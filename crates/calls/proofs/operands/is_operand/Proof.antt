@@ -3,7 +3,7 @@ use mathlib.Core.Path.{sym, _∙_}
 use native.Mathlib.Omega.{arith}
 use borrow.Author.Needs.{needs}
 use Rattle.meaning.specs.Call.{uses}
-use Rattle.calls.proofs.Table.{by-first, by-second}
+use Rattle.meaning.proofs.call.Table.{by-first, by-second}
 use Rattle.calls.proofs.operands.is_operand.Statement.{statement}
 use Rattle.calls.proofs.operands.is_operand.Tie as tie
 

@@ -6,10 +6,10 @@ use borrow.Author.Needs.{needs}
 use Rattle.meaning.specs.Limits.{firstCell}
 use Rattle.meaning.specs.Sound.{Sound}
 use Rattle.meaning.specs.Call.{SYMBOL, WRAP, JOIN, uses, useD, useA, useB, opAt, ops, planOf, carry, perform}
-use Rattle.meaning.proofs.Again.{live-kept}
-use Rattle.meaning.proofs.Uses.{keeps-operand, keeps-a, keeps-b}
+use Rattle.meaning.proofs.collected.Again.{live-kept}
+use Rattle.meaning.proofs.call.Uses.{keeps-operand, keeps-a, keeps-b}
 use Rattle.store.proofs.Sounds.{firstCell-pos}
-use Rattle.calls.proofs.Performing.{d-register, a-register, b-register, collects}
+use Rattle.meaning.proofs.call.Performing.{d-register, a-register, b-register, collects}
 use Rattle.calls.proofs.step.perform.Statement.{statement}
 use Rattle.calls.proofs.step.perform.Tie as tie
 

@@ -1,7 +1,7 @@
 -- `calls::step::step` meets its contract. Assumes nothing.
 use mathlib.Core.Path.{sym, _∙_}
 use borrow.Author.Needs.{needs}
-use Rattle.calls.proofs.Performing.{step-refused, step-performed}
+use Rattle.meaning.proofs.call.Performing.{step-refused, step-performed}
 use Rattle.calls.proofs.step.step.Statement.{statement}
 use Rattle.calls.proofs.step.step.Tie as tie
 

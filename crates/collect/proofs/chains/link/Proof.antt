@@ -1,7 +1,7 @@
 -- `chains::link` puts a bracket at the head of the chain of its right end. Assumes nothing.
 use borrow.Author.Needs.{needs}
 use native.Mathlib.Omega.{arith}
-use Rattle.meaning.proofs.Cells.{limit-fits}
+use Rattle.meaning.proofs.sound.Cells.{limit-fits}
 use Rattle.collect.proofs.chains.Linking.{link-words}
 use Rattle.collect.proofs.chains.link.Statement.{statement}
 use Rattle.collect.proofs.chains.link.Tie as tie

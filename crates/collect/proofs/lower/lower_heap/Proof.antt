@@ -3,7 +3,7 @@ use borrow.Author.Needs.{needs}
 use Prim.Native.Nat.{_-_}
 use native.Mathlib.Omega.{arith}
 use Rattle.meaning.specs.Limits.{firstCell}
-use Rattle.meaning.proofs.Cells.{limit-fits}
+use Rattle.meaning.proofs.sound.Cells.{limit-fits}
 use Rattle.collect.proofs.lower.Lowering.{Lowering, lowering-start, lowering-lay, lowering-again, heap-lowered}
 use Rattle.collect.proofs.lower.lower_heap.Statement.{statement}
 use Rattle.collect.proofs.lower.lower_heap.Tie as tie

@@ -3,7 +3,7 @@ use mathlib.Core.Bool.{false≢true}
 use borrow.Author.Needs.{needs}
 use borrow.Author.Tests.{not-false}
 use Rattle.meaning.specs.Limits.{firstCell}
-use Rattle.store.proofs.Gathered.{all-keep}
+use Rattle.store.proofs.Damage.{all-keep}
 use Rattle.store.proofs.passes.all_ok.Statement.{statement}
 use Rattle.store.proofs.passes.all_ok.Tie as tie
 

@@ -6,7 +6,7 @@ use native.Mathlib.Omega.{arith}
 use lib.ListN.{length, getD}
 use borrow.Author.Tests.{eqb-true}
 use Rattle.meaning.specs.Limits.{firstCell}
-use Rattle.store.proofs.Gathered.{Clear, clear-none, clear-more, free-keep}
+use Rattle.store.proofs.Damage.{Clear, clear-none, clear-more, free-keep}
 use Rattle.store.proofs.passes.free_ok.Statement.{statement}
 use Rattle.store.proofs.passes.free_ok.Tie as tie
 

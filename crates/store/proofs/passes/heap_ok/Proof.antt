@@ -6,7 +6,7 @@ use borrow.Author.Needs.{needs}
 use borrow.Author.Tests.{eqb-true}
 use Rattle.meaning.specs.Limits.{firstCell}
 use Rattle.store.specs.Passing.{Keeps}
-use Rattle.store.proofs.Gathered.{Clear, clear-none, clear-more, heap-keeps}
+use Rattle.store.proofs.Damage.{Clear, clear-none, clear-more, heap-keeps}
 use Rattle.store.proofs.passes.heap_ok.Statement.{statement}
 use Rattle.store.proofs.passes.heap_ok.Tie as tie
 

@@ -1,0 +1,63 @@
+-- The values that come back are cells of a store or their number: at most the limit, which a word holds.
+-- Assumes nothing.
+use mathlib.Core.Path.{_≡_, refl}
+use mathlib.Core.Bool.{Bool, true, false, cond}
+use mathlib.Core.List.{List}
+use Prim.Native.Nat.{ℕ, zero, suc, _*_, _/_, _≤_, _<_}
+use native.Mathlib.Omega.{arith}
+use lib.Dec.{leb}
+use lib.ListN.{length}
+use Rattle.meaning.specs.Limits.{limit}
+use Rattle.meaning.specs.Sound.{Sound}
+use Rattle.meaning.specs.Check.{Verdict, only, Done, check, onZero, ifSound, collectIn}
+use Rattle.meaning.specs.Batch.{Outcome, callsTest, ended, runs, asLent, batchOf, batch}
+use Rattle.meaning.proofs.check.Checking.{Checks, length-bad, top-bad, cell-bad, sound, checks, check-sound}
+use Rattle.meaning.proofs.reach.Reaching.{live-le}
+use Rattle.meaning.proofs.check.Making.{length-yes}
+
+module _ (F : ℕ) (ws : List ℕ) (top : ℕ) where
+  check-most : check F ws top .value ≤ limit
+  check-most = go (check F ws top) (checks F ws top)
+    where
+      go : (v : Verdict) → Checks F ws top v → v .value ≤ limit
+      go v (length-bad a) = omega arith
+      go v (top-bad a b) = omega arith
+      go v (cell-bad c a b l x y) = omega (arith, length-yes F (length ws) a .small)
+      go v (sound s) = omega arith
+
+  -- what holds of both, where the store is sound and where it is not
+  by-check : {A : Type 0} (P : A → Type 0) (x y : A) → (Sound F ws top → P x) → P y
+      → P (ifSound (check F ws top) x y)
+  by-check P x y h k = go (check F ws top .status) refl
+    where
+      go : (s : ℕ) → check F ws top .status ≡ s → P (onZero s x y)
+      go zero e = h (check-sound F ws top e)
+      go (suc s) e = k
+
+  collect-most : 0 < F → collectIn F ws top .verdict .value ≤ limit
+  unfolding collectIn
+  collect-most p =
+      by-check (λ (d : Done). d .verdict .value ≤ limit) _ _
+      (λ s. omega (arith, live-le F ws top p s, s .high, s .small)) check-most
+
+  batch-most : (calls out : List ℕ) → batch F ws top calls out .verdict .value ≤ limit
+  unfolding batch batchOf ended
+  batch-most calls out =
+      by-check (λ (d : Outcome). d .verdict .value ≤ limit) _ _
+      (λ s. go (callsTest (length calls)) (leb (2 * (length calls / 4)) (length out))) check-most
+    where
+      go : (t u : Bool)
+          → cond t (cond u (ended (runs F ws top calls) out) (asLent (only 5) ws top out)) (asLent (only 4) ws top out)
+          .verdict .value ≤ limit
+      go false u = omega arith
+      go true false = omega arith
+      go true true = omega arith
+
+  pub check-fits : {v : Verdict} → v ≡ check F ws top → v .value ≤ limit
+  check-fits e = rw e check-most
+
+  pub collect-fits : 0 < F → {d : Done} → d ≡ collectIn F ws top → d .verdict .value ≤ limit
+  collect-fits p e = rw e (collect-most p)
+
+  pub batch-fits : (calls out : List ℕ) {o : Outcome} → o ≡ batch F ws top calls out → o .verdict .value ≤ limit
+  batch-fits calls out e = rw e (batch-most calls out)

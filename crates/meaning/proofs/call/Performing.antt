@@ -1,0 +1,63 @@
+-- One call by its operation: which of its words name registers, and which operation the last arm is. Assumes nothing.
+use mathlib.Core.Path.{_≡_, refl, subst}
+use mathlib.Core.Logic.{_≢_}
+use mathlib.Core.List.{List, [], _∷_, _++_}
+use Prim.Native.Nat.{ℕ, zero, suc, _≤_, _<_}
+use native.Mathlib.Omega.{arith}
+use lib.ListN.{length, getD}
+use Rattle.meaning.specs.Limits.{firstCell}
+use Rattle.meaning.specs.Check.{refused, only}
+use Rattle.meaning.specs.Call.{Op, CLEAR, COPY, SYMBOL, WRAP, JOIN, HEAD, REST, OPEN, LENGTH, FIRST, LIVE, COLLECT}
+use Rattle.meaning.specs.Call.{ops, opAt, useD, useA, useB, fault, perform, stepAfter, step}
+use Rattle.meaning.proofs.call.Uses.{Right, right, is-register}
+
+module _ (o d a b : ℕ) (q : fault firstCell o d a b ≡ 0) {k : ℕ} (e : o ≡ k) where
+  uses-right : Right firstCell (opAt k) d a b
+  uses-right = subst (λ (n : ℕ). Right firstCell (opAt n) d a b) e (right firstCell o d a b q)
+
+  pub d-register : useD (opAt k) ≡ 1 → d < firstCell
+  d-register u = is-register firstCell d (rw u at (uses-right .d11))
+
+  pub a-register : useA (opAt k) ≡ 1 → a < firstCell
+  a-register u = is-register firstCell a (rw u at (uses-right .a11))
+
+  pub b-register : useB (opAt k) ≡ 1 → b < firstCell
+  b-register u = is-register firstCell b (rw u at (uses-right .b11))
+
+-- ---- the last operation, which is what is left of the match
+
+-- o is none of the first k numbers
+abbrev pub Missed : ℕ → ℕ → Type 0
+Missed zero o = Unit {0}
+Missed (suc k) o = Missed k o × (o ≡ k → ⊥)
+
+missed : (k o : ℕ) → Missed k o → k ≤ o
+missed zero o m = omega arith
+missed (suc k) o m = omega (arith, missed k o (m .0), m .1)
+
+past : (xs : List Op) (x : Op) (o : ℕ) → length xs ≤ o → getD (xs ++ (x ∷ [])) o x ≡ x
+past [] x zero h = refl
+past [] x (suc o) h = refl
+past (y ∷ xs) x zero h = absurd (omega arith)
+past (y ∷ xs) x (suc o) h = past xs x o (omega arith)
+
+pub collects : (o : ℕ) → Missed 11 o → opAt o ≡ COLLECT
+unfolding opAt ops
+collects o m =
+    let before = CLEAR ∷ COPY ∷ SYMBOL ∷ WRAP ∷ JOIN ∷ HEAD ∷ REST ∷ OPEN ∷ LENGTH ∷ FIRST ∷ LIVE ∷ [] in
+    past before COLLECT o (missed 11 o m)
+
+-- ---- one call, by what is wrong with its words
+
+module _ (ws : List ℕ) (top o d a b : ℕ) {f : ℕ} (q : f ≡ fault firstCell o d a b) where
+  pub step-refused : f ≢ 0 → step firstCell ws top o d a b ≡ refused ws top (only f)
+  unfolding step
+  step-refused n = rw (← q) (go f n)
+    where
+      go : (g : ℕ) → g ≢ 0 → stepAfter g firstCell ws top o d a b ≡ refused ws top (only g)
+      go zero n = absurd (n refl)
+      go (suc g) n = unfold stepAfter in refl
+
+  pub step-performed : f ≡ 0 → step firstCell ws top o d a b ≡ perform (opAt o) firstCell ws top d a b
+  unfolding step stepAfter
+  step-performed e = rw (← q, e) refl

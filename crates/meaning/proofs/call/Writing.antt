@@ -1,0 +1,196 @@
+-- Writing a cell: a register, or the first free cell. What stays sound, and what keeps its meaning.
+-- Assumes nothing.
+use mathlib.Core.Path.{_≡_, refl, sym, ap, _∙_}
+use mathlib.Core.Logic.{_⊎_, inl, inr, _≢_}
+use mathlib.Core.List.{List}
+use Prim.Native.Nat.{ℕ, zero, suc, _+_, _-_, _*_, _≤_, _<_}
+use native.Mathlib.Nat.{le-trans, eq-or-lt-of-le, le-of-suc-le-suc}
+use native.Mathlib.Omega.{arith}
+use lib.ListN.{length, getD, set, length-set}
+use lib.Seq.{getD-set-same, getD-set-other}
+use Rattle.meaning.specs.Expr.{Expr}
+use Rattle.meaning.specs.Sound.{Cell, code, hollow, ends, fst, snd, at, Sound, IsBracket, isEmpty, isFull, IsTerm}
+use Rattle.meaning.specs.Meaning.{inside, termOf, term, meaning}
+use Rattle.meaning.specs.Call.{put, copy}
+use Rattle.meaning.proofs.Lists.{lt-or-ge}
+use Rattle.meaning.proofs.sound.Cells.{Good, TermIn, BracketIn, term-of-bracket, good, read, read-words, is-bracket}
+use Rattle.meaning.proofs.sound.Cells.{is-term, bracket-words, term-words}
+use Rattle.meaning.proofs.meaning.Terms.{run-ext, term-depth}
+
+-- ---- words
+
+module _ (ws : List ℕ) (c : ℕ) (b : Cell) where
+  pub length-put : length (put ws c b) ≡ length ws
+  unfolding put
+  length-put = simp length-set
+
+  pub put-other : (i : ℕ) → i ≢ 2 * c → i ≢ 2 * c + 1 → getD (put ws c b) i 0 ≡ getD ws i 0
+  unfolding put
+  put-other i p q =
+      getD-set-other (set ws (2 * c) (fst b)) (2 * c + 1) i (snd b) 0 q ∙ getD-set-other ws (2 * c) i (fst b) 0 p
+
+  pub put-one : 2 * c + 1 < length ws → getD (put ws c b) (2 * c) 0 ≡ fst b
+  unfolding put
+  put-one h = getD-set-other (set ws (2 * c) (fst b)) (2 * c + 1) (2 * c) (snd b) 0 (omega arith) ∙ getD-set-same ws
+      (2 * c) (fst b) 0 (omega arith)
+
+  pub put-two : 2 * c + 1 < length ws → getD (put ws c b) (2 * c + 1) 0 ≡ snd b
+  unfolding put
+  put-two h =
+      getD-set-same (set ws (2 * c) (fst b)) (2 * c + 1) (snd b) 0 (omega (arith, length-set ws (2 * c) (fst b)))
+
+  pub at-put-other : (x : ℕ) → x ≢ c → at (put ws c b) x ≡ at ws x
+  unfolding at
+  at-put-other x p =
+      rw (put-other (2 * x) (omega arith) (omega arith), put-other (2 * x + 1) (omega arith) (omega arith)) refl
+
+  pub at-put : (F lim : ℕ) → 0 < F → 2 * c + 1 < length ws → TermIn F lim b → at (put ws c b) c ≡ b
+  unfolding at read
+  at-put F lim p h t = rw (put-one h, put-two h) (read-words F lim b p t)
+
+-- a cell that is equal to another
+pub copy-put : (F : ℕ) (ws : List ℕ) (top c x : ℕ) → 0 < F → Sound F ws top → x < top → copy ws c x ≡ put ws c (at ws x)
+unfolding copy put at read
+copy-put F ws top c x p s h = go (lt-or-ge x F)
+  where
+    go : (x < F) ⊎ (F ≤ x) → copy ws c x ≡ put ws c (at ws x)
+    go (inl l) = let w = bracket-words F top (getD ws (2 * x) 0) (getD ws (2 * x + 1) 0) p (s .registers x l) in
+        rw (w .one, w .two) refl
+    go (inr l) = let w = term-words F x (getD ws (2 * x) 0) (getD ws (2 * x + 1) 0) p (s .heap x l h) in
+        rw (w .one, w .two) refl
+
+-- ---- soundness
+
+pub bracket-wider : (F : ℕ) {lim lim′ a b : ℕ} → lim ≤ lim′ → IsBracket F lim a b → IsBracket F lim′ a b
+bracket-wider F h isEmpty = isEmpty
+bracket-wider F h (isFull x y z) = isFull x y (le-trans z h)
+
+pub termIn-wider : (F lim lim′ : ℕ) (b : Cell) → lim ≤ lim′ → TermIn F lim b → TermIn F lim′ b
+termIn-wider F lim lim′ (code a) h t = t
+termIn-wider F lim lim′ hollow h t = t
+termIn-wider F lim lim′ (ends l r) h t = (t .0, t .1, le-trans (t .2) h)
+
+module _ (F : ℕ) (ws : List ℕ) (top : ℕ) (p : 0 < F) (s : Sound F ws top) where
+  -- a register
+  module _ (d : ℕ) (l : d < F) (b : Cell) (t : BracketIn F top b) where
+    reg-registers : (i : ℕ) → i < F → IsBracket F top (getD (put ws d b) (2 * i) 0) (getD (put ws d b) (2 * i + 1) 0)
+    reg-registers i h = go (lt-or-ge i d) (lt-or-ge d i)
+      where
+        other : i ≢ d → IsBracket F top (getD (put ws d b) (2 * i) 0) (getD (put ws d b) (2 * i + 1) 0)
+        other n = rw (
+          put-other ws d b (2 * i) (omega arith) (omega arith),
+          put-other ws d b (2 * i + 1) (omega arith) (omega arith),
+        ) (s .registers i h)
+
+        go : (i < d) ⊎ (d ≤ i) → (d < i) ⊎ (i ≤ d)
+            → IsBracket F top (getD (put ws d b) (2 * i) 0) (getD (put ws d b) (2 * i + 1) 0)
+        go (inl x) y = other (omega arith)
+        go (inr x) (inl y) = other (omega arith)
+        go (inr x) (inr y) =
+            let e : i ≡ d = omega arith in
+            let q : 2 * d + 1 < length ws = omega (arith, s .large) in
+            rw (e, put-one ws d b q, put-two ws d b q) (is-bracket F top b t)
+
+    pub sound-register : Sound F (put ws d b) top
+    sound-register = record {
+      even = rw (length-put ws d b) (s .even);
+      large = rw (length-put ws d b) (s .large);
+      small = rw (length-put ws d b) (s .small);
+      low = s .low;
+      high = rw (length-put ws d b) (s .high);
+      registers = reg-registers;
+      heap = λ c f h. rw (
+        put-other ws d b (2 * c) (omega arith) (omega arith),
+        put-other ws d b (2 * c + 1)
+            (omega arith) (omega arith),
+      ) (s .heap c f h);
+      free = λ c f h. rw (
+        put-other ws d b (2 * c) (omega (arith, s .low)) (omega (arith, s .low)),
+        put-other ws d b
+            (2 * c + 1) (omega (arith, s .low)) (omega (arith, s .low)),
+      ) (s .free c f (rw (length-put ws d b) at h));
+    }
+
+  -- the first free cell
+  module _ (r : 2 * suc top ≤ length ws) (b : Cell) (t : TermIn F top b) where
+    top-heap : (c : ℕ) → F ≤ c → c < suc top
+        → IsTerm F c (getD (put ws top b) (2 * c) 0) (getD (put ws top b) (2 * c + 1) 0)
+    top-heap c f h = go (eq-or-lt-of-le (le-of-suc-le-suc h))
+      where
+        go : (c ≡ top) ⊎ (c < top) → IsTerm F c (getD (put ws top b) (2 * c) 0) (getD (put ws top b) (2 * c + 1) 0)
+        go (inl e) =
+            let q : 2 * top + 1 < length ws = omega arith in
+            rw (e, put-one ws top b q, put-two ws top b q) (is-term F top b t)
+        go (inr l) = rw (
+          put-other ws top b (2 * c) (omega arith) (omega arith),
+          put-other ws top b (2 * c + 1)
+              (omega arith) (omega arith),
+        ) (s .heap c f l)
+
+    pub sound-top : Sound F (put ws top b) (suc top)
+    sound-top = record {
+      even = rw (length-put ws top b) (s .even);
+      large = rw (length-put ws top b) (s .large);
+      small = rw (length-put ws top b) (s .small);
+      low = omega (arith, s .low);
+      high = rw (length-put ws top b) (omega arith);
+      registers = λ i h. rw (
+        put-other ws top b (2 * i) (omega (arith, s .low)) (omega (arith, s .low)),
+        put-other ws
+            top b (2 * i + 1) (omega (arith, s .low)) (omega (arith, s .low)),
+      )
+          (bracket-wider F (omega arith) (s .registers i h));
+      heap = top-heap;
+      free = λ c f h. rw (
+        put-other ws top b (2 * c) (omega arith) (omega arith),
+        put-other ws top b (2 * c + 1)
+            (omega arith) (omega arith),
+      ) (s .free c (omega arith) (rw (length-put ws top b) at h));
+    }
+
+-- ---- meaning
+
+module _ (F : ℕ) (k k′ : ℕ → Cell) (top : ℕ) (g : Good F k top) (same : (c : ℕ) → F ≤ c → c < top → k′ c ≡ k c) where
+  termOf-same : (n lim : ℕ) (b : Cell) → lim ≤ top → TermIn F lim b
+      → ((c : ℕ) → F ≤ c → c < top → term k n c ≡ term k′ n c) → termOf (term k n) b ≡ termOf (term k′ n) b
+  termOf-same n lim (code a) l t r = refl
+  termOf-same n lim hollow l t r = refl
+  termOf-same n lim (ends x y) l t r =
+      ap (λ (z : Expr). Expr.parens z Expr.nothing) (run-ext (term k n) (term k′ n) x x (suc y - x)
+      (λ j h. r (x + j) (omega (arith, t .0)) (omega (arith, t .1, t .2))))
+
+  -- the meaning of a heap cell depends on heap cells only
+  pub term-same : (n c : ℕ) → F ≤ c → c < top → term k n c ≡ term k′ n c
+  term-same zero c f l = refl
+  term-same (suc n) c f l = rw (same c f l) (termOf-same n c (k c) (omega arith) (g .heap c f l) (term-same n))
+
+  pub inside-same : (n : ℕ) (b : Cell) → BracketIn F top b → inside (term k n) b ≡ inside (term k′ n) b
+  inside-same n (code a) t = refl
+  inside-same n hollow t = refl
+  inside-same n (ends x y) t =
+      run-ext (term k n) (term k′ n) x x (suc y - x) (λ j h. term-same n (x + j) (omega (arith, t .0))
+      (omega (arith, t .1, t .2)))
+
+-- the equation of terms, without depth
+module _ (F : ℕ) (ws : List ℕ) (top : ℕ) (p : 0 < F) (s : Sound F ws top) where
+  pub term-law : (c : ℕ) → F ≤ c → c < top → term (at ws) (length ws) c ≡ termOf (term (at ws) (length ws)) (at ws c)
+  term-law c f l = term-depth F (at ws) top (good F ws top p s) (length ws) (suc (length ws)) c f l
+      (omega (arith, s .high)) (omega (arith, s .high))
+
+  -- a register set to a bracket b denotes what is inside b, and no other register changes
+  module _ (d : ℕ) (l : d < F) (b : Cell) (t : BracketIn F top b) where
+    heap-same : (c : ℕ) → F ≤ c → c < top → at (put ws d b) c ≡ at ws c
+    heap-same c f h = at-put-other ws d b c (omega arith)
+
+    pub meaning-set : meaning (put ws d b) d ≡ inside (term (at ws) (length ws)) b
+    unfolding meaning
+    meaning-set =
+        rw (length-put ws d b, at-put ws d b F top p (omega (arith, s .large)) (term-of-bracket F top b t))
+        (sym (inside-same F (at ws) (at (put ws d b)) top (good F ws top p s) heap-same (length ws) b t))
+
+    pub meaning-other : (i : ℕ) → i < F → i ≢ d → meaning (put ws d b) i ≡ meaning ws i
+    unfolding meaning
+    meaning-other i h n =
+        rw (length-put ws d b, at-put-other ws d b i n)
+        (sym (inside-same F (at ws) (at (put ws d b)) top (good F ws top p s) heap-same (length ws) (at ws i)
+        (good F ws top p s .regs i h)))

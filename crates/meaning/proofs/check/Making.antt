@@ -1,0 +1,70 @@
+-- An allowed length, and the words of a fresh store: registers emptied one after the other, then zeros.
+-- Assumes nothing.
+use mathlib.Core.Path.{_≡_, refl, sym, ap, _∙_}
+use mathlib.Core.Bool.{Bool, true, false, cond, false≢true}
+use mathlib.Core.List.{List, [], _∷_, _++_, append-assoc}
+use Prim.Native.Nat.{ℕ, zero, suc, _+_, _-_, _*_, _%_, _≤_, _<_}
+use native.Mathlib.Numerals.{add-one}
+use native.Mathlib.Omega.{arith}
+use lib.Dec.{ltb, leb, eqb}
+use lib.ListN.{length, set, take, replicate, length-set}
+use lib.Seq.{take-suc-set}
+use borrow.Author.Tests.{leb-true, ltb-false, eqb-true}
+use Rattle.words.specs.Cell.{putCell}
+use Rattle.words.specs.Second.{bracketTo}
+use Rattle.meaning.specs.Limits.{limit}
+use Rattle.meaning.specs.Sound.{capacity}
+use Rattle.meaning.specs.Check.{done, refused, only, lengthTest, hollows, fresh, freshIn}
+
+-- what an allowed length is
+pub record Allowed (F n : ℕ) : Type 0 where
+  pub even : n % 2 ≡ 0
+  pub large : 2 * F ≤ n
+  pub small : n ≤ 2 * limit
+
+pub length-yes : (F n : ℕ) → lengthTest F n ≡ true → Allowed F n
+unfolding lengthTest
+length-yes F n q = go (eqb (n % 2) 0) (ltb n (2 * F)) refl refl q
+  where
+    go : (t u : Bool) → eqb (n % 2) 0 ≡ t → ltb n (2 * F) ≡ u
+        → cond t (cond u false (leb n (2 * limit))) false ≡ true → Allowed F n
+    go true true e f r = absurd (false≢true r)
+    go true false e f r = record { even = eqb-true _ _ e; large = ltb-false _ _ f; small = leb-true _ _ r }
+    go false u e f r = absurd (false≢true r)
+
+-- ---- the registers, a turn at a time
+
+hollows-more : (n : ℕ) → hollows n ++ (0 ∷ bracketTo 0 ∷ []) ≡ hollows (suc n)
+hollows-more zero = refl
+hollows-more (suc n) = ap (λ (l : List ℕ). 0 ∷ bracketTo 0 ∷ l) (hollows-more n)
+
+module _ (ws : List ℕ) (c : ℕ) (h : 2 * c + 1 < length ws) (e : take (2 * c) ws ≡ hollows c) where
+  one-word : take (2 * c + 1) (set ws (2 * c) 0) ≡ hollows c ++ (0 ∷ [])
+  one-word =
+      ap (λ (n : ℕ). take n (set ws (2 * c) 0)) (add-one (2 * c))
+      ∙ (take-suc-set ws (2 * c) 0 (omega arith) ∙ ap (λ (l : List ℕ). l ++ (0 ∷ [])) e)
+
+  pub one-more : take (2 * (c + 1)) (putCell ws c 0 (bracketTo 0)) ≡ hollows (c + 1)
+  one-more =
+      let n : 2 * (c + 1) ≡ suc (2 * c + 1) = omega arith in
+      let both = take-suc-set (set ws (2 * c) 0) (2 * c + 1) (bracketTo 0) (omega (arith, length-set ws (2 * c) 0)) in
+      ap (λ (m : ℕ). take m (putCell ws c 0 (bracketTo 0))) n
+      ∙ (both ∙ ap (λ (l : List ℕ). l ++ (bracketTo 0 ∷ [])) one-word)
+      ∙ (append-assoc (hollows c) (0 ∷ []) (bracketTo 0 ∷ []) ∙ hollows-more c ∙ ap hollows (sym (add-one c)))
+
+-- ---- the whole store
+
+module _ (F : ℕ) (ws : List ℕ) where
+  pub fresh-refused : lengthTest F (length ws) ≡ false → freshIn F ws ≡ refused ws 0 (only 1)
+  unfolding freshIn
+  fresh-refused e = rw (e, freshIn)
+
+  -- vs is the store with its registers emptied, and out what it becomes
+  pub fresh-done : lengthTest F (length ws) ≡ true → (vs : List ℕ) {out : List ℕ} → length vs ≡ length ws
+      → take (2 * F) vs ≡ hollows F → out ≡ take (2 * F) vs ++ replicate (length vs - 2 * F) 0
+      → freshIn F ws ≡ done out F 0
+  unfolding freshIn fresh
+  fresh-done e vs q f z =
+      let a = length-yes F (length ws) e in
+      let n : length vs - 2 * F ≡ 2 * (capacity ws - F) = omega (arith, a .even, a .large) in
+      rw (e, z, f, n, freshIn) refl

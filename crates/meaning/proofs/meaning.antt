@@ -1,0 +1,2 @@
+-- The laws of Meaning. Assumes nothing.
+pub mod Terms

@@ -1,0 +1,2 @@
+-- The laws of Program. Assumes nothing.
+pub mod Tests

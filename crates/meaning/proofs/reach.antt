@@ -1,0 +1,2 @@
+-- The laws of Reach. Assumes nothing.
+pub mod Reaching

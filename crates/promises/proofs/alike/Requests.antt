@@ -1,0 +1,61 @@
+-- Lists of requests, run one after the other: a call list is run as its requests are, and a list may be cut anywhere.
+-- Assumes nothing.
+use mathlib.Core.Path.{_≡_, refl, ap}
+use mathlib.Core.List.{List, [], _∷_, _++_}
+use Prim.Native.Nat.{ℕ, suc, _*_}
+use native.Mathlib.Omega.{arith}
+use lib.ListN.{length}
+use Rattle.meaning.specs.Check.{Verdict}
+use Rattle.meaning.specs.Call.{step}
+use Rattle.meaning.specs.Batch.{Ran, then, runs}
+use Rattle.meaning.proofs.effect.Steps.{Fours, none, four}
+use Rattle.promises.specs.Requests.{Request, requested, requests, inWords, verdicts}
+use Rattle.promises.specs.Alike.{Served}
+
+abbrev pub ran : ℕ → List ℕ → ℕ → List Request → Served
+ran F ws top [] = record { words = ws; top = top; answers = [] }
+ran F ws top (q ∷ qs) =
+    let r = requested F ws top q in
+    let s = ran F (r .words) (r .top) qs in
+    record { words = s .words; top = s .top; answers = r .verdict ∷ s .answers }
+
+-- as a batch has it
+abbrev pub ranWords : Served → Ran
+ranWords s = record { words = s .words; top = s .top; answers = inWords (s .answers) }
+
+pub runs-ran : (F : ℕ) (ws : List ℕ) (top : ℕ) {cs : List ℕ} → Fours cs
+    → runs F ws top cs ≡ ranWords (ran F ws top (requests cs))
+runs-ran F ws top none = refl
+runs-ran F ws top (four {o} {d} {a} {b} {cs} c) =
+    let r = step F ws top o d a b in
+    ap (λ (q : Ran). then r q) (runs-ran F (r .words) (r .top) c)
+
+-- cut anywhere
+pub ran-cut : (F : ℕ) (ws : List ℕ) (top : ℕ) (qs rs : List Request)
+    → (let s = ran F ws top qs in
+    let t = ran F (s .words) (s .top) rs in
+    ran F ws top (qs ++ rs) ≡ record { words = t .words; top = t .top; answers = s .answers ++ t .answers })
+ran-cut F ws top [] rs = refl
+ran-cut F ws top (q ∷ qs) rs =
+    let r = requested F ws top q in
+    ap (λ (s : Served). record { words = s .words; top = s .top; answers = r .verdict ∷ s .answers })
+    (ran-cut F (r .words) (r .top) qs rs)
+
+-- an answer to each; four words a call, two an answer
+pub ran-length : (F : ℕ) (ws : List ℕ) (top : ℕ) (qs : List Request) → length (ran F ws top qs .answers) ≡ length qs
+ran-length F ws top [] = refl
+ran-length F ws top (q ∷ qs) =
+    let r = requested F ws top q in ap suc (ran-length F (r .words) (r .top) qs)
+
+pub requests-length : {cs : List ℕ} → Fours cs → length cs ≡ 4 * length (requests cs)
+requests-length none = refl
+requests-length (four c) = omega (arith, requests-length c)
+
+pub inWords-length : (vs : List Verdict) → length (inWords vs) ≡ 2 * length vs
+inWords-length [] = refl
+inWords-length (v ∷ vs) = omega (arith, inWords-length vs)
+
+-- what is written is read
+pub verdicts-inWords : (vs : List Verdict) → verdicts (inWords vs) ≡ vs
+verdicts-inWords [] = refl
+verdicts-inWords (v ∷ vs) = ap (λ (ws : List Verdict). v ∷ ws) (verdicts-inWords vs)

@@ -1,0 +1,8 @@
+-- Demand 2, calls and batches. In order:
+--   Touching  which words an action changes, and its `top`
+--   Acting    in which store
+--   Calling   each call; a batch call by call
+-- Assumes nothing.
+pub mod Touching
+pub mod Acting
+pub mod Calling

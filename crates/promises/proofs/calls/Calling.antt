@@ -1,0 +1,186 @@
+-- Demand 2, calls: what `meaning` shows of a call through its plan, in document 01's words; and a batch, call by call.
+-- Assumes nothing.
+use mathlib.Core.Path.{_≡_, refl, sym, ap, _∙_, subst}
+use mathlib.Core.Logic.{_≢_}
+use mathlib.Core.Bool.{Bool, true, false, cond}
+use mathlib.Core.List.{List, [], _∷_}
+use Prim.Native.Nat.{ℕ, zero, suc, _+_, _-_, _≤_, _<_}
+use native.Mathlib.Nat.{add-zero}
+use native.Mathlib.Omega.{arith}
+use lib.Dec.{ltb, eqb}
+use borrow.Author.Tests.{ltb-true, lt-ltb, lt-leb, ne-eqb}
+use Rattle.meaning.specs.Sound.{at, capacity, Sound}
+use Rattle.meaning.specs.Reach.{live}
+use Rattle.meaning.specs.Collected.{collected, collectedTop}
+use Rattle.meaning.specs.Check.{Done, done, refused}
+use Rattle.meaning.specs.Call.{ops, opAt, uses, wrong11, wrong12, wrong13, fault, planOf, perform, stepAfter, step}
+use Rattle.meaning.specs.Effect.{effect, liveForRoom, callStatus}
+use Rattle.meaning.specs.Batch.{ended}
+use Rattle.meaning.proofs.call.Uses.{right}
+use Rattle.meaning.proofs.call.Plans.{planTop, topAfter, WordsAfter}
+use Rattle.meaning.proofs.effect.Steps.{Steps, step-meets, no-need}
+use Rattle.meaning.proofs.batch.Batches.{batch-runs}
+use Rattle.promises.specs.Requests.{Request, call, requested, requests}
+use Rattle.promises.proofs.alike.Requests.{ran, runs-ran, ran-length, requests-length}
+use Rattle.promises.specs.Calls.{Did, base, baseTop, OnlyThere, CallsDo, CallsAnswer, Answered, none, next}
+use Rattle.promises.specs.Calls.{BatchesRun}
+use Rattle.promises.proofs.calls.Acting.{orElse-zero, op-small, stays, plan-top, plan-words, asked-words}
+
+-- ---- a call, whatever its words are
+
+-- the words and `top` of a refused call
+module _ (ws ws₁ v : List ℕ) (x y top u : ℕ) where
+  as-was : (s : ℕ) → WordsAfter s ws ws₁ v → u ≡ topAfter s x y top → s ≢ 0 → s ≢ 16 → (v ≡ ws) × (u ≡ top)
+  as-was zero w t n m = absurd (n refl)
+  as-was (suc s) w t n m = let z : eqb s 15 ≡ false = ne-eqb s 15 (omega arith) in (rw z at w, rw z at t)
+
+-- 16 by room alone
+sixteen : (c n : ℕ) (s : ℕ) → s ≡ cond (ltb c n) 16 0 → (s ≡ 16 → c < n) × (c < n → s ≡ 16)
+sixteen c n s e = (λ z. go (ltb c n) refl (sym e ∙ z), λ l. e ∙ rw (lt-ltb c n l) refl)
+  where
+    go : (t : Bool) → ltb c n ≡ t → _≡_ {A = ℕ} (cond t 16 0) 16 → c < n
+    go true q r = ltb-true c n q
+    go false q r = absurd (omega arith)
+
+module _ (F : ℕ) (p : 0 < F) (ws : List ℕ) (top : ℕ) (s : Sound F ws top) (o d a b : ℕ) where
+  abbrev r : Done
+  r = step F ws top o d a b
+
+  abbrev n : ℕ
+  n = effect F ws top o d a b .need
+
+  m : Steps F ws top o d a b r
+  m = step-meets F ws top p s o d a b
+
+  -- done: its own words are right
+  faultless : r .verdict .status ≡ 0 → fault F o d a b ≡ 0
+  unfolding callStatus
+  faultless e = orElse-zero (fault F o d a b) _ (sym (m .status) ∙ e)
+
+  done-top : r .verdict .status ≡ 0 → r .top ≡ baseTop F ws top o d a b n + n
+  done-top e = m .tops ∙ rw e (plan-top F ws top p s d a b (opAt o) (right F o d a b (faultless e)))
+
+  performed : fault F o d a b ≡ 0 → r ≡ perform (opAt o) F ws top d a b
+  unfolding step stepAfter
+  performed q = rw q refl
+
+  done-words : r .verdict .status ≡ 0 → OnlyThere d (baseTop F ws top o d a b n) n (base F ws top o d a b n) (r .words)
+  done-words e =
+      let q = faultless e in
+      let z = performed q in
+      rw z (plan-words F ws top p s d a b (opAt o) (right F o d a b q)
+      (ap (λ (x : Done). x .verdict .status) (sym z) ∙ e))
+
+  asked : r .verdict .status ≡ 0 → 8 ≤ o → r .words ≡ base F ws top o d a b n
+  asked e l =
+      let q = faultless e in
+      let k : o - 8 < 4 = omega (arith, op-small F o d a b q) in
+      let z : 8 + (o - 8) ≡ o = omega arith in
+      ap (λ (x : Done). x .words) (performed q)
+      ∙ subst (λ (y : ℕ). perform (opAt y) F ws top d a b .words
+      ≡ base F ws top y d a b (effect F ws top y d a b .need)) z (asked-words F ws top p s d a b (o - 8) k)
+
+  -- without need
+  as-it-is : n ≡ 0 → ltb (capacity ws) (top + n) ≡ false
+  as-it-is z = rw z (stays F ws top p s)
+
+pub calls-do : CallsDo
+unfolding collectedTop callStatus
+calls-do F p ws top s o d a b =
+    let x = m F p ws top s o d a b in
+    let r = step F ws top o d a b in
+    let t = as-was ws (collected F ws top) (r .words) (planTop F (planOf (opAt o) F ws top d a b) ws top)
+    (F + live F ws top) top (r .top) in
+    let g = done-top F p ws top s o d a b in
+    let w = done-words F p ws top s o d a b in
+    record {
+      status = x .status;
+      value = x .value;
+      registers = x .registers;
+      noRoom = λ f u. sixteen (capacity ws) (F + liveForRoom F ws top o d a b + effect F ws top o d a b .need)
+          (r .verdict .status) (x .status ∙ rw (f, u) refl);
+      doneTop = g;
+      doneWords = w;
+      asked = asked F p ws top s o d a b;
+      noNeed = λ e h z. (
+        g e ∙ rw (h, as-it-is F p ws top s o d a b z, z) (add-zero top),
+        rw (h, as-it-is F p ws top s o d a b z, z) at (w e),
+      );
+      full = λ e. (rw e at (x .left), x .tops ∙ rw e refl);
+      refused = t (r .verdict .status) (x .left) (x .tops);
+      sound = x .sound;
+      len = x .len;
+    }
+
+-- ---- LENGTH, FIRST, LIVE, COLLECT
+
+by-parts : (x : Done) (w : List ℕ) (u c v : ℕ) → x .verdict .status ≡ c → x .verdict .value ≡ v → x .words ≡ w
+    → x .top ≡ u
+    → x ≡ record { verdict = record { status = c; value = v }; words = w; top = u }
+by-parts x w u c v e f g h = rw (← e, ← f, ← g, ← h) refl
+
+is-done : (x : Done) (w : List ℕ) (u v : ℕ) → x .verdict .status ≡ 0 → x .verdict .value ≡ v → x .words ≡ w → x .top ≡ u
+    → x ≡ done w u v
+is-done x w u v = by-parts x w u 0 v
+
+module _ (F : ℕ) (p : 0 < F) (ws : List ℕ) (top : ℕ) (s : Sound F ws top) where
+  fault-one : (a : ℕ) → a < F → (fault F 8 0 a 0 ≡ 0) × (fault F 9 0 a 0 ≡ 0)
+  unfolding fault uses wrong11 wrong12 wrong13
+  fault-one a h = (rw (lt-leb F a h) refl, rw (lt-leb F a h) refl)
+
+  fault-none : (fault F 10 0 0 0 ≡ 0) × (fault F 11 0 0 0 ≡ 0)
+  unfolding fault uses wrong11 wrong12 wrong13
+  fault-none = (refl, refl)
+
+  -- a call without need that changes no register, and collects where x says so
+  ask : (o a : ℕ) (x : Bool) → 8 ≤ o → fault F o 0 a 0 ≡ 0 → effect F ws top o 0 a 0 .unfit ≡ 0
+      → effect F ws top o 0 a 0 .need ≡ 0 → effect F ws top o 0 a 0 .collects ≡ x
+      → step F ws top o 0 a 0 ≡ done (cond x (collected F ws top) ws) (cond x (F + live F ws top) top)
+      (effect F ws top o 0 a 0 .value)
+  unfolding callStatus
+  ask o a x l f u z c =
+      let k = calls-do F p ws top s o 0 a 0 in
+      let g = no-need F ws top p s 0 a 0 (opAt o) (right F o 0 a 0 f) in
+      let y = stays F ws top p s in
+      let e : step F ws top o 0 a 0 .verdict .status ≡ 0 = k .status ∙ rw (f, u, z, ← g) refl in
+      is-done (step F ws top o 0 a 0) (cond x (collected F ws top) ws) (cond x (F + live F ws top) top)
+      (effect F ws top o 0 a 0 .value) e
+      (k .value ∙ rw e refl) (k .asked e l ∙ rw (c, z, y) refl)
+      (k .doneTop e ∙ rw (c, z, y) (add-zero (cond x (F + live F ws top) top)))
+
+pub calls-answer : CallsAnswer
+unfolding opAt ops
+calls-answer F p ws top s =
+    record {
+      lengths = λ a h. ask F p ws top s 8 a false (omega arith) (fault-one F p ws top s a h .0) refl refl refl;
+      firsts = λ a c e h z.
+          ask F p ws top s 9 a false (omega arith) (fault-one F p ws top s a h .1) (rw z refl) refl refl ∙ rw z refl;
+      lives = ask F p ws top s 10 0 false (omega arith) (fault-none F p ws top s .0) refl refl refl;
+      collects = ask F p ws top s 11 0 true (omega arith) (fault-none F p ws top s .1) refl refl refl;
+    }
+
+-- ---- a batch
+
+did : (F : ℕ) (p : 0 < F) (ws : List ℕ) (top : ℕ) → Sound F ws top → (q : Request)
+    → Did F ws top q (requested F ws top q) × Sound F (requested F ws top q .words) (requested F ws top q .top)
+did F p ws top s (call o d a b) = let k = calls-do F p ws top s o d a b in (k, k .sound)
+
+answered : (F : ℕ) (p : 0 < F) (ws : List ℕ) (top : ℕ) (qs : List Request) → Sound F ws top
+    → (let r = ran F ws top qs in Answered F ws top qs (r .answers) (r .words) (r .top))
+answered F p ws top [] s = none
+answered F p ws top (q ∷ qs) s =
+    let r = requested F ws top q in
+    let k = did F p ws top s q in
+    next r refl (k .0) (answered F p (r .words) (r .top) qs (k .1))
+
+pub batches-run : BatchesRun
+unfolding ended
+batches-run F p ws top calls out e =
+    let q = batch-runs F p ws top calls out e in
+    rw (q .2, runs-ran F ws top (q .1))
+    (record {
+      said = ran F ws top (requests calls) .answers;
+      answered = answered F p ws top (requests calls) (q .0);
+      many = omega (arith, ran-length F ws top (requests calls), requests-length (q .1));
+      answers = refl;
+    })

@@ -1,0 +1,2 @@
+-- Demand 2, collecting. Assumes nothing.
+pub mod Keeping

@@ -1,0 +1,235 @@
+-- Demand 1: the tables of the public functions.
+-- Assumes nothing.
+use mathlib.Core.Path.{_≡_, refl, ap, _∙_}
+use mathlib.Core.Logic.{inl, inr, _≢_}
+use mathlib.Core.Bool.{Bool, true, false, cond}
+use mathlib.Core.List.{List, [], _∷_}
+use Prim.Native.Nat.{ℕ, zero, suc, _+_, _-_, _*_, _/_, _≤_}
+use native.Mathlib.Omega.{arith}
+use lib.Dec.{leb}
+use lib.ListN.{length}
+use borrow.Author.Tests.{leb-true, le-leb}
+use Rattle.meaning.specs.Limits.{limit, callsLimit}
+use Rattle.meaning.specs.Expr.{Expr}
+use Rattle.meaning.specs.Sound.{at, capacity, Sound}
+use Rattle.meaning.specs.Meaning.{meaning}
+use Rattle.meaning.specs.Reach.{live}
+use Rattle.meaning.specs.Collected.{collected, collectedTop}
+use Rattle.meaning.specs.Check.{Verdict, only, done, refused, lengthTest, check, onZero, fresh, freshIn, collectIn}
+use Rattle.meaning.specs.Check.{look}
+use Rattle.meaning.specs.Call.{fault, opAt, step}
+use Rattle.meaning.specs.Effect.{Effect, facts, effect, after, answer, callStatus}
+use Rattle.meaning.specs.Batch.{Outcome, asLent, ended, batchOf, callsTest, batch, runs as calling}
+use Rattle.meaning.proofs.check.Looking.{look-none, look-empty, look-size, look-word, look-unsound}
+use Rattle.meaning.proofs.check.Checking.{sound, check-sound, sound-check}
+use Rattle.meaning.proofs.check.Fresh.{fresh-sound, fresh-empty}
+use Rattle.promises.specs.Calls.{lacking}
+use Rattle.promises.specs.Table.{OneOf, CheckAnswers, FreshTable, FreshAnswers, CollectTable, CollectAnswers}
+use Rattle.promises.specs.Table.{LookTable, LookAnswers, Batched, unsound, badCalls, badSpace, runs, BatchAnswers}
+use Rattle.promises.specs.Table.{CallAnswers}
+use Rattle.promises.proofs.calls.Calling.{calls-do}
+use Rattle.promises.proofs.table.Rules.{refuted, length-rule, rule-length, calls-rule, rule-calls, judged}
+use Rattle.promises.proofs.table.Rules.{judged-number, judged-value}
+use Rattle.promises.proofs.table.Numbers.{fault-number, unfit-number, first-of}
+
+-- ---- the check
+
+pub check-answers : CheckAnswers
+check-answers F ws top =
+    let v = check F ws top in
+    let j = judged F ws top in
+    record {
+      number = judged-number F ws top v j;
+      value = judged-value F ws top v j;
+      sound = (check-sound F ws top, λ s. ap (λ (w : Verdict). w .status) (sound-check F ws top s));
+      judged = j;
+    }
+
+-- ---- a fresh store
+
+pub fresh-answers : FreshAnswers
+unfolding freshIn
+fresh-answers F ws = go (lengthTest F (length ws)) refl
+  where
+    go : (t : Bool) → lengthTest F (length ws) ≡ t
+        → FreshTable F ws (cond t (done (fresh F (capacity ws)) F 0) (refused ws 0 (only 1)))
+    go true e =
+        let q = length-rule F ws e in
+        let l : F ≤ capacity ws = omega (arith, q .1) in
+        let m : capacity ws ≤ limit = omega (arith, q .2) in
+        record {
+          number = inl refl;
+          value = refl;
+          made = λ h. (refl, refl, refl);
+          sound = λ h. (fresh-sound F (capacity ws) l m, fresh-empty F (capacity ws) l m);
+          refused = λ n. absurd (n q);
+        }
+    go false e =
+        let n = refuted (lengthTest F (length ws)) (rule-length F ws) e in
+        record {
+          number = inr (inl refl);
+          value = refl;
+          made = λ h. absurd (n h);
+          sound = λ h. absurd (n h);
+          refused =
+              λ h. (refl, refl, refl);
+        }
+
+-- ---- collecting alone
+
+pub collect-answers : CollectAnswers
+unfolding collectIn collectedTop
+collect-answers F ws top = go (check F ws top .status) refl
+  where
+    go : (n : ℕ) → check F ws top .status ≡ n
+        → CollectTable F ws top
+        (onZero n (done (collected F ws top) (F + live F ws top) (live F ws top)) (refused ws top (check F ws top)))
+    go zero e =
+        record {
+          number = inl refl;
+          collects = λ s. (refl, refl, refl, refl);
+          refused = λ n. absurd
+              (n (check-sound F ws top e));
+        }
+    go (suc n) e = record {
+      number = judged-number F ws top (check F ws top) (judged F ws top);
+      collects = λ s. absurd
+          (let z : check F ws top .status ≡ 0 = ap (λ (v : Verdict). v .status) (sound-check F ws top s) in omega
+          arith);
+      refused = λ h. (judged F ws top, λ z. omega arith, refl, refl);
+    }
+
+-- ---- the look
+
+pub look-answers : LookAnswers
+look-answers F p ws top i = go (check F ws top .status) refl
+  where
+    go : (n : ℕ) → check F ws top .status ≡ n → LookTable F ws top i (look F ws top i)
+    go zero e =
+        let s = check-sound F ws top e in
+        record {
+          unsound = λ n. absurd (n s);
+          none = λ m. look-none F ws top s i m;
+          empty = λ z. look-empty F ws top s i z;
+          cells = λ x y q m z. (
+            rw z at (look-size F ws top p s i m),
+            λ j h. rw z at (look-word F ws top p s i m j (rw (look-size F ws top p s i m) at h)),
+          );
+        }
+    go (suc n) e =
+        let z = look-unsound F ws top i n e in
+        record {
+          unsound = λ _. z;
+          none = λ _. z;
+          empty = λ _. z;
+          cells = λ x y s m w. absurd (let q = ap (λ (v : Verdict). v .status) (sound-check F ws top s) in omega arith);
+        }
+
+-- ---- a batch
+
+module _ (F : ℕ) (ws : List ℕ) (top : ℕ) (calls out : List ℕ) where
+  batched : Batched F ws top calls out (batch F ws top calls out)
+  unfolding batch batchOf ended
+  batched = one (check F ws top .status) refl
+    where
+      two : Sound F ws top → (t u : Bool) → callsTest (length calls) ≡ t → leb (2 * (length calls / 4)) (length out) ≡ u
+          → Batched F ws top calls out
+          (cond t (cond u (ended (calling F ws top calls) out) (asLent (only 5) ws top out))
+          (asLent (only 4) ws top out))
+      two s false u e f = badCalls s (refuted (callsTest (length calls)) (rule-calls calls) e)
+      two s true false e f =
+          badSpace s (calls-rule calls e)
+          (refuted (leb (2 * (length calls / 4)) (length out)) (le-leb (2 * (length calls / 4)) (length out)) f)
+      two s true true e f =
+          runs (ended (calling F ws top calls) out) s (calls-rule calls e)
+          (leb-true (2 * (length calls / 4)) (length out) f) refl
+
+      one : (n : ℕ) → check F ws top .status ≡ n
+          → Batched F ws top calls out (onZero n (batchOf F ws top calls out) (asLent (check F ws top) ws top out))
+      one zero e =
+          two (check-sound F ws top e) (callsTest (length calls)) (leb (2 * (length calls / 4)) (length out)) refl refl
+      one (suc n) e = unsound (check F ws top) (judged F ws top) (λ z. omega arith)
+
+  batched-number : (r : Outcome) → Batched F ws top calls out r
+      → OneOf (r .verdict .status) (0 ∷ 1 ∷ 2 ∷ 3 ∷ 4 ∷ 5 ∷ [])
+  batched-number r (unsound v j n) = wider (v .status) (judged-number F ws top v j)
+    where
+      wider : (n : ℕ) → OneOf n (0 ∷ 1 ∷ 2 ∷ 3 ∷ []) → OneOf n (0 ∷ 1 ∷ 2 ∷ 3 ∷ 4 ∷ 5 ∷ [])
+      wider n (inl e) = inl e
+      wider n (inr (inl e)) = inr (inl e)
+      wider n (inr (inr (inl e))) = inr (inr (inl e))
+      wider n (inr (inr (inr (inl e)))) = inr (inr (inr (inl e)))
+      wider n (inr (inr (inr (inr e)))) = absurd e
+  batched-number r (badCalls s n) = inr (inr (inr (inr (inl refl))))
+  batched-number r (badSpace s c n) = inr (inr (inr (inr (inr (inl refl)))))
+  batched-number r (runs q s c l e) = inl (ap (λ (v : Verdict). v .status) e)
+
+  batched-value : (r : Outcome) → Batched F ws top calls out r → r .verdict .status ≢ 3 → r .verdict .value ≡ 0
+  batched-value r (unsound v j n) h = judged-value F ws top v j h
+  batched-value r (badCalls s n) h = refl
+  batched-value r (badSpace s c n) h = refl
+  batched-value r (runs q s c l e) h = ap (λ (v : Verdict). v .value) e
+
+  batched-kept : (r : Outcome) → Batched F ws top calls out r → r .verdict .status ≢ 0
+      → (r .words ≡ ws) × (r .top ≡ top) × (r .answers ≡ out)
+  batched-kept r (unsound v j n) h = (refl, refl, refl)
+  batched-kept r (badCalls s n) h = (refl, refl, refl)
+  batched-kept r (badSpace s c n) h = (refl, refl, refl)
+  batched-kept r (runs q s c l e) h = absurd (h (ap (λ (v : Verdict). v .status) e))
+
+no-calls : (F : ℕ) (ws : List ℕ) (top : ℕ) (out : List ℕ) → Sound F ws top
+    → (batch F ws top [] out .verdict .status ≡ 0) × (batch F ws top [] out .words ≡ ws)
+    × (batch F ws top [] out .top ≡ top)
+unfolding batch batchOf ended callsTest
+no-calls F ws top out s =
+    rw (sound-check F ws top s, batchOf, le-leb 0 callsLimit (omega arith), le-leb 0 (length out) (omega arith))
+    (refl, refl, refl)
+
+pub batch-answers : BatchAnswers
+batch-answers F ws top calls out =
+    let r = batch F ws top calls out in
+    let b = batched F ws top calls out in
+    record {
+      number = batched-number F ws top calls out r b;
+      value = batched-value F ws top calls out r b;
+      kept = batched-kept F ws top calls out r b;
+      batched = b;
+      noCalls = λ s e. rw e (no-calls F ws top out s);
+    }
+
+-- ---- one call
+
+ten-to-fifteen : (n : ℕ) → OneOf n (10 ∷ 11 ∷ 12 ∷ 13 ∷ 14 ∷ 15 ∷ []) → (10 ≤ n) × (n ≤ 15)
+ten-to-fifteen n (inl e) = (omega arith, omega arith)
+ten-to-fifteen n (inr (inl e)) = (omega arith, omega arith)
+ten-to-fifteen n (inr (inr (inl e))) = (omega arith, omega arith)
+ten-to-fifteen n (inr (inr (inr (inl e)))) = (omega arith, omega arith)
+ten-to-fifteen n (inr (inr (inr (inr (inl e))))) = (omega arith, omega arith)
+ten-to-fifteen n (inr (inr (inr (inr (inr (inl e)))))) = (omega arith, omega arith)
+ten-to-fifteen n (inr (inr (inr (inr (inr (inr e)))))) = absurd e
+
+refused-value : (s : ℕ) (x : Effect) → s ≢ 0 → answer s x ≡ 0
+refused-value zero x n = absurd (n refl)
+refused-value (suc s) x n = refl
+
+refused-registers : (s : ℕ) (x : Effect) (e : ℕ → Expr) (i : ℕ) → s ≢ 0 → after s x e i ≡ e i
+refused-registers zero x e i n = absurd (n refl)
+refused-registers (suc s) x e i n = refl
+
+pub call-answers : CallAnswers
+unfolding callStatus
+call-answers F p ws top s o d a b =
+    let c = calls-do F p ws top s o d a b in
+    let r = step F ws top o d a b in
+    let x = effect F ws top o d a b in
+    record {
+      number = rw (c .status)
+          (first-of (fault F o d a b) (x .unfit) (lacking F ws top o d a b (x .need)) (fault-number F o d a b)
+          (unfit-number (opAt o) (meaning ws) (facts F ws top) d a b));
+      value = λ n. c .value ∙ refused-value (r .verdict .status) x n;
+      kept = λ k. let z = ten-to-fifteen (r .verdict .status) k in c .refused (λ e. omega (arith, z .0))
+          (λ e. omega (arith, z .1));
+      expressions = λ n i h. c .registers i h ∙ refused-registers (r .verdict .status) x (meaning ws) i n;
+      sound = c .sound;
+      len = c .len;
+    }

@@ -1,0 +1,2 @@
+-- One outcome. Assumes nothing.
+pub mod Outcomes

@@ -1,0 +1,213 @@
+-- One outcome: two that satisfy the same claim are equal.
+-- Assumes nothing.
+use mathlib.Core.Path.{_≡_, refl, sym, ap, ap₂, _∙_}
+use mathlib.Core.Logic.{_⊎_, inl, inr, _≢_}
+use mathlib.Core.Bool.{Bool, true, false}
+use mathlib.Core.List.{List, _∷_, _++_}
+use Prim.Native.Nat.{ℕ, zero, suc, _+_, _-_, _≤_, _<_}
+use native.Mathlib.Omega.{arith}
+use lib.ListN.{length, replicate}
+use lib.Seq.{ext-getD}
+use Rattle.words.specs.Cell.{firstWord, secondWord}
+use Rattle.meaning.specs.Sound.{Cell, code, hollow, ends, fst, snd, at, capacity, Sound}
+use Rattle.meaning.specs.Reach.{reached, live}
+use Rattle.meaning.specs.Collected.{mapEnds, newAddress, collectedTop}
+use Rattle.meaning.specs.Check.{Verdict, only, Done, lengthTest, check}
+use Rattle.meaning.specs.Batch.{Outcome, asLent}
+use Rattle.meaning.proofs.Lists.{lt-or-ge}
+use Rattle.meaning.proofs.sound.Cells.{good, BracketIn, read, bracket-words, term-words, free-words}
+use Rattle.meaning.proofs.check.Checking.{check-sound, sound-check}
+use Rattle.meaning.proofs.collected.Determined.{is-collected}
+use Rattle.promises.specs.Table.{Not, LengthRule, TopRule, CellRule, Judged, badLength, badTop, badCell, isSound}
+use Rattle.promises.specs.Table.{Batched, unsound, badCalls, badSpace, runs}
+use Rattle.promises.specs.Requests.{Request, inWords}
+use Rattle.promises.specs.Alike.{Served}
+use Rattle.promises.proofs.alike.Requests.{ran}
+use Rattle.promises.specs.Calls.{Answered, none, next, BatchRun}
+use Rattle.promises.specs.Unique.{OneAnswer, OneCheck, OneFresh, OneCollected, OneLook, OneCollect, OneBatch}
+use Rattle.promises.proofs.table.Rules.{refuted, length-rule, rule-length}
+
+pub one-answer : OneAnswer
+one-answer A B numbers inj b x y e f = inj x y (e ∙ sym f)
+
+-- ---- the check
+
+sound-rules : {F : ℕ} {ws : List ℕ} {top : ℕ} → Sound F ws top
+    → LengthRule F ws × TopRule F ws top × ((c : ℕ) → c < capacity ws → CellRule F ws top c)
+sound-rules s = (
+  (s .even, s .large, s .small),
+  (s .low, s .high),
+  λ c h. record { register = s .registers c; occupied = s .heap c; free = λ l. s .free c l h },
+)
+
+module _ (F : ℕ) (ws : List ℕ) (top : ℕ) where
+  judged-once : (v w : Verdict) → Judged F ws top v → Judged F ws top w → v ≡ w
+  judged-once v w (badLength n) (badLength k) = refl
+  judged-once v w (badLength n) (badTop l k) = absurd (n l)
+  judged-once v w (badLength n) (badCell c l t h k b) = absurd (n l)
+  judged-once v w (badLength n) (isSound s) = absurd (n (sound-rules s .0))
+  judged-once v w (badTop l n) (badLength k) = absurd (k l)
+  judged-once v w (badTop l n) (badTop m k) = refl
+  judged-once v w (badTop l n) (badCell c m t h k b) = absurd (n t)
+  judged-once v w (badTop l n) (isSound s) = absurd (n (sound-rules s .1))
+  judged-once v w (badCell c l t h n b) (badLength k) = absurd (k l)
+  judged-once v w (badCell c l t h n b) (badTop m k) = absurd (k t)
+  judged-once v w (badCell c l t h n b) (badCell x m u g k d) =
+      ap {B = Verdict} (λ z. record { status = 3; value = z }) (lowest (lt-or-ge c x) (lt-or-ge x c))
+    where
+      lowest : (c < x) ⊎ (x ≤ c) → (x < c) ⊎ (c ≤ x) → c ≡ x
+      lowest (inl y) z = absurd (n (d c y))
+      lowest (inr y) (inl z) = absurd (k (b x z))
+      lowest (inr y) (inr z) = omega arith
+  judged-once v w (badCell c l t h n b) (isSound s) = absurd (n (sound-rules s .2 c h))
+  judged-once v w (isSound s) (badLength k) = absurd (k (sound-rules s .0))
+  judged-once v w (isSound s) (badTop m k) = absurd (k (sound-rules s .1))
+  judged-once v w (isSound s) (badCell c m t h k b) = absurd (k (sound-rules s .2 c h))
+  judged-once v w (isSound s) (isSound z) = refl
+
+pub one-check : OneCheck
+one-check F ws top v w a b = judged-once F ws top v w (a .judged) (b .judged)
+
+-- ---- by parts
+
+verdict-parts : (v w : Verdict) → v .status ≡ w .status → v .value ≡ w .value → v ≡ w
+verdict-parts v w e f = ap₂ {C = Verdict} (λ x y. record { status = x; value = y }) e f
+
+done-parts : (r q : Done) → r .verdict ≡ q .verdict → r .words ≡ q .words → r .top ≡ q .top → r ≡ q
+done-parts r q e f g = rw (e, f, g) refl
+
+pub one-fresh : OneFresh
+one-fresh F ws r q a b = go (lengthTest F (length ws)) refl
+  where
+    both : (s : ℕ) (w : List ℕ) (t : ℕ) → (r .verdict .status ≡ s) × (r .words ≡ w) × (r .top ≡ t)
+        → (q .verdict .status ≡ s) × (q .words ≡ w) × (q .top ≡ t) → r ≡ q
+    both s w t x y =
+        done-parts r q (verdict-parts (r .verdict) (q .verdict) (x .0 ∙ sym (y .0)) (a .value ∙ sym (b .value)))
+        (x .1 ∙ sym (y .1)) (x .2 ∙ sym (y .2))
+
+    go : (t : Bool) → lengthTest F (length ws) ≡ t → r ≡ q
+    go true e = let l = length-rule F ws e in both 0 _ F (a .made l) (b .made l)
+    go false e =
+        let n = refuted (lengthTest F (length ws)) (rule-length F ws) e in both 1 ws 0 (a .refused n) (b .refused n)
+
+-- ---- collecting
+
+-- the words of a cell of a sound store, by the cell
+module _ (F : ℕ) (p : 0 < F) (v : List ℕ) (t : ℕ) (s : Sound F v t) where
+  abbrev Holds : ℕ → Cell → Type 0
+  Holds c b = (firstWord v c ≡ fst b) × (secondWord v c ≡ snd b)
+
+  register-words : (i : ℕ) → i < F → (b : Cell) → at v i ≡ b → Holds i b
+  unfolding at read
+  register-words i h b e =
+      let w = bracket-words F t (firstWord v i) (secondWord v i) p (s .registers i h) in rw (← e)
+      (sym (w .one), sym (w .two))
+
+  heap-words : (c : ℕ) → F ≤ c → c < t → (b : Cell) → at v c ≡ b → Holds c b
+  unfolding at read
+  heap-words c f h b e =
+      let w = term-words F c (firstWord v c) (secondWord v c) p (s .heap c f h) in rw (← e) (sym (w .one), sym (w .two))
+
+pub one-collected : OneCollected
+unfolding collectedTop
+one-collected F p ws top s v g =
+    let t = F + live F ws top in
+    is-collected F ws top p s v (g .len)
+    (λ i h. register-words F p v t (g .sound) i h (mapEnds (newAddress F (reached F ws top)) (at ws i))
+    (g .registers i h))
+    (λ c r. let l = g .low c r in heap-words F p v t (g .sound) (newAddress F (reached F ws top) c) (l .0) (l .1)
+    (mapEnds (newAddress F (reached F ws top)) (at ws c)) (g .cells c r))
+    (λ i l h. free-words F v t (g .sound) i l (rw (g .len) h))
+
+unsound-check : (F : ℕ) (ws : List ℕ) (top n : ℕ) → check F ws top .status ≡ suc n → Not (Sound F ws top)
+unsound-check F ws top n e s =
+    let z : check F ws top .status ≡ 0 = ap (λ (v : Verdict). v .status) (sound-check F ws top s) in omega arith
+
+pub one-collect : OneCollect
+one-collect F ws top r q a b = go (check F ws top .status) refl
+  where
+    go : (n : ℕ) → check F ws top .status ≡ n → r ≡ q
+    go zero e =
+        let s = check-sound F ws top e in
+        let x = a .collects s in
+        let y = b .collects s in
+        done-parts r q (verdict-parts (r .verdict) (q .verdict) (x .0 ∙ sym (y .0)) (x .1 ∙ sym (y .1)))
+        (x .2 ∙ sym (y .2)) (x .3 ∙ sym (y .3))
+    go (suc n) e =
+        let x = a .refused (unsound-check F ws top n e) in
+        let y = b .refused (unsound-check F ws top n e) in
+        done-parts r q (judged-once F ws top (r .verdict) (q .verdict) (x .0) (y .0)) (x .2 ∙ sym (y .2))
+        (x .3 ∙ sym (y .3))
+
+-- ---- a batch
+
+answered-ran : (F : ℕ) {ws : List ℕ} {top : ℕ} {qs : List Request} {said : List Verdict} {v : List ℕ} {t : ℕ}
+    → Answered F ws top qs said v t → ran F ws top qs ≡ record { words = v; top = t; answers = said }
+answered-ran F none = refl
+answered-ran F (next {ws} {top} {q} r e c k) =
+    rw (← e) (ap (λ (s : Served). record { words = s .words; top = s .top; answers = r .verdict ∷ s .answers })
+    (answered-ran F k))
+
+module _ (F : ℕ) (ws : List ℕ) (top : ℕ) (calls out : List ℕ) where
+  both-run : (r q : Outcome) → r .verdict ≡ only 0 → q .verdict ≡ only 0 → BatchRun F ws top calls out r
+      → BatchRun F ws top calls out q → r ≡ q
+  both-run r q e f x y =
+      let z : _≡_ {A = Served} (record { words = r .words; top = r .top; answers = x .said })
+      (record { words = q .words; top = q .top; answers = y .said }) =
+      sym (answered-ran F (x .answered)) ∙ answered-ran F (y .answered) in
+      let w : r .words ≡ q .words = ap (λ (u : Served). u .words) z in
+      let t : r .top ≡ q .top = ap (λ (u : Served). u .top) z in
+      let a : r .answers ≡ q .answers =
+      x .answers
+      ∙ (ap (λ (u : Served). inWords (u .answers) ++ replicate (length out - length (inWords (u .answers))) 0) z
+      ∙ sym (y .answers)) in
+      rw (e ∙ sym f, w, t, a) refl
+
+  -- a store is sound or it is not
+  clash : (v : Verdict) → Judged F ws top v → v .status ≢ 0 → Not (Sound F ws top)
+  clash v j n s = n (ap (λ (x : Verdict). x .status) (judged-once F ws top v (only 0) j (isSound s)))
+
+  batched-once : (r q : Outcome) → Batched F ws top calls out r → Batched F ws top calls out q
+      → (r .verdict ≡ only 0 → q .verdict ≡ only 0 → r ≡ q) → r ≡ q
+  batched-once r q (unsound v j n) (unsound w k m) h =
+      ap (λ (x : Verdict). asLent x ws top out) (judged-once F ws top v w j k)
+  batched-once r q (unsound v j n) (badCalls s c) h = absurd (clash v j n s)
+  batched-once r q (unsound v j n) (badSpace s c l) h = absurd (clash v j n s)
+  batched-once r q (unsound v j n) (runs x s c l e) h = absurd (clash v j n s)
+  batched-once r q (badCalls s c) (unsound w k m) h = absurd (clash w k m s)
+  batched-once r q (badCalls s c) (badCalls t d) h = refl
+  batched-once r q (badCalls s c) (badSpace t d l) h = absurd (c d)
+  batched-once r q (badCalls s c) (runs x t d l e) h = absurd (c d)
+  batched-once r q (badSpace s c l) (unsound w k m) h = absurd (clash w k m s)
+  batched-once r q (badSpace s c l) (badCalls t d) h = absurd (d c)
+  batched-once r q (badSpace s c l) (badSpace t d m) h = refl
+  batched-once r q (badSpace s c l) (runs x t d m e) h = absurd (l m)
+  batched-once r q (runs x s c l e) (unsound w k m) h = absurd (clash w k m s)
+  batched-once r q (runs x s c l e) (badCalls t d) h = absurd (d c)
+  batched-once r q (runs x s c l e) (badSpace t d m) h = absurd (m l)
+  batched-once r q (runs x s c l e) (runs y t d m f) h = h e f
+
+pub one-batch : OneBatch
+one-batch F ws top calls out r q a b =
+    batched-once F ws top calls out r q (a .table .batched) (b .table .batched)
+    (λ e f. both-run F ws top calls out r q e f (a .run (ap (λ (v : Verdict). v .status) e))
+    (b .run (ap (λ (v : Verdict). v .status) f)))
+
+-- ---- the look
+
+pub one-look : OneLook
+one-look F p ws top i x y a b = go (check F ws top .status) refl (lt-or-ge i F)
+  where
+    cell : Sound F ws top → i < F → (k : Cell) → at ws i ≡ k → BracketIn F top k → x ≡ y
+    cell s h (code c) e t = absurd t
+    cell s h hollow e t = a .empty e ∙ sym (b .empty e)
+    cell s h (ends l r) e t =
+        let u = a .cells l r s h e in
+        let v = b .cells l r s h e in
+        let n : length x ≡ length y = u .0 ∙ sym (v .0) in
+        ext-getD 0 x y n (λ j m. u .1 j m ∙ sym (v .1 j (rw (← n) m)))
+
+    go : (n : ℕ) → check F ws top .status ≡ n → (i < F) ⊎ (F ≤ i) → x ≡ y
+    go zero e (inl h) = let s = check-sound F ws top e in cell s h (at ws i) refl (good F ws top p s .regs i h)
+    go zero e (inr h) = a .none h ∙ sym (b .none h)
+    go (suc n) e h = let m = unsound-check F ws top n e in a .unsound m ∙ sym (b .unsound m)
