@@ -6,7 +6,7 @@ use Prim.Native.Nat.{ℕ, _+_, _-_, _≤_, _<_}
 use native.Mathlib.Omega.{arith}
 use lib.Dec.{ltb}
 use borrow.Author.Tests.{lt-ltb, le-ltb}
-use Rattle.meaning.specs.Limits.{firstCell, limit}
+use Rattle.meaning.specs.Limits.{firstHeapCell, limit}
 use Rattle.meaning.specs.Expr.{terms}
 use Rattle.meaning.specs.Sound.{Sound, capacity, at}
 use Rattle.meaning.specs.Meaning.{meaning}
@@ -18,69 +18,69 @@ use Rattle.meaning.proofs.reach.Reaching.{live-le}
 use Rattle.meaning.proofs.collected.Collecting.{collected-sound, length-collected, meaning-kept}
 use Rattle.meaning.proofs.effect.Stepping.{size-terms}
 use Rattle.meaning.proofs.call.Plans.{as-it-is, once-collected}
-use Rattle.store.proofs.Sounds.{firstCell-pos}
+use Rattle.store.proofs.Sounds.{firstHeapCell-pos}
 use Rattle.build.specs.Room.{RoomMade, Sought, Roomy, roomThen}
 use Rattle.build.specs.declared.room.Room.{Room}
 use Rattle.build.specs.declared.room.Room.the-variants.{Ready, Lacking}
 
 -- what is live, and `top` once collected
-module _ (ws : List ℕ) (top : ℕ) (s : Sound firstCell ws top) where
-  pub low-live : collectedTop firstCell ws top ≡ firstCell + live firstCell ws top
+module _ (ws : List ℕ) (top : ℕ) (s : Sound firstHeapCell ws top) where
+  pub low-live : collectedTop firstHeapCell ws top ≡ firstHeapCell + live firstHeapCell ws top
   unfolding collectedTop
   low-live = refl
 
-  pub live-small : firstCell + live firstCell ws top ≤ limit
-  live-small = omega (arith, live-le firstCell ws top firstCell-pos s, s .high, s .small)
+  pub live-small : firstHeapCell + live firstHeapCell ws top ≤ limit
+  live-small = omega (arith, live-le firstHeapCell ws top firstHeapCell-pos s, s .high, s .small)
 
 -- ---- room for n cells, sought in v: above `top`, or once v is collected, or nowhere
 
-module _ (n : ℕ) {v : List ℕ} {top : ℕ} (ws : List ℕ) (s : Sound firstCell v top) where
+module _ (n : ℕ) {v : List ℕ} {top : ℕ} (ws : List ℕ) (s : Sound firstHeapCell v top) where
   room-above : top + n ≤ capacity v → RoomMade n v ws top (Ready top) v
   room-above h = record {
-    does = λ act. as-it-is firstCell n v top firstCell-pos s act ws (le-ltb (capacity v) (top + n) h);
+    does = λ act. as-it-is firstHeapCell n v top firstHeapCell-pos s act ws (le-ltb (capacity v) (top + n) h);
     ready = (s, omega arith);
     denote = λ i l. refl;
   }
 
   -- by the second test
-  once : capacity v < top + n → (u : Bool) → ltb (capacity v) (collectedTop firstCell v top + n) ≡ u
-      → (act : List ℕ → ℕ → Done) → withRoom firstCell n v act ws top
-      ≡ cond u (refused (collected firstCell ws top) (collectedTop firstCell ws top) (only 16))
-      (act (collected firstCell v top) (collectedTop firstCell v top))
+  once : capacity v < top + n → (u : Bool) → ltb (capacity v) (collectedTop firstHeapCell v top + n) ≡ u
+      → (act : List ℕ → ℕ → Done) → withRoom firstHeapCell n v act ws top
+      ≡ cond u (refused (collected firstHeapCell ws top) (collectedTop firstHeapCell ws top) (only 16))
+      (act (collected firstHeapCell v top) (collectedTop firstHeapCell v top))
   once h u e act =
-      once-collected firstCell n v top firstCell-pos s act ws (lt-ltb (capacity v) (top + n) h) ∙ rw e refl
+      once-collected firstHeapCell n v top firstHeapCell-pos s act ws (lt-ltb (capacity v) (top + n) h) ∙ rw e refl
 
-  room-collected : {u : List ℕ} {t : ℕ} → capacity v < top + n → u ≡ collected firstCell v top
-      → t ≡ collectedTop firstCell v top → t + n ≤ capacity v → RoomMade n v ws top (Ready t) u
+  room-collected : {u : List ℕ} {t : ℕ} → capacity v < top + n → u ≡ collected firstHeapCell v top
+      → t ≡ collectedTop firstHeapCell v top → t + n ≤ capacity v → RoomMade n v ws top (Ready t) u
   room-collected h e f g =
-      let low = collectedTop firstCell v top in
-      let long = length-collected firstCell v top firstCell-pos s in
+      let low = collectedTop firstHeapCell v top in
+      let long = length-collected firstHeapCell v top firstHeapCell-pos s in
       rw (e, f) (record {
         does = once h false (le-ltb (capacity v) (low + n) (omega arith));
-        ready = (collected-sound firstCell v top firstCell-pos s, omega arith);
-        denote = meaning-kept firstCell v top firstCell-pos s;
+        ready = (collected-sound firstHeapCell v top firstHeapCell-pos s, omega arith);
+        denote = meaning-kept firstHeapCell v top firstHeapCell-pos s;
       })
 
-  room-nowhere : Sound firstCell ws top → {u : List ℕ} {t : ℕ} → capacity v < top + n
-      → capacity v < collectedTop firstCell v top + n → u ≡ collected firstCell ws top
-      → t ≡ collectedTop firstCell ws top → RoomMade n v ws top (Lacking t) u
+  room-nowhere : Sound firstHeapCell ws top → {u : List ℕ} {t : ℕ} → capacity v < top + n
+      → capacity v < collectedTop firstHeapCell v top + n → u ≡ collected firstHeapCell ws top
+      → t ≡ collectedTop firstHeapCell ws top → RoomMade n v ws top (Lacking t) u
   room-nowhere w h g e f =
       rw (e, f) (record {
-        does = once h true (lt-ltb (capacity v) (collectedTop firstCell v top + n) g);
+        does = once h true (lt-ltb (capacity v) (collectedTop firstHeapCell v top + n) g);
         ready = tt;
-        denote = meaning-kept firstCell ws top firstCell-pos w;
+        denote = meaning-kept firstHeapCell ws top firstHeapCell-pos w;
       })
 
 -- ---- as it is sought, where d's old expression counts
 
-module _ {n : ℕ} {ws : List ℕ} {top : ℕ} (s : Sound firstCell ws top) where
+module _ {n : ℕ} {ws : List ℕ} {top : ℕ} (s : Sound firstHeapCell ws top) where
   pub there : top + n ≤ capacity ws → Sought n ws top ws top
   there h = record { small = omega arith; ready = λ g. room-above n ws s h; lacking = λ g. absurd (omega arith) }
 
-  pub gained : {v : List ℕ} {t : ℕ} → capacity ws < top + n → v ≡ collected firstCell ws top
-      → t ≡ collectedTop firstCell ws top → Sought n ws top v t
+  pub gained : {v : List ℕ} {t : ℕ} → capacity ws < top + n → v ≡ collected firstHeapCell ws top
+      → t ≡ collectedTop firstHeapCell ws top → Sought n ws top v t
   gained h e f = record {
-    small = omega (arith, f, low-live ws top s, live-le firstCell ws top firstCell-pos s);
+    small = omega (arith, f, low-live ws top s, live-le firstHeapCell ws top firstHeapCell-pos s);
     ready = λ g. room-collected n ws s h e f g;
     lacking = λ g. room-nowhere n ws s s h (omega (arith, f)) e f;
   }
@@ -91,16 +91,16 @@ module _ {n : ℕ} {v ws : List ℕ} {top : ℕ} {r : Room} {u : List ℕ} (m : 
   pub room-roomy : r ≡ Ready t → Roomy n u t
   room-roomy e = rw e at (m .ready)
 
-  pub room-does : r ≡ Ready t → (act : List ℕ → ℕ → Done) → withRoom firstCell n v act ws top ≡ act u t
+  pub room-does : r ≡ Ready t → (act : List ℕ → ℕ → Done) → withRoom firstHeapCell n v act ws top ≡ act u t
   room-does e act = m .does act ∙ ap (λ (x : Room). roomThen x u act) e
 
   pub room-refuses : r ≡ Lacking t → (act : List ℕ → ℕ → Done)
-      → withRoom firstCell n v act ws top ≡ refused u t (only 16)
+      → withRoom firstHeapCell n v act ws top ≡ refused u t (only 16)
   room-refuses e act = m .does act ∙ ap (λ (x : Room). roomThen x u act) e
 
   -- a register whose expression v has too has as many terms as before
-  pub room-size : r ≡ Ready t → Sound firstCell ws top → (i : ℕ) → i < firstCell → meaning v i ≡ meaning ws i
+  pub room-size : r ≡ Ready t → Sound firstHeapCell ws top → (i : ℕ) → i < firstHeapCell → meaning v i ≡ meaning ws i
       → size (at u i) ≡ size (at ws i)
   room-size e s i h k =
-      size-terms firstCell u t firstCell-pos (room-roomy e .0) i h
-      ∙ (ap terms ((rw e at (m .denote i h)) ∙ k) ∙ sym (size-terms firstCell ws top firstCell-pos s i h))
+      size-terms firstHeapCell u t firstHeapCell-pos (room-roomy e .0) i h
+      ∙ (ap terms ((rw e at (m .denote i h)) ∙ k) ∙ sym (size-terms firstHeapCell ws top firstHeapCell-pos s i h))

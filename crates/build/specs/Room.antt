@@ -5,7 +5,7 @@ use mathlib.Core.Bool.{Bool, true}
 use mathlib.Core.List.{List}
 use Prim.Native.Nat.{ℕ, _+_, _*_, _≤_, _<_}
 use lib.ListN.{length}
-use Rattle.meaning.specs.Limits.{firstCell}
+use Rattle.meaning.specs.Limits.{firstHeapCell}
 use Rattle.meaning.specs.Sound.{Sound, capacity}
 use Rattle.meaning.specs.Meaning.{meaning}
 use Rattle.meaning.specs.Check.{Done, refused, only}
@@ -15,7 +15,7 @@ use Rattle.build.specs.declared.room.Room.the-variants.{Ready, Lacking}
 
 -- a sound store with room for n new cells
 abbrev pub Roomy : ℕ → List ℕ → ℕ → Type 0
-Roomy n ws top = Sound firstCell ws top × (2 * (top + n) ≤ length ws)
+Roomy n ws top = Sound firstHeapCell ws top × (2 * (top + n) ≤ length ws)
 
 -- the call's action, where there is room; else 16
 abbrev pub roomThen : Room → List ℕ → (List ℕ → ℕ → Done) → Done
@@ -33,9 +33,9 @@ keptOf (Lacking t) v ws = ws
 
 pub record RoomMade (n : ℕ) (v ws : List ℕ) (top : ℕ) (r : Room) (ws′ : List ℕ) : Type 0 where
   -- whatever the call's action is, it is carried out as the rule for room says
-  pub does : (act : List ℕ → ℕ → Done) → withRoom firstCell n v act ws top ≡ roomThen r ws′ act
+  pub does : (act : List ℕ → ℕ → Done) → withRoom firstHeapCell n v act ws top ≡ roomThen r ws′ act
   pub ready : ReadyFor n r ws′
-  pub denote : (i : ℕ) → i < firstCell → meaning ws′ i ≡ meaning (keptOf r v ws) i
+  pub denote : (i : ℕ) → i < firstHeapCell → meaning ws′ i ≡ meaning (keptOf r v ws) i
 
 -- n cells are to be laid from t on in the store v, which is the store itself or the store collected; one test says
 -- whether there is room for them

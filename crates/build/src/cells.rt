@@ -3,7 +3,7 @@ ghost use mathlib.Core.Path.{_≡_};
 ghost use Prim.Native.Nat.{_+_, _*_, _≤_, _<_};
 ghost use lib.ListN.{length};
 ghost use Rattle.meaning.specs.Limits.{limit};
-ghost use Rattle.meaning.specs.Sound.{code, hollow, ends};
+ghost use Rattle.meaning.specs.Sound.{code, empty, ends};
 ghost use Rattle.meaning.specs.Call.{put, copy, copies};
 
 // Cell c becomes a symbol, an empty bracket, or a bracket with the ends l and r.
@@ -16,7 +16,7 @@ pub fn put_symbol(ws: &mut [u32], c: usize, a: u32)
 
 pub fn put_empty(ws: &mut [u32], c: usize)
     requires { ⌜ 2 * c + 1 < length (now ws) ⌝ }
-    ensures { λ _. ⌜ now (ws .exit) ≡ put (now (ws .entry)) c hollow ⌝ }
+    ensures { λ _. ⌜ now (ws .exit) ≡ put (now (ws .entry)) c empty ⌝ }
 {
     words::put_cell(ws, c, 0, words::EMPTY);
 }

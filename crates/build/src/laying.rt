@@ -5,7 +5,7 @@ use crate::cells::put_ends;
 use crate::cells::put_symbol;
 ghost use mathlib.Core.Path.{_≡_};
 ghost use Prim.Native.Nat.{_+_, _<_};
-ghost use Rattle.meaning.specs.Limits.{firstCell};
+ghost use Rattle.meaning.specs.Limits.{firstHeapCell};
 ghost use Rattle.meaning.specs.Sound.{at};
 ghost use Rattle.meaning.specs.Check.{size, done};
 ghost use Rattle.meaning.specs.Call.{newSymbol, newBracket, newRun};
@@ -13,7 +13,7 @@ ghost use Rattle.build.specs.Room.{Roomy};
 
 // Register d becomes one new symbol.
 pub fn lay_symbol(ws: &mut [u32], top: usize, d: usize, a: u32) -> usize
-    requires { ⌜ Roomy 1 (now ws) top × (d < firstCell) ⌝ }
+    requires { ⌜ Roomy 1 (now ws) top × (d < firstHeapCell) ⌝ }
     ensures { λ r. ⌜ done (now (ws .exit)) r 0 ≡ newSymbol d a (now (ws .entry)) top ⌝ }
 {
     put_symbol(ws, top, a);
@@ -23,7 +23,7 @@ pub fn lay_symbol(ws: &mut [u32], top: usize, d: usize, a: u32) -> usize
 
 // Register d becomes one new bracket, a cell equal to register a's.
 pub fn lay_bracket(ws: &mut [u32], top: usize, d: usize, a: usize) -> usize
-    requires { ⌜ Roomy 1 (now ws) top × (d < firstCell) × (a < firstCell) ⌝ }
+    requires { ⌜ Roomy 1 (now ws) top × (d < firstHeapCell) × (a < firstHeapCell) ⌝ }
     ensures { λ r. ⌜ done (now (ws .exit)) r 0 ≡ newBracket d a (now (ws .entry)) top ⌝ }
 {
     copy_cell(ws, top, a);
@@ -34,7 +34,7 @@ pub fn lay_bracket(ws: &mut [u32], top: usize, d: usize, a: usize) -> usize
 // Register d becomes new cells equal to those of register a, then of register b, of which one at least has some.
 pub fn lay_run(ws: &mut [u32], top: usize, d: usize, a: usize, b: usize) -> usize
     requires { ⌜ Roomy (size (at (now ws) a) + size (at (now ws) b)) (now ws) top ⌝ }
-    requires { ⌜ (d < firstCell) × (a < firstCell) × (b < firstCell) × (0 < size (at (now ws) a)) ⌝ }
+    requires { ⌜ (d < firstHeapCell) × (a < firstHeapCell) × (b < firstHeapCell) × (0 < size (at (now ws) a)) ⌝ }
     ensures { λ r. ⌜ done (now (ws .exit)) r 0 ≡ newRun d a b (now (ws .entry)) top ⌝ }
 {
     let p = store::run_at(ws, a);

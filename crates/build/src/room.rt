@@ -1,7 +1,7 @@
 // Room for new cells: the store is collected where `top` and the need exceed the capacity, and only then.
 ghost use Prim.Native.Nat.{_≤_, _<_};
 ghost use lib.ListN.{length};
-ghost use Rattle.meaning.specs.Limits.{firstCell};
+ghost use Rattle.meaning.specs.Limits.{firstHeapCell};
 ghost use Rattle.meaning.specs.Sound.{Sound};
 ghost use Rattle.meaning.specs.Call.{sought};
 ghost use Rattle.build.specs.Room.{Sought, RoomMade};
@@ -15,20 +15,20 @@ pub enum Room {
 // `top` of the store in which n new cells are to be laid: of the store as it is where they fit above `top`, else of the
 // collected store.
 fn seek_room(ws: &mut [u32], top: usize, n: usize) -> usize
-    requires { ⌜ Sound firstCell (now ws) top × (n ≤ length (now ws)) ⌝ }
+    requires { ⌜ Sound firstHeapCell (now ws) top × (n ≤ length (now ws)) ⌝ }
     ensures { λ r. ⌜ Sought n (now (ws .entry)) top (now (ws .exit)) r ⌝ }
 {
     let cells = ws.len() / 2;
     if top + n <= cells {
         return top;
     }
-    collect::gather(ws, top)
+    collect::collect_sound(ws, top)
 }
 
 // Room for n new cells, for a call that sets register d; `kept` says whether it reads d too. d's old expression counts
 // either way.
 pub fn make_room(ws: &mut [u32], top: usize, n: usize, d: usize, kept: bool) -> Room
-    requires { ⌜ Sound firstCell (now ws) top × (n ≤ length (now ws)) × (d < firstCell) ⌝ }
+    requires { ⌜ Sound firstHeapCell (now ws) top × (n ≤ length (now ws)) × (d < firstHeapCell) ⌝ }
     ensures { λ r. ⌜ RoomMade n (sought kept d (now (ws .entry))) (now (ws .entry)) top r (now (ws .exit)) ⌝ }
 {
     let cells = ws.len() / 2;

@@ -8,7 +8,7 @@ use lib.Dec.{leb, eqb}
 use lib.ListN.{length, take, replicate}
 use lib.Seq.{length-take-le}
 use borrow.Author.Tests.{le-leb, lt-leb, eqb-true}
-use Rattle.meaning.specs.Limits.{firstCell, callsLimit}
+use Rattle.meaning.specs.Limits.{firstHeapCell, callsLimit}
 use Rattle.meaning.specs.Sound.{Sound}
 use Rattle.meaning.specs.Check.{Verdict, only, check}
 use Rattle.meaning.specs.Batch.{runs, asLent, ended, callsTest, batchOf, batch}
@@ -31,20 +31,20 @@ calls-fours n e = go (leb n callsLimit) e
 module _ (ws : List ℕ) (top : ℕ) (calls out : List ℕ) where
   -- ---- the call list and the answer space, of a sound store
 
-  pub bad-calls : callsTest (length calls) ≡ false → batchOf firstCell ws top calls out ≡ asLent (only 4) ws top out
+  pub bad-calls : callsTest (length calls) ≡ false → batchOf firstHeapCell ws top calls out ≡ asLent (only 4) ws top out
   unfolding batchOf
   bad-calls e = rw e refl
 
   pub short-answers : callsTest (length calls) ≡ true → length out < 2 * (length calls / 4)
-      → batchOf firstCell ws top calls out ≡ asLent (only 5) ws top out
+      → batchOf firstHeapCell ws top calls out ≡ asLent (only 5) ws top out
   unfolding batchOf
   short-answers e h = rw (e, lt-leb (2 * (length calls / 4)) (length out) h) refl
 
   pub all-run : (out′ : List ℕ) {t : ℕ} {ws′ out″ : List ℕ} → callsTest (length calls) ≡ true
       → 2 * (length calls / 4) ≤ length out
-      → runs firstCell ws top calls ≡ ranTo t ws′ (take (2 * (length calls / 4)) out′) → length out′ ≡ length out
+      → runs firstHeapCell ws top calls ≡ ranTo t ws′ (take (2 * (length calls / 4)) out′) → length out′ ≡ length out
       → out″ ≡ take (2 * (length calls / 4)) out′ ++ replicate (length out′ - 2 * (length calls / 4)) 0
-      → batchOf firstCell ws top calls out ≡ record { verdict = only 0; words = ws′; top = t; answers = out″ }
+      → batchOf firstHeapCell ws top calls out ≡ record { verdict = only 0; words = ws′; top = t; answers = out″ }
   unfolding batchOf ended
   all-run out′ e h r l z =
       let m : length (take (2 * (length calls / 4)) out′) ≡ 2 * (length calls / 4) =
@@ -53,12 +53,12 @@ module _ (ws : List ℕ) (top : ℕ) (calls out : List ℕ) where
 
   -- ---- the store
 
-  pub batch-sound : Sound firstCell ws top → batchOf firstCell ws top calls out ≡ batch firstCell ws top calls out
+  pub batch-sound : Sound firstHeapCell ws top → batchOf firstHeapCell ws top calls out ≡ batch firstHeapCell ws top calls out
   unfolding batch
-  batch-sound s = rw (sound-check firstCell ws top s) refl
+  batch-sound s = rw (sound-check firstHeapCell ws top s) refl
 
-  pub batch-refused : (found : Checked) {u : Unsound} → verdictOf found ≡ check firstCell ws top
-      → found ≡ checked.Refused u → asLent (refusalOf u) ws top out ≡ batch firstCell ws top calls out
+  pub batch-refused : (found : Checked) {u : Unsound} → verdictOf found ≡ check firstHeapCell ws top
+      → found ≡ checked.Refused u → asLent (refusalOf u) ws top out ≡ batch firstHeapCell ws top calls out
   unfolding batch
   batch-refused found q e =
-      found-refused firstCell ws top found q _ (λ (v : Verdict). asLent v ws top out) e
+      found-refused firstHeapCell ws top found q _ (λ (v : Verdict). asLent v ws top out) e

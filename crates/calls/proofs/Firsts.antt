@@ -8,8 +8,8 @@ use native.Mathlib.Numerals.{add-one}
 use native.Mathlib.Omega.{arith}
 use lib.ListN.{length}
 use borrow.Author.Tests.{lt-ltb, le-ltb}
-use Rattle.meaning.specs.Limits.{firstCell}
-use Rattle.meaning.specs.Sound.{hollow, ends, at, Sound}
+use Rattle.meaning.specs.Limits.{firstHeapCell}
+use Rattle.meaning.specs.Sound.{empty, ends, at, Sound}
 use Rattle.meaning.specs.Check.{Done, done, refused, only}
 use Rattle.meaning.specs.Call.{onEnds, put, copy, rest, openTerm, openFirst, codeTerm, codeFirst}
 use Rattle.store.specs.Holds.{RunIs, Termed, termIs}
@@ -22,7 +22,7 @@ use Rattle.store.proofs.Registers.{is-empty, is-full, first-in}
 
 -- ---- by the register's run
 
-module _ {ws : List ℕ} {top : ℕ} (i : ℕ) (r : Run) (s : Sound firstCell ws top) (h : i < firstCell)
+module _ {ws : List ℕ} {top : ℕ} (i : ℕ) (r : Run) (s : Sound firstHeapCell ws top) (h : i < firstHeapCell)
     (k : RunIs r (at ws i)) where
   -- its first cell may be read as a term
   pub first-readable : r .size ≢ 0 → (2 * r .start + 1 < length ws) × Termed ws (r .start)
@@ -38,7 +38,7 @@ module _ {ws : List ℕ} {top : ℕ} (i : ℕ) (r : Run) (s : Sound firstCell ws
       → onEnds ws top f (at ws i) ≡ f (r .start) (r .start + r .size - 1)
   on-full f n = rw (is-full i r s h k n) refl
 
-  pub rest-one : (d : ℕ) → r .size ≡ 1 → rest ws top d (at ws i) ≡ done (put ws d hollow) top 0
+  pub rest-one : (d : ℕ) → r .size ≡ 1 → rest ws top d (at ws i) ≡ done (put ws d empty) top 0
   unfolding rest
   rest-one d e =
       let n : r .size ≢ 0 = λ z. omega arith in

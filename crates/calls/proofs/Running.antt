@@ -6,15 +6,15 @@ use Prim.Native.Nat.{ℕ, zero, suc, _+_, _-_, _*_, _/_, _%_, _≤_, _<_}
 use native.Mathlib.Omega.{arith}
 use lib.ListN.{length, take, set, getD, length-set}
 use lib.Seq.{take-suc-set, take-all, length-take-le}
-use Rattle.meaning.specs.Limits.{firstCell}
+use Rattle.meaning.specs.Limits.{firstHeapCell}
 use Rattle.meaning.specs.Sound.{Sound}
 use Rattle.meaning.specs.Check.{Done}
 use Rattle.meaning.specs.Batch.{Ran, runs}
 use Rattle.meaning.proofs.effect.Steps.{step-meets}
 use Rattle.meaning.proofs.batch.Batches.{fours, runs-cut}
-use Rattle.store.proofs.Sounds.{firstCell-pos}
+use Rattle.store.proofs.Sounds.{firstHeapCell-pos}
 use Rattle.calls.specs.Answers.{steppedIn}
-use Rattle.calls.specs.Calling.{callAt, Called, ranTo}
+use Rattle.calls.specs.Calling.{callAt, Leaves, ranTo}
 use Rattle.calls.specs.declared.answer.Stepped.{Stepped}
 
 -- ---- four more words of a list, and two
@@ -50,41 +50,41 @@ take-answer l i x y h =
 -- ---- one call
 
 pub called : (r : Stepped) (ws : List ℕ) {c : Done} → steppedIn r ws ≡ c → (i : ℕ) (out : List ℕ)
-    → Called c i out (r .top) ws (set (set out (2 * i) (r .status)) (2 * i + 1) (r .value))
+    → Leaves c i out (r .top) ws (set (set out (2 * i) (r .status)) (2 * i + 1) (r .value))
 called r ws e i out = rw (← e) (record { words = refl; top = refl; answers = refl })
 
 -- ---- i of the calls are done
 
 pub record Running (ws₀ : List ℕ) (top₀ : ℕ) (calls out₀ ws : List ℕ) (t : ℕ) (out : List ℕ) (i : ℕ) : Type 0 where
   pub most : i ≤ length calls / 4
-  pub sound : Sound firstCell ws t
+  pub sound : Sound firstHeapCell ws t
   pub len : length ws ≡ length ws₀
   pub long : length out ≡ length out₀
-  pub ran : runs firstCell ws₀ top₀ (take (4 * i) calls) ≡ ranTo t ws (take (2 * i) out)
+  pub ran : runs firstHeapCell ws₀ top₀ (take (4 * i) calls) ≡ ranTo t ws (take (2 * i) out)
 
 module _ {ws₀ : List ℕ} {top₀ : ℕ} {calls out₀ : List ℕ} where
-  pub begin : Sound firstCell ws₀ top₀ → Running ws₀ top₀ calls out₀ ws₀ top₀ out₀ 0
+  pub begin : Sound firstHeapCell ws₀ top₀ → Running ws₀ top₀ calls out₀ ws₀ top₀ out₀ 0
   begin s = record { most = omega arith; sound = s; len = refl; long = refl; ran = refl }
 
   module _ {ws : List ℕ} {t : ℕ} {out : List ℕ} {i : ℕ} (k : Running ws₀ top₀ calls out₀ ws t out i) where
     -- one call more
     after : i < length calls / 4
-        → runs firstCell ws₀ top₀ (take (4 * (i + 1)) calls)
+        → runs firstHeapCell ws₀ top₀ (take (4 * (i + 1)) calls)
         ≡ ranTo (callAt ws t calls i .top) (callAt ws t calls i .words)
         (take (2 * i) out ++ (callAt ws t calls i .verdict .status ∷ callAt ws t calls i .verdict .value ∷ []))
     after h =
         let cs = take (4 * i) calls in
         let c : ℕ → ℕ = λ n. getD calls n 0 in
         let ds = c (4 * i) ∷ c (4 * i + 1) ∷ c (4 * i + 2) ∷ c (4 * i + 3) ∷ [] in
-        let next : Ran → Ran = λ q. runs firstCell (q .words) (q .top) ds in
+        let next : Ran → Ran = λ q. runs firstHeapCell (q .words) (q .top) ds in
         rw (take-call calls i (omega arith))
-        (runs-cut firstCell ws₀ top₀ ds (fours i cs (length-take-le (4 * i) calls (omega arith)))
+        (runs-cut firstHeapCell ws₀ top₀ ds (fours i cs (length-take-le (4 * i) calls (omega arith)))
         ∙ ap (λ (q : Ran). ranTo (next q .top) (next q .words) (q .answers ++ next q .answers)) (k .ran))
 
     pub onward : {t′ : ℕ} {ws′ out′ : List ℕ} → i < length calls / 4 → 2 * (length calls / 4) ≤ length out₀
-        → Called (callAt ws t calls i) i out t′ ws′ out′ → Running ws₀ top₀ calls out₀ ws′ t′ out′ (i + 1)
+        → Leaves (callAt ws t calls i) i out t′ ws′ out′ → Running ws₀ top₀ calls out₀ ws′ t′ out′ (i + 1)
     onward h g c =
-        let m = step-meets firstCell ws t firstCell-pos (k .sound) (getD calls (4 * i) 0) (getD calls (4 * i + 1) 0)
+        let m = step-meets firstHeapCell ws t firstHeapCell-pos (k .sound) (getD calls (4 * i) 0) (getD calls (4 * i + 1) 0)
         (getD calls (4 * i + 2) 0) (getD calls (4 * i + 3) 0) in
         let st = callAt ws t calls i .verdict .status in
         let va = callAt ws t calls i .verdict .value in
@@ -98,7 +98,7 @@ module _ {ws₀ : List ℕ} {top₀ : ℕ} {calls out₀ : List ℕ} where
         })
 
     pub finish : length calls / 4 ≤ i → length calls % 4 ≡ 0
-        → runs firstCell ws₀ top₀ calls ≡ ranTo t ws (take (2 * (length calls / 4)) out)
+        → runs firstHeapCell ws₀ top₀ calls ≡ ranTo t ws (take (2 * (length calls / 4)) out)
     finish h e =
         let f : i ≡ length calls / 4 = omega (arith, k .most) in
         rw (take-all (4 * i) calls (omega arith)) at

@@ -2,7 +2,7 @@
 use mathlib.Core.Path.{_≡_}
 use mathlib.Core.List.{List}
 use Prim.Native.Nat.{ℕ}
-use Rattle.meaning.specs.Limits.{firstCell}
+use Rattle.meaning.specs.Limits.{firstHeapCell}
 use Rattle.meaning.specs.Batch.{batch}
 use Rattle.calls.specs.Answers.{ranIn}
 use Rattle.calls.specs.declared.Ran.{Ran}
@@ -12,6 +12,6 @@ use Rattle.calls.specs.declared.Ran.{Ran}
 abbrev pub OneOutcome : Type 0
 OneOutcome =
     (ws : List ℕ) (top : ℕ) (calls out : List ℕ) (r r′ : Ran) (v v′ a a′ : List ℕ)
-    → ranIn r v top a ≡ batch firstCell ws top calls out
-    → ranIn r′ v′ top a′ ≡ batch firstCell ws top calls out
+    → ranIn r v top a ≡ batch firstHeapCell ws top calls out
+    → ranIn r′ v′ top a′ ≡ batch firstHeapCell ws top calls out
     → (r ≡ r′) × (v ≡ v′) × (a ≡ a′)

@@ -4,7 +4,7 @@ use crate::answer::done;
 use crate::answer::refused;
 ghost use mathlib.Core.Path.{_≡_};
 ghost use Prim.Native.Nat.{_<_};
-ghost use Rattle.meaning.specs.Limits.{firstCell};
+ghost use Rattle.meaning.specs.Limits.{firstHeapCell};
 ghost use Rattle.meaning.specs.Sound.{Sound, at};
 ghost use Rattle.meaning.specs.Reach.{live};
 ghost use Rattle.meaning.specs.Check.{done, size};
@@ -13,7 +13,7 @@ ghost use Rattle.calls.specs.Answers.{steppedIn};
 
 // The number of top-level terms of register a.
 pub fn length(ws: &[u32], top: usize, a: usize) -> Stepped
-    requires { ⌜ Sound firstCell (now ws) top × (a < firstCell) ⌝ }
+    requires { ⌜ Sound firstHeapCell (now ws) top × (a < firstHeapCell) ⌝ }
     ensures { λ r. ⌜ steppedIn r (now (ws .entry)) ≡ done (now (ws .entry)) top (size (at (now (ws .entry)) a)) ⌝ }
 {
     let run = store::run_at(ws, a);
@@ -22,7 +22,7 @@ pub fn length(ws: &[u32], top: usize, a: usize) -> Stepped
 
 // The code of the first term of register a.
 pub fn first(ws: &[u32], top: usize, a: usize) -> Stepped
-    requires { ⌜ Sound firstCell (now ws) top × (a < firstCell) ⌝ }
+    requires { ⌜ Sound firstHeapCell (now ws) top × (a < firstHeapCell) ⌝ }
     ensures { λ r. ⌜ steppedIn r (now (ws .entry)) ≡ codeFirst (now (ws .entry)) top (at (now (ws .entry)) a) ⌝ }
 {
     let run = store::run_at(ws, a);
@@ -37,9 +37,9 @@ pub fn first(ws: &[u32], top: usize, a: usize) -> Stepped
 
 // The number of reached heap cells.
 pub fn live(ws: &mut [u32], top: usize) -> Stepped
-    requires { ⌜ Sound firstCell (now ws) top ⌝ }
+    requires { ⌜ Sound firstHeapCell (now ws) top ⌝ }
     ensures { λ r. ⌜ steppedIn r (now (ws .exit))
-        ≡ done (now (ws .entry)) top (live firstCell (now (ws .entry)) top) ⌝ }
+        ≡ done (now (ws .entry)) top (live firstHeapCell (now (ws .entry)) top) ⌝ }
 {
     let reached = collect::live(ws, top);
     done(reached as u32, top)

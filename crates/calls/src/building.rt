@@ -10,11 +10,11 @@ use build::room::Room;
 use build::room::make_room;
 ghost use mathlib.Core.Path.{_≡_};
 ghost use Prim.Native.Nat.{_+_, _<_};
-ghost use Rattle.meaning.specs.Limits.{firstCell};
+ghost use Rattle.meaning.specs.Limits.{firstHeapCell};
 ghost use Rattle.meaning.specs.Sound.{Sound, at};
 ghost use Rattle.meaning.specs.Check.{size};
 ghost use Rattle.meaning.specs.Call.{newSymbol, newBracket, newRun};
-ghost use Rattle.meaning.specs.Call.{sought, withRoom, joinPlan, carry};
+ghost use Rattle.meaning.specs.Call.{sought, withRoom, joinPlan, carryOut};
 ghost use Rattle.calls.specs.Answers.{steppedIn};
 ghost use Rattle.build.specs.Room.{Survives};
 
@@ -22,9 +22,9 @@ ghost use Rattle.build.specs.Room.{Survives};
 
 // SYMBOL: room for one cell, and the symbol there.
 pub fn symbol(ws: &mut [u32], top: usize, d: usize, a: u32, kept: bool) -> Stepped
-    requires { ⌜ Sound firstCell (now ws) top × (d < firstCell) ⌝ }
+    requires { ⌜ Sound firstHeapCell (now ws) top × (d < firstHeapCell) ⌝ }
     ensures { λ r. ⌜ steppedIn r (now (ws .exit))
-        ≡ withRoom firstCell 1 (sought kept d (now (ws .entry))) (newSymbol d a) (now (ws .entry)) top ⌝ }
+        ≡ withRoom firstHeapCell 1 (sought kept d (now (ws .entry))) (newSymbol d a) (now (ws .entry)) top ⌝ }
 {
     match make_room(ws, top, 1, d, kept) {
         Room::Ready(t) => done(0, lay_symbol(ws, t, d, a)),
@@ -34,9 +34,9 @@ pub fn symbol(ws: &mut [u32], top: usize, d: usize, a: u32, kept: bool) -> Stepp
 
 // WRAP: room for one cell, and a copy of register a there.
 pub fn wrap(ws: &mut [u32], top: usize, d: usize, a: usize, kept: bool) -> Stepped
-    requires { ⌜ Sound firstCell (now ws) top × (d < firstCell) × (a < firstCell) ⌝ }
+    requires { ⌜ Sound firstHeapCell (now ws) top × (d < firstHeapCell) × (a < firstHeapCell) ⌝ }
     ensures { λ r. ⌜ steppedIn r (now (ws .exit))
-        ≡ withRoom firstCell 1 (sought kept d (now (ws .entry))) (newBracket d a) (now (ws .entry)) top ⌝ }
+        ≡ withRoom firstHeapCell 1 (sought kept d (now (ws .entry))) (newBracket d a) (now (ws .entry)) top ⌝ }
 {
     match make_room(ws, top, 1, d, kept) {
         Room::Ready(t) => done(0, lay_bracket(ws, t, d, a)),
@@ -54,11 +54,11 @@ fn join_full(
     kept: bool,
     n: usize,
 ) -> Stepped
-    requires { ⌜ Sound firstCell (now ws) top × (d < firstCell) × (a < firstCell) × (b < firstCell) ⌝ }
+    requires { ⌜ Sound firstHeapCell (now ws) top × (d < firstHeapCell) × (a < firstHeapCell) × (b < firstHeapCell) ⌝ }
     requires { ⌜ Survives kept d a × Survives kept d b ⌝ }
     requires { ⌜ (n ≡ size (at (now ws) a) + size (at (now ws) b)) × (0 < size (at (now ws) a)) ⌝ }
     ensures { λ r. ⌜ steppedIn r (now (ws .exit))
-        ≡ withRoom firstCell n (sought kept d (now (ws .entry))) (newRun d a b) (now (ws .entry)) top ⌝ }
+        ≡ withRoom firstHeapCell n (sought kept d (now (ws .entry))) (newRun d a b) (now (ws .entry)) top ⌝ }
 {
     match make_room(ws, top, n, d, kept) {
         Room::Ready(t) => done(0, lay_run(ws, t, d, a, b)),
@@ -68,10 +68,10 @@ fn join_full(
 
 // JOIN: with a empty it shares b, else with b empty it shares a, else it copies the cells of both.
 pub fn join(ws: &mut [u32], top: usize, d: usize, a: usize, b: usize, kept: bool) -> Stepped
-    requires { ⌜ Sound firstCell (now ws) top × (d < firstCell) × (a < firstCell) × (b < firstCell) ⌝ }
+    requires { ⌜ Sound firstHeapCell (now ws) top × (d < firstHeapCell) × (a < firstHeapCell) × (b < firstHeapCell) ⌝ }
     requires { ⌜ Survives kept d a × Survives kept d b ⌝ }
     ensures { λ r. ⌜ steppedIn r (now (ws .exit))
-        ≡ carry firstCell (joinPlan (size (at (now (ws .entry)) a)) (size (at (now (ws .entry)) b))
+        ≡ carryOut firstHeapCell (joinPlan (size (at (now (ws .entry)) a)) (size (at (now (ws .entry)) b))
         (sought kept d (now (ws .entry))) d a b) (now (ws .entry)) top ⌝ }
 {
     let p = store::run_at(ws, a);

@@ -4,11 +4,11 @@
 ghost use mathlib.Core.Path.{_≡_};
 ghost use Prim.Native.Nat.{_+_, _*_, _/_, _%_, _≤_, _<_};
 ghost use lib.ListN.{length, take};
-ghost use Rattle.meaning.specs.Limits.{firstCell};
+ghost use Rattle.meaning.specs.Limits.{firstHeapCell};
 ghost use Rattle.meaning.specs.Sound.{Sound};
 ghost use Rattle.meaning.specs.Batch.{runs, callsTest, batchOf, batch};
 ghost use Rattle.calls.specs.Answers.{ranIn};
-ghost use Rattle.calls.specs.Calling.{callAt, Called, ranTo};
+ghost use Rattle.calls.specs.Calling.{callAt, Leaves, ranTo};
 
 mod answer;
 mod asking;
@@ -39,9 +39,9 @@ fn calls_ok(n: usize) -> bool
 
 // Call number i, with its status and value as answers 2i and 2i + 1. `top` after it comes back.
 fn run_call(ws: &mut [u32], top: usize, calls: &[u32], answers: &mut [u32], i: usize) -> usize
-    requires { ⌜ Sound firstCell (now ws) top × (4 * i + 3 < length (now calls))
+    requires { ⌜ Sound firstHeapCell (now ws) top × (4 * i + 3 < length (now calls))
         × (2 * i + 1 < length (now answers)) ⌝ }
-    ensures { λ r. ⌜ Called (callAt (now (ws .entry)) top (now (calls .entry)) i) i (now (answers .entry)) r
+    ensures { λ r. ⌜ Leaves (callAt (now (ws .entry)) top (now (calls .entry)) i) i (now (answers .entry)) r
         (now (ws .exit)) (now (answers .exit)) ⌝ }
 {
     let done = step::step(
@@ -59,9 +59,9 @@ fn run_call(ws: &mut [u32], top: usize, calls: &[u32], answers: &mut [u32], i: u
 
 // All calls, one after the other, those after a refused one too. `top` after the last comes back.
 fn run_calls(ws: &mut [u32], top: usize, calls: &[u32], answers: &mut [u32]) -> usize
-    requires { ⌜ Sound firstCell (now ws) top × (length (now calls) % 4 ≡ 0)
+    requires { ⌜ Sound firstHeapCell (now ws) top × (length (now calls) % 4 ≡ 0)
         × (2 * (length (now calls) / 4) ≤ length (now answers)) ⌝ }
-    ensures { λ r. ⌜ runs firstCell (now (ws .entry)) top (now (calls .entry))
+    ensures { λ r. ⌜ runs firstHeapCell (now (ws .entry)) top (now (calls .entry))
         ≡ ranTo r (now (ws .exit)) (take (2 * (length (now (calls .entry)) / 4)) (now (answers .exit))) ⌝ }
 {
     let n = calls.len() / 4;
@@ -76,9 +76,9 @@ fn run_calls(ws: &mut [u32], top: usize, calls: &[u32], answers: &mut [u32]) -> 
 
 // A batch on a sound store.
 fn run_sound(ws: &mut [u32], top: usize, calls: &[u32], answers: &mut [u32]) -> Ran
-    requires { ⌜ Sound firstCell (now ws) top ⌝ }
+    requires { ⌜ Sound firstHeapCell (now ws) top ⌝ }
     ensures { λ r. ⌜ ranIn r (now (ws .exit)) top (now (answers .exit))
-        ≡ batchOf firstCell (now (ws .entry)) top (now (calls .entry)) (now (answers .entry)) ⌝ }
+        ≡ batchOf firstHeapCell (now (ws .entry)) top (now (calls .entry)) (now (answers .entry)) ⌝ }
 {
     if !calls_ok(calls.len()) {
         return Ran::BadCalls;
@@ -95,7 +95,7 @@ fn run_sound(ws: &mut [u32], top: usize, calls: &[u32], answers: &mut [u32]) -> 
 // A batch on any words: the store is checked first.
 pub fn run(ws: &mut [u32], top: usize, calls: &[u32], answers: &mut [u32]) -> Ran
     ensures { λ r. ⌜ ranIn r (now (ws .exit)) top (now (answers .exit))
-        ≡ batch firstCell (now (ws .entry)) top (now (calls .entry)) (now (answers .entry)) ⌝ }
+        ≡ batch firstHeapCell (now (ws .entry)) top (now (calls .entry)) (now (answers .entry)) ⌝ }
 {
     match store::check(ws, top) {
         store::Checked::Sound => run_sound(ws, top, calls, answers),

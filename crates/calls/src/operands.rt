@@ -2,7 +2,7 @@
 ghost use mathlib.Core.Path.{_≡_};
 ghost use mathlib.Core.Bool.{_||_};
 ghost use Prim.Native.Nat.{_<_};
-ghost use Rattle.meaning.specs.Limits.{firstCell};
+ghost use Rattle.meaning.specs.Limits.{firstHeapCell};
 ghost use Rattle.meaning.specs.Call.{opAt, names, isOperand, wrong11, wrong12, wrong13, fault};
 
 // How each operation uses d, a and b: 0 not at all, 1 as a register, 2 as a code.
@@ -23,10 +23,10 @@ const USES: [[u32; 3]; 12] = [
 
 // A register word that names no register: status 11.
 fn is_no_register(u: u32, w: u32) -> bool
-    ensures { λ r. ⌜ r ≡ wrong11 firstCell u w ⌝ }
+    ensures { λ r. ⌜ r ≡ wrong11 firstHeapCell u w ⌝ }
 {
     if u == 1 {
-        meaning::FIRST_CELL <= w as usize
+        meaning::FIRST_HEAP_CELL <= w as usize
     } else {
         false
     }
@@ -84,7 +84,7 @@ pub fn is_operand(o: usize, r: u32, a: u32, b: u32) -> bool
 
 // What is wrong with a call's own words: 10 to 13, or 0.
 pub fn fault(o: u32, d: u32, a: u32, b: u32) -> u32
-    ensures { λ r. ⌜ r ≡ fault firstCell o d a b ⌝ }
+    ensures { λ r. ⌜ r ≡ fault firstHeapCell o d a b ⌝ }
 {
     if 11 < o {
         return 10;

@@ -8,16 +8,16 @@ use build::cells::put_empty;
 use build::cells::put_ends;
 ghost use mathlib.Core.Path.{_≡_};
 ghost use Prim.Native.Nat.{_<_};
-ghost use Rattle.meaning.specs.Limits.{firstCell};
-ghost use Rattle.meaning.specs.Sound.{Sound, hollow, at};
+ghost use Rattle.meaning.specs.Limits.{firstHeapCell};
+ghost use Rattle.meaning.specs.Sound.{Sound, empty, at};
 ghost use Rattle.meaning.specs.Check.{done};
 ghost use Rattle.meaning.specs.Call.{put, share, head, rest, openFirst};
 ghost use Rattle.calls.specs.Answers.{steppedIn};
 
 // Register d becomes empty.
 pub fn clear(ws: &mut [u32], top: usize, d: usize) -> Stepped
-    requires { ⌜ Sound firstCell (now ws) top × (d < firstCell) ⌝ }
-    ensures { λ r. ⌜ steppedIn r (now (ws .exit)) ≡ done (put (now (ws .entry)) d hollow) top 0 ⌝ }
+    requires { ⌜ Sound firstHeapCell (now ws) top × (d < firstHeapCell) ⌝ }
+    ensures { λ r. ⌜ steppedIn r (now (ws .exit)) ≡ done (put (now (ws .entry)) d empty) top 0 ⌝ }
 {
     put_empty(ws, d);
     done(0, top)
@@ -25,7 +25,7 @@ pub fn clear(ws: &mut [u32], top: usize, d: usize) -> Stepped
 
 // Register d becomes register a.
 pub fn share(ws: &mut [u32], top: usize, d: usize, a: usize) -> Stepped
-    requires { ⌜ Sound firstCell (now ws) top × (d < firstCell) × (a < firstCell) ⌝ }
+    requires { ⌜ Sound firstHeapCell (now ws) top × (d < firstHeapCell) × (a < firstHeapCell) ⌝ }
     ensures { λ r. ⌜ steppedIn r (now (ws .exit)) ≡ share d a (now (ws .entry)) top ⌝ }
 {
     copy_cell(ws, d, a);
@@ -34,7 +34,7 @@ pub fn share(ws: &mut [u32], top: usize, d: usize, a: usize) -> Stepped
 
 // Register d becomes the first term of register a: its first cell alone.
 pub fn head(ws: &mut [u32], top: usize, d: usize, a: usize) -> Stepped
-    requires { ⌜ Sound firstCell (now ws) top × (d < firstCell) × (a < firstCell) ⌝ }
+    requires { ⌜ Sound firstHeapCell (now ws) top × (d < firstHeapCell) × (a < firstHeapCell) ⌝ }
     ensures { λ r. ⌜ steppedIn r (now (ws .exit)) ≡ head (now (ws .entry)) top d (at (now (ws .entry)) a) ⌝ }
 {
     let run = store::run_at(ws, a);
@@ -47,7 +47,7 @@ pub fn head(ws: &mut [u32], top: usize, d: usize, a: usize) -> Stepped
 
 // Register d becomes register a less its first cell, which is empty where there was only one.
 pub fn rest(ws: &mut [u32], top: usize, d: usize, a: usize) -> Stepped
-    requires { ⌜ Sound firstCell (now ws) top × (d < firstCell) × (a < firstCell) ⌝ }
+    requires { ⌜ Sound firstHeapCell (now ws) top × (d < firstHeapCell) × (a < firstHeapCell) ⌝ }
     ensures { λ r. ⌜ steppedIn r (now (ws .exit)) ≡ rest (now (ws .entry)) top d (at (now (ws .entry)) a) ⌝ }
 {
     let run = store::run_at(ws, a);
@@ -65,7 +65,7 @@ pub fn rest(ws: &mut [u32], top: usize, d: usize, a: usize) -> Stepped
 // Register d becomes the contents of the first term of register a. A bracket's cell is what a register on its contents
 // is, so it is copied.
 pub fn open_first(ws: &mut [u32], top: usize, d: usize, a: usize) -> Stepped
-    requires { ⌜ Sound firstCell (now ws) top × (d < firstCell) × (a < firstCell) ⌝ }
+    requires { ⌜ Sound firstHeapCell (now ws) top × (d < firstHeapCell) × (a < firstHeapCell) ⌝ }
     ensures { λ r. ⌜ steppedIn r (now (ws .exit)) ≡ openFirst (now (ws .entry)) top d (at (now (ws .entry)) a) ⌝ }
 {
     let run = store::run_at(ws, a);

@@ -7,7 +7,7 @@ use crate::asking::live;
 use crate::building::join;
 use crate::building::symbol;
 use crate::building::wrap;
-use crate::collecting::gather;
+use crate::collecting::collect_store;
 use crate::operands::fault;
 use crate::operands::is_operand;
 use crate::sharing::clear;
@@ -16,15 +16,15 @@ use crate::sharing::open_first;
 use crate::sharing::rest;
 use crate::sharing::share;
 ghost use mathlib.Core.Path.{_≡_};
-ghost use Rattle.meaning.specs.Limits.{firstCell};
+ghost use Rattle.meaning.specs.Limits.{firstHeapCell};
 ghost use Rattle.meaning.specs.Sound.{Sound};
 ghost use Rattle.meaning.specs.Call.{fault, opAt, perform, step};
 ghost use Rattle.calls.specs.Answers.{steppedIn};
 
 // A call whose own words are right.
 fn perform(ws: &mut [u32], top: usize, o: u32, d: u32, a: u32, b: u32) -> Stepped
-    requires { ⌜ Sound firstCell (now ws) top × (fault firstCell o d a b ≡ 0) ⌝ }
-    ensures { λ r. ⌜ steppedIn r (now (ws .exit)) ≡ perform (opAt o) firstCell (now (ws .entry)) top d a b ⌝ }
+    requires { ⌜ Sound firstHeapCell (now ws) top × (fault firstHeapCell o d a b ≡ 0) ⌝ }
+    ensures { λ r. ⌜ steppedIn r (now (ws .exit)) ≡ perform (opAt o) firstHeapCell (now (ws .entry)) top d a b ⌝ }
 {
     let to = d as usize;
     let from = a as usize;
@@ -40,14 +40,14 @@ fn perform(ws: &mut [u32], top: usize, o: u32, d: u32, a: u32, b: u32) -> Steppe
         8 => length(ws, top, from),
         9 => first(ws, top, from),
         10 => live(ws, top),
-        _ => gather(ws, top),
+        _ => collect_store(ws, top),
     }
 }
 
 // One call on a sound store. A call with a wrong word changes nothing.
 pub fn step(ws: &mut [u32], top: usize, o: u32, d: u32, a: u32, b: u32) -> Stepped
-    requires { ⌜ Sound firstCell (now ws) top ⌝ }
-    ensures { λ r. ⌜ steppedIn r (now (ws .exit)) ≡ step firstCell (now (ws .entry)) top o d a b ⌝ }
+    requires { ⌜ Sound firstHeapCell (now ws) top ⌝ }
+    ensures { λ r. ⌜ steppedIn r (now (ws .exit)) ≡ step firstHeapCell (now (ws .entry)) top o d a b ⌝ }
 {
     let wrong = fault(o, d, a, b);
     if wrong != 0 {

@@ -4,12 +4,12 @@
 use calls::Ran;
 use collect::Collected;
 use store::Checked;
-use store::Extent;
+use store::Span;
 use store::Made;
 use store::Unsound;
 ghost use mathlib.Core.Path.{_≡_};
 ghost use Prim.Native.Nat.{_≤_};
-ghost use Rattle.meaning.specs.Limits.{firstCell, limit};
+ghost use Rattle.meaning.specs.Limits.{firstHeapCell, limit};
 ghost use Rattle.meaning.specs.Check.{check, freshIn, collectIn, lookSpan};
 ghost use Rattle.meaning.specs.Batch.{batch};
 ghost use Rattle.store.specs.Answers.{refusalOf, spanIn};
@@ -50,7 +50,7 @@ fn refuse(why: Unsound, top: usize) -> Answer
 // The check alone. `top` comes back as it came.
 #[no_mangle]
 pub extern "C" fn zelmotar_check(words: &[u32], top: usize) -> Answer
-    ensures { λ r. ⌜ (verdictIs r ≡ check firstCell (now (words .entry)) top) × (r .top ≡ top) ⌝ }
+    ensures { λ r. ⌜ (verdictIs r ≡ check firstHeapCell (now (words .entry)) top) × (r .top ≡ top) ⌝ }
 {
     match store::check(words, top) {
         Checked::Sound => reply(0, 0, top),
@@ -61,7 +61,7 @@ pub extern "C" fn zelmotar_check(words: &[u32], top: usize) -> Answer
 // A fresh store, with its `top`; 0 as `top` where the words are left as they are.
 #[no_mangle]
 pub extern "C" fn zelmotar_fresh(words: &mut [u32]) -> Answer
-    ensures { λ r. ⌜ doneIs r (now (words .exit)) ≡ freshIn firstCell (now (words .entry)) ⌝ }
+    ensures { λ r. ⌜ doneIs r (now (words .exit)) ≡ freshIn firstHeapCell (now (words .entry)) ⌝ }
 {
     match store::fresh(words) {
         Made::Ready(top) => reply(0, 0, top),
@@ -72,7 +72,7 @@ pub extern "C" fn zelmotar_fresh(words: &mut [u32]) -> Answer
 // Collecting alone. The value is live.
 #[no_mangle]
 pub extern "C" fn zelmotar_collect(words: &mut [u32], top: usize) -> Answer
-    ensures { λ r. ⌜ doneIs r (now (words .exit)) ≡ collectIn firstCell (now (words .entry)) top ⌝ }
+    ensures { λ r. ⌜ doneIs r (now (words .exit)) ≡ collectIn firstHeapCell (now (words .entry)) top ⌝ }
 {
     match collect::collect(words, top) {
         Collected::Done(live, low) => reply(0, live, low),
@@ -89,7 +89,7 @@ pub extern "C" fn zelmotar_run(
     answers: &mut [u32],
 ) -> Answer
     ensures { λ r. ⌜ outcomeIs r (now (words .exit)) (now (answers .exit))
-        ≡ batch firstCell (now (words .entry)) top (now (calls .entry)) (now (answers .entry)) ⌝ }
+        ≡ batch firstHeapCell (now (words .entry)) top (now (calls .entry)) (now (answers .entry)) ⌝ }
 {
     match calls::run(words, top, calls, answers) {
         Ran::Ended(end) => reply(0, 0, end),
@@ -101,8 +101,8 @@ pub extern "C" fn zelmotar_run(
 
 // A look at a register: the place of its cells, by which the caller takes the part.
 #[no_mangle]
-pub extern "C" fn zelmotar_look(words: &[u32], top: usize, reg: usize) -> Extent
-    ensures { λ r. ⌜ spanIn r ≡ lookSpan firstCell (now (words .entry)) top reg ⌝ }
+pub extern "C" fn zelmotar_look(words: &[u32], top: usize, reg: usize) -> Span
+    ensures { λ r. ⌜ spanIn r ≡ lookSpan firstHeapCell (now (words .entry)) top reg ⌝ }
 {
-    store::span(words, top, reg)
+    store::look_span(words, top, reg)
 }

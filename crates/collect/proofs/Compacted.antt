@@ -16,13 +16,13 @@ use borrow.Author.Tests.{lt-ltb, le-ltb, ne-eqb}
 use Rattle.words.specs.Cell.{firstWord, secondWord}
 use Rattle.words.specs.Second.{Second, decode, plain}
 use Rattle.words.proofs.Plain.{decode-zero}
-use Rattle.meaning.specs.Limits.{firstCell}
+use Rattle.meaning.specs.Limits.{firstHeapCell}
 use Rattle.meaning.specs.Sound as S
 use Rattle.meaning.specs.Reach.{reached, live}
 use Rattle.meaning.specs.Collected.{mapEnds, newAddress, collected, collectedTop}
 use Rattle.meaning.proofs.sound.Cells.{words-of-cells}
 use Rattle.meaning.proofs.collected.Determined.{new-last, is-collected}
-use Rattle.collect.specs.Cells.{Cell, cell, val, mk}
+use Rattle.collect.specs.Cells.{ChainCell, cell, val, mk}
 use Rattle.collect.specs.Chain.{Heap, full, holder, Proper, place, placedCell}
 use Rattle.collect.specs.Step.{lowered}
 use Rattle.collect.specs.Passes.{fullWord, Sweeping, Sweeps, Layable, Lowerable, Lowers, Settleable}
@@ -42,39 +42,39 @@ IsNew F ws top v d x =
     (firstWord v d ≡ S.fst (mapEnds (newAddress F (reached F ws top)) x))
     × (secondWord v d ≡ S.snd (mapEnds (newAddress F (reached F ws top)) x))
 
-module _ (ws : List ℕ) (top : ℕ) (s : S.Sound firstCell ws top) where
-  abbrev p : 0 < firstCell
+module _ (ws : List ℕ) (top : ℕ) (s : S.Sound firstHeapCell ws top) where
+  abbrev p : 0 < firstHeapCell
   p = omega arith
 
   abbrev h : Heap
-  h = heapOf firstCell ws top true
+  h = heapOf firstHeapCell ws top true
 
   abbrev P : Proper h
-  P = proper firstCell ws top true p s
+  P = proper firstHeapCell ws top true p s
 
   abbrev new : ℕ → ℕ
-  new = newAddress firstCell (reached firstCell ws top)
+  new = newAddress firstHeapCell (reached firstHeapCell ws top)
 
   abbrev Kept : ℕ → Type 0
-  Kept c = (ltb c firstCell || h .live c) ≡ true
+  Kept c = (ltb c firstHeapCell || h .live c) ≡ true
 
-  kept-reg : (c : ℕ) → c < firstCell → Kept c
-  kept-reg c lt = rw (lt-ltb c firstCell lt)
+  kept-reg : (c : ℕ) → c < firstHeapCell → Kept c
+  kept-reg c lt = rw (lt-ltb c firstHeapCell lt)
 
   kept-live : (c : ℕ) → h .live c ≡ true → Kept c
-  kept-live c l = rw (le-ltb c firstCell (P .heap c l .0)) l
+  kept-live c l = rw (le-ltb c firstHeapCell (P .heap c l .0)) l
 
   module _ (s₁ : List ℕ) (dead : ℕ) (w : Sweeps ws s₁ top true dead) where
     swept : Sweeping h s₁ top
-    swept = w h (begun firstCell ws top true p s refl) .0
+    swept = w h (begun firstHeapCell ws top true p s refl) .0
 
     pub gone : dead + new top ≡ top
-    gone = w h (begun firstCell ws top true p s refl) .1
+    gone = w h (begun firstHeapCell ws top true p s refl) .1
 
-    pub top-is : top - dead ≡ collectedTop firstCell ws top
-    top-is = omega (arith, gone, new-last firstCell ws top p s)
+    pub top-is : top - dead ≡ collectedTop firstHeapCell ws top
+    top-is = omega (arith, gone, new-last firstHeapCell ws top p s)
 
-    place-is : (c : ℕ) → firstCell ≤ c → place h c ≡ new c + dead
+    place-is : (c : ℕ) → firstHeapCell ≤ c → place h c ≡ new c + dead
     place-is c f = omega (arith, gone, place-packed h P c refl f)
 
     at-place : (c : ℕ) → Kept c → cell s₁ (place h c) ≡ placedCell h c
@@ -102,14 +102,14 @@ module _ (ws : List ℕ) (top : ℕ) (s : S.Sound firstCell ws top) where
             → (dead ≤ firstWord v i) × (dead ≤ decode (secondWord v i) .ri)
         far true q f =
             let z = P .ends c q in
-            let a : firstWord v i ≡ place h (h .li c) = ap (λ (x : Cell). x .l .num) e ∙ rw q refl in
-            let b : decode (secondWord v i) .ri ≡ place h (h .ri c) = ap (λ (x : Cell). x .r .num) e ∙ rw q refl in (
+            let a : firstWord v i ≡ place h (h .li c) = ap (λ (x : ChainCell). x .l .num) e ∙ rw q refl in
+            let b : decode (secondWord v i) .ri ≡ place h (h .ri c) = ap (λ (x : ChainCell). x .r .num) e ∙ rw q refl in (
               omega (arith, a, place-is (h .li c) (z .0)),
               omega (arith, b, place-is (h .ri c) (omega (arith, z))),
             )
         far false q f =
             absurd (false≢true (sym (sym (holder-full h c k) ∙ q)
-            ∙ sym (ap (λ (x : Cell). full (x .br) (x .r .num)) e ∙ rw q refl) ∙ f))
+            ∙ sym (ap (λ (x : ChainCell). full (x .br) (x .r .num)) e ∙ rw q refl) ∙ f))
 
     pub lowerable : Lowerable s₁ top dead
     lowerable = record {
@@ -127,7 +127,7 @@ module _ (ws : List ℕ) (top : ℕ) (s : S.Sound firstCell ws top) where
     settleable s₂ len t r lt =
         layable s₂ r r r (kept-reg r lt) (register s₂ t r lt) (omega (arith, swept .frame .room, s .low))
       where
-        register : (s₂ : List ℕ) → Lowers s₁ s₂ top dead → (r : ℕ) → r < firstCell → cell s₂ r ≡ placedCell h r
+        register : (s₂ : List ℕ) → Lowers s₁ s₂ top dead → (r : ℕ) → r < firstHeapCell → cell s₂ r ≡ placedCell h r
         register s₂ t r lt =
             t .rest r (λ q. absurd (omega arith))
             ∙ subst (λ (x : ℕ). cell s₁ x ≡ placedCell h r) (place-own h P r lt) (at-place r (kept-reg r lt))
@@ -135,8 +135,8 @@ module _ (ws : List ℕ) (top : ℕ) (s : S.Sound firstCell ws top) where
     -- ---- a cell's words at the end
 
     final-words : (v : List ℕ) (c d : ℕ) → Kept c → secondWord v d < 2 ^ 32 → cell v d ≡ lowered dead (placedCell h c)
-        → IsNew firstCell ws top v d (S.at ws c)
-    final-words v c d k fits e = go (S.at ws c) refl (cell-fields firstCell ws top p s c)
+        → IsNew firstHeapCell ws top v d (S.at ws c)
+    final-words v c d k fits e = go (S.at ws c) refl (cell-fields firstHeapCell ws top p s c)
       where
         is : (f : Second) → decode (secondWord ws c) ≡ f → holder h c ≡ full (f .br) (f .ri)
         is f q = holder-full h c k ∙ ap (λ (y : Second). full (y .br) (y .ri)) q
@@ -147,12 +147,12 @@ module _ (ws : List ℕ) (top : ℕ) (s : S.Sound firstCell ws top) where
             e ∙ lowered-other h dead c k (is f y ∙ n) ∙ (λ i. mk (y i .br) false (val (x i)) (val (y i .ri)))
 
         go : (x : S.Cell) → S.at ws c ≡ x → Fields x (firstWord ws c) (decode (secondWord ws c))
-            → IsNew firstCell ws top v d x
+            → IsNew firstHeapCell ws top v d x
         go (S.code a) q f = code-is v d a 0 fits (other (plain false 0) a (f .0) (f .1) refl)
-        go S.hollow q f = bracket-is v d 0 0 fits (other (plain true 0) 0 (f .0) (f .1) refl)
+        go S.empty q f = bracket-is v d 0 0 fits (other (plain true 0) 0 (f .0) (f .1) refl)
         go (S.ends l r) q f =
-            let in-heap = ends-in firstCell ws top p s c q in
-            let low-r : firstCell ≤ r = omega (arith, in-heap) in
+            let in-heap = ends-in firstHeapCell ws top p s c q in
+            let low-r : firstHeapCell ≤ r = omega (arith, in-heap) in
             let lo : firstWord ws c ≡ l = f .0 in
             let ro : decode (secondWord ws c) .ri ≡ r = ap (λ (y : Second). y .ri) (f .1) in
             let at-l : place h (h .li c) - dead ≡ new l =
@@ -177,31 +177,31 @@ module _ (ws : List ℕ) (top : ℕ) (s : S.Sound firstCell ws top) where
 
     -- the words v have every cell lowered, and are zero from the new `top` on
     is-compacted : (v : List ℕ) → length v ≡ length ws → ((i : ℕ) → getD v i 0 < 2 ^ 32)
-        → ((c : ℕ) → c < firstCell → cell v c ≡ lowered dead (placedCell h c))
+        → ((c : ℕ) → c < firstHeapCell → cell v c ≡ lowered dead (placedCell h c))
         → ((c : ℕ) → h .live c ≡ true → cell v (new c) ≡ lowered dead (placedCell h c))
         → ((c : ℕ) → new top ≤ c → c < length ws / 2 → (firstWord v c ≡ 0) × (secondWord v c ≡ 0))
-        → v ≡ collected firstCell ws top
+        → v ≡ collected firstHeapCell ws top
     is-compacted v len fits regs heap free =
-        is-collected firstCell ws top p s v len
+        is-collected firstHeapCell ws top p s v len
         (λ i lt. final-words v i i (kept-reg i lt) (fits (2 * i + 1)) (regs i lt))
         (λ c q.
-        let l = live-of firstCell ws top true p s c q in
+        let l = live-of firstHeapCell ws top true p s c q in
         final-words v c (new c) (kept-live c l) (fits (2 * new c + 1)) (heap c l))
         (λ i low lt.
         words-of-cells (λ j. getD v j 0 ≡ 0) (new top) (length ws / 2) free i
-        (omega (arith, new-last firstCell ws top p s)) (omega (arith, s .even)))
+        (omega (arith, new-last firstHeapCell ws top p s)) (omega (arith, s .even)))
 
     pub compacted : (s₂ s₃ s₄ : List ℕ) → Lowers s₁ s₂ top dead → Settles s₂ s₃ dead → Cleared s₃ s₄ (top - dead) top
-        → length s₄ ≡ length ws → ((i : ℕ) → getD s₄ i 0 < 2 ^ 32) → s₄ ≡ collected firstCell ws top
+        → length s₄ ≡ length ws → ((i : ℕ) → getD s₄ i 0 < 2 ^ 32) → s₄ ≡ collected firstHeapCell ws top
     compacted s₂ s₃ s₄ t₂ t₃ t₄ len fits = is-compacted s₄ len fits regs heap free
       where
         stays : (c : ℕ) → (new top ≤ c → top ≤ c) → cell s₄ c ≡ cell s₃ c
         stays c q = let e = t₄ .kept c (λ z. q (omega (arith, gone))) in rw (e .0, e .1)
 
-        regs : (c : ℕ) → c < firstCell → cell s₄ c ≡ lowered dead (placedCell h c)
+        regs : (c : ℕ) → c < firstHeapCell → cell s₄ c ≡ lowered dead (placedCell h c)
         regs c lt =
             stays c (λ q. omega (arith, new-bound h P top (s .low) (omega arith)))
-            ∙ t₃ c ∙ rw (lt-ltb c firstCell lt) (ap (lowered dead) (
+            ∙ t₃ c ∙ rw (lt-ltb c firstHeapCell lt) (ap (lowered dead) (
             t₂ .rest c (λ q. absurd (omega arith))
             ∙ subst (λ (x : ℕ). cell s₁ x ≡ placedCell h c) (place-own h P c lt) (at-place c (kept-reg c lt))
             ))
@@ -214,7 +214,7 @@ module _ (ws : List ℕ) (top : ℕ) (s : S.Sound firstCell ws top) where
             let f = new-bound h P c (z .0) (omega (arith, z)) in
             let q : place h c - dead ≡ new c = omega (arith, e) in
             stays (new c) (λ y. omega (arith, e, u, gone))
-            ∙ t₃ (new c) ∙ rw (le-ltb (new c) firstCell (f .0))
+            ∙ t₃ (new c) ∙ rw (le-ltb (new c) firstHeapCell (f .0))
             (subst (λ (x : ℕ). cell s₂ x ≡ lowered dead (cell s₁ (place h c))) q
             (t₂ .down (place h c) (omega (arith, e, f .0)) (u .1)) ∙ ap (lowered dead) (at-place c (kept-live c l)))
 
@@ -225,20 +225,20 @@ module _ (ws : List ℕ) (top : ℕ) (s : S.Sound firstCell ws top) where
             go (yes q) = t₄ .gone c (omega (arith, gone)) q
             go (no q) =
                 let z : top ≤ c = omega arith in
-                let f : firstCell ≤ c = omega (arith, s .low) in
+                let f : firstHeapCell ≤ c = omega (arith, s .low) in
                 code-is s₄ c 0 0 (fits (2 * c + 1))
-                (stays c (λ y. z) ∙ t₃ c ∙ rw (le-ltb c firstCell f)
+                (stays c (λ y. z) ∙ t₃ c ∙ rw (le-ltb c firstHeapCell f)
                 (t₂ .rest c (λ y. omega arith) ∙ free-cell c z lt))
 
     -- where no cell is unreached, the sweep has done it all
     pub not-lowered : dead ≡ 0 → length s₁ ≡ length ws → ((i : ℕ) → getD s₁ i 0 < 2 ^ 32)
-        → s₁ ≡ collected firstCell ws top
+        → s₁ ≡ collected firstHeapCell ws top
     not-lowered none len fits = is-compacted s₁ len fits regs heap free
       where
         same : (c : ℕ) → Kept c → placedCell h c ≡ lowered dead (placedCell h c)
         same c k = rw none (sym (lowered-zero h 0 c k))
 
-        regs : (c : ℕ) → c < firstCell → cell s₁ c ≡ lowered dead (placedCell h c)
+        regs : (c : ℕ) → c < firstHeapCell → cell s₁ c ≡ lowered dead (placedCell h c)
         regs c lt =
             subst (λ (x : ℕ). cell s₁ x ≡ placedCell h c) (place-own h P c lt) (at-place c (kept-reg c lt))
             ∙ same c (kept-reg c lt)

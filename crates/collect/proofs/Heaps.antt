@@ -13,7 +13,7 @@ use lib.Dec.{ltb, eqb}
 use borrow.Author.Tests.{ltb-true, lt-ltb, le-ltb, eqb-true, eq-eqb}
 use Rattle.words.specs.Cell.{firstWord, secondWord}
 use Rattle.words.specs.Second.{Second, decode}
-use Rattle.meaning.specs.Limits.{firstCell}
+use Rattle.meaning.specs.Limits.{firstHeapCell}
 use Rattle.meaning.specs.Sound as S
 use Rattle.meaning.specs.Reach.{Between, Reached, byRegister, byBracket, reached}
 use Rattle.meaning.specs.Collected.{newAddress}
@@ -102,7 +102,7 @@ module _ (F : ℕ) (ws : List ℕ) (top : ℕ) (packs : Bool) (p : 0 < F) (s : S
     where
       go : (x : S.Cell) → S.at ws b ≡ x → Between x c → Held c
       go (S.code a) e y = absurd y
-      go S.hollow e y = absurd y
+      go S.empty e y = absurd y
       go (S.ends l r) e y =
           let w = cell-ends F ws top p s b e in (
             b,
@@ -138,7 +138,7 @@ module _ (F : ℕ) (ws : List ℕ) (top : ℕ) (packs : Bool) (p : 0 < F) (s : S
     where
       go : (x : S.Cell) → S.at ws c ≡ x → Fields x (firstWord ws c) (decode (secondWord ws c)) → firstWord ws c < 2 ^ 28
       go (S.code a) e f = omega (arith, f .0, f .2)
-      go S.hollow e f = omega (arith, f .0)
+      go S.empty e f = omega (arith, f .0)
       go (S.ends l r) e f = omega (arith, f .0, ends-in F ws top p s c e, s .high, s .small, limit-fits)
 
   pub old-cell : (c : ℕ) → cell ws c ≡ oldCell g c
@@ -156,7 +156,7 @@ module _ (F : ℕ) (ws : List ℕ) (top : ℕ) (packs : Bool) (p : 0 < F) (s : S
     dead = λ c f l h. old-cell c;
   }
 
-  pub begun : F ≡ firstCell → Begun g ws top packs
+  pub begun : F ≡ firstHeapCell → Begun g ws top packs
   begun first = record {
     phase = record {
       frame = record {

@@ -15,23 +15,23 @@ use Rattle.words.specs.Cell.{firstWord, secondWord}
 use Rattle.words.specs.Second.{Second}
 use Rattle.words.proofs.Plain.{plain-word, plain-code}
 use Rattle.meaning.specs.Sound as S
-use Rattle.collect.specs.Cells.{Cell, cell, val, mk}
+use Rattle.collect.specs.Cells.{ChainCell, cell, val, mk}
 use Rattle.collect.specs.Chain.{Heap, full, holder, place, placedCell}
 use Rattle.collect.specs.Step.{lowered}
 use Rattle.collect.proofs.Order.{holder-br, holder-full}
 
 -- its second word's fields
-abbrev pub fieldsOf : Cell → Second
+abbrev pub fieldsOf : ChainCell → Second
 fieldsOf c = record { br = c .br; used = c .used; lc = c .l .tag; rc = c .r .tag; ri = c .r .num }
 
 -- the words of a cell without mark and chains
 module _ (v : List ℕ) (d x n : ℕ) (fits : secondWord v d < 2 ^ 32) where
   pub bracket-is : cell v d ≡ mk true false (val x) (val n)
       → (firstWord v d ≡ x) × (secondWord v d ≡ S.snd (S.ends x n))
-  bracket-is e = (ap (λ (c : Cell). c .l .num) e, plain-word (secondWord v d) n fits (ap fieldsOf e))
+  bracket-is e = (ap (λ (c : ChainCell). c .l .num) e, plain-word (secondWord v d) n fits (ap fieldsOf e))
 
   pub code-is : cell v d ≡ mk false false (val x) (val n) → (firstWord v d ≡ x) × (secondWord v d ≡ n)
-  code-is e = (ap (λ (c : Cell). c .l .num) e, plain-code (secondWord v d) n fits (ap fieldsOf e))
+  code-is e = (ap (λ (c : ChainCell). c .l .num) e, plain-code (secondWord v d) n fits (ap fieldsOf e))
 
 -- a placed cell lowered by d, of a holder and of any other cell
 module _ (g : Heap) (d c : ℕ) (k : (ltb c (g .F) || g .live c) ≡ true) where

@@ -13,7 +13,7 @@ use native.Mathlib.Omega.{arith}
 use native.Mathlib.Decide.{decLt}
 use lib.Dec.{ltb, eqb}
 use borrow.Author.Tests.{eqb-true, lt-ltb, le-ltb, lt-leb}
-use Rattle.collect.specs.Cells.{Cell, val}
+use Rattle.collect.specs.Cells.{ChainCell, val}
 use Rattle.collect.specs.Chain.{Heap, holder, Proper, pos, turn, place, span, last, mended}
 use Rattle.collect.specs.Chain.{sweepCell, oldCell, placedCell, SweptTo}
 use Rattle.meaning.proofs.Counting.{both-true}
@@ -68,7 +68,7 @@ module _ (g : Heap) (s : Proper g) where
       go (yes p) = omega (arith, s .FT)
       go (no p) = s .heap c (rw (le-ltb c (g .F) (omega arith)) at k) .1
 
-  module _ (M : ℕ → Cell) (u : SweptTo g (g .T) (g .T) M) where
+  module _ (M : ℕ → ChainCell) (u : SweptTo g (g .T) (g .T) M) where
     pub swept-place : (c : ℕ) → (ltb c (g .F) || g .live c) ≡ true → M (place g c) ≡ placedCell g c
     swept-place c k =
         let p = pos-low g s c (low c k) in

@@ -8,7 +8,7 @@ use Prim.Native.Nat.{ℕ, _≤_, _<_}
 use native.Mathlib.Omega.{arith}
 use native.Mathlib.Decide.{decLt, ℕ-discrete}
 use borrow.Author.Tests.{lt-leb, lt-ltb}
-use Rattle.collect.specs.Cells.{Cell}
+use Rattle.collect.specs.Cells.{ChainCell}
 use Rattle.collect.specs.Chain.{Heap, holder, Proper, pos, last, mended, Known}
 use Rattle.collect.proofs.Order.{pos-reg, pos-heap, holder-low, ri-live}
 use Rattle.collect.proofs.Spots.{last-some}
@@ -18,14 +18,14 @@ module _ (g : Heap) (s : Proper g) (m : ℕ) where
   abbrev j : ℕ
   j = pos g m
 
-  pub reg-undone : (low : ℕ) (M : ℕ → Cell) → m < g .F → Undone g s m j low M → Undone g s m 0 low M
+  pub reg-undone : (low : ℕ) (M : ℕ → ChainCell) → m < g .F → Undone g s m j low M → Undone g s m 0 low M
   reg-undone low M p = unlink-none g s m j low M (λ b h e. omega (arith, s .ends b h))
 
-  pub dead-undone : (low : ℕ) (M : ℕ → Cell) → g .live m ≡ false → Undone g s m j low M → Undone g s m 0 low M
+  pub dead-undone : (low : ℕ) (M : ℕ → ChainCell) → g .live m ≡ false → Undone g s m j low M → Undone g s m 0 low M
   dead-undone low M l =
       unlink-none g s m j low M (λ b h e. true≢false (sym (ri-live g b s h) ∙ ap (g .live) e ∙ l))
 
-  pub is-live : (low : ℕ) (M : ℕ → Cell) → Undone g s m j low M → last g m j .tag ≡ true → g .live m ≡ true
+  pub is-live : (low : ℕ) (M : ℕ → ChainCell) → Undone g s m j low M → last g m j .tag ≡ true → g .live m ≡ true
   is-live low M u e =
       let h = chain-head g s m j low M u e in
       subst (λ (x : ℕ). g .live x ≡ true) (h .names) (ri-live g (h .k) s (h .holder))

@@ -12,7 +12,7 @@ use native.Mathlib.Omega.{arith}
 use native.Mathlib.Decide.{decLt, ℕ-discrete}
 use lib.Dec.{ltb, leb·suc-suc}
 use borrow.Author.Tests.{le-ltb, le-leb, lt-leb, ne-eqb}
-use Rattle.collect.specs.Cells.{Cell, val, mk}
+use Rattle.collect.specs.Cells.{ChainCell, val, mk}
 use Rattle.collect.specs.Chain.{Heap, holder, Proper, pos, turn, place, last, mended, heldL, heldR}
 use Rattle.collect.specs.Chain.{sweepCell, oldCell, spot, Stands, SweptTo, Known}
 use Rattle.collect.specs.Step.{Laid, Linked}
@@ -85,14 +85,14 @@ module _ (g : Heap) (s : Proper g) (m : ℕ) where
   stands-m f p = absurd (omega arith)
 
   -- the fields of m, its chain undone
-  pub own : (M : ℕ → Cell) → SweptTo g j 0 M → M m ≡ oldCell g m
+  pub own : (M : ℕ → ChainCell) → SweptTo g j 0 M → M m ≡ oldCell g m
   own M u =
       subst (λ (x : ℕ). M x ≡ sweepCell g j 0 m) (spot-ahead g j m (omega arith)) (u .at m stands-m)
       ∙ rw (next-l g j 0 m refl, ahead-r g j 0 m (omega arith), last-zero g m)
 
   -- ---- m is put down
 
-  module _ (k : (ltb m (g .F) || g .live m) ≡ true) (M N M′ : ℕ → Cell) (u : SweptTo g j 0 M)
+  module _ (k : (ltb m (g .F) || g .live m) ≡ true) (M N M′ : ℕ → ChainCell) (u : SweptTo g j 0 M)
       (same : (c : ℕ) → c ≢ m → N c ≡ M c) where
     stands : Stands g (suc j) m
     stands f p = rw (le-ltb m (g .F) f) at k
@@ -183,7 +183,7 @@ module _ (g : Heap) (s : Proper g) (m : ℕ) where
             ∙ others c p n ∙ form-on c n (last-miss g c j (rw (here, h) (ne-eqb (g .ri m) c (λ q. y (sym q)))))
 
   -- an unreached cell is passed over
-  pub dead-turn : (M : ℕ → Cell) → g .live m ≡ false → g .F ≤ m → SweptTo g j 0 M → SweptTo g (suc j) (suc j) M
+  pub dead-turn : (M : ℕ → ChainCell) → g .live m ≡ false → g .F ≤ m → SweptTo g j 0 M → SweptTo g (suc j) (suc j) M
   dead-turn M l f u = record { at = at; dead = u .dead }
     where
       bare : holder g m ≡ false

@@ -13,7 +13,7 @@ use native.Mathlib.Omega.{arith}
 use native.Mathlib.Decide.{decLt, ℕ-discrete}
 use lib.Dec.{eqb}
 use borrow.Author.Tests.{eqb-true, eq-eqb}
-use Rattle.collect.specs.Cells.{Cell, val}
+use Rattle.collect.specs.Cells.{ChainCell, val}
 use Rattle.collect.specs.Chain.{Heap, holder, Proper, pos, turn, place, span, last, mended}
 use Rattle.collect.specs.Chain.{sweepL, sweepCell, oldCell, spot, Stands, SweptTo, Known}
 use Rattle.collect.specs.Step.{Unlinked}
@@ -80,11 +80,11 @@ module _ (g : Heap) (s : Proper g) (m : ℕ) where
               let z : g .ri c ≡ m = sym (turn-pos g s (g .ri c)) ∙ ap (turn g) w ∙ turn-pos g s m in
               rw (here, h, z) (eq-eqb m m refl)
 
-  pub record Undone (x low : ℕ) (M : ℕ → Cell) : Type 0 where
+  pub record Undone (x low : ℕ) (M : ℕ → ChainCell) : Type 0 where
     pub cells : SweptTo g j x M
     pub known : Known g j x low m
 
-  unlink-skip : (x low : ℕ) (M : ℕ → Cell) → holds g m x ≡ false → Undone (suc x) low M → Undone x low M
+  unlink-skip : (x low : ℕ) (M : ℕ → ChainCell) → holds g m x ≡ false → Undone (suc x) low M → Undone x low M
   unlink-skip x low M e u = record {
     cells = record {
       at = λ c h. u .cells .at c h ∙ form-same x c (skip-mended x c e) (λ q. last-miss g m x e);
@@ -97,14 +97,14 @@ module _ (g : Heap) (s : Proper g) (m : ℕ) where
   }
 
   -- where the chain leads on, its head is the last holder of m before place x
-  pub record Head (x low : ℕ) (M : ℕ → Cell) : Type 0 where
+  pub record Head (x low : ℕ) (M : ℕ → ChainCell) : Type 0 where
     pub k : ℕ
     pub holder : holder g k ≡ true
     pub names : g .ri k ≡ m
     pub is : last g m x .num ≡ place g k
     pub at : Undone (suc (pos g k)) low M
 
-  pub chain-head : (x low : ℕ) (M : ℕ → Cell) → Undone x low M → last g m x .tag ≡ true → Head x low M
+  pub chain-head : (x low : ℕ) (M : ℕ → ChainCell) → Undone x low M → last g m x .tag ≡ true → Head x low M
   unfolding last
   chain-head zero low M u e = absurd (true≢false (sym e))
   chain-head (suc x) low M u e = go (holds g m x) refl (chain-head x low M)
@@ -124,7 +124,7 @@ module _ (g : Heap) (s : Proper g) (m : ℕ) where
           record { k = h .k; holder = h .holder; names = h .names; is = rw q (h .is); at = h .at }
 
   -- where it does not, no holder is left
-  pub chain-end : (x low : ℕ) (M : ℕ → Cell) → Undone x low M → last g m x .tag ≡ false → Undone 0 low M
+  pub chain-end : (x low : ℕ) (M : ℕ → ChainCell) → Undone x low M → last g m x .tag ≡ false → Undone 0 low M
   unfolding last
   chain-end zero low M u e = u
   chain-end (suc x) low M u e = go (holds g m x) refl (chain-end x low M)
@@ -134,7 +134,7 @@ module _ (g : Heap) (s : Proper g) (m : ℕ) where
       go false q ih = ih (unlink-skip x low M q u) (rw q at e)
 
   -- a cell without holders
-  pub unlink-none : (x low : ℕ) (M : ℕ → Cell) → ((b : ℕ) → holder g b ≡ true → g .ri b ≢ m) → Undone x low M
+  pub unlink-none : (x low : ℕ) (M : ℕ → ChainCell) → ((b : ℕ) → holder g b ≡ true → g .ri b ≢ m) → Undone x low M
       → Undone 0 low M
   unlink-none zero low M n u = u
   unlink-none (suc x) low M n u = unlink-none x low M n (unlink-skip x low M (miss (holds g m x) refl) u)
@@ -176,16 +176,16 @@ module _ (g : Heap) (s : Proper g) (m : ℕ) where
     unlink-span = (omega (arith, place-run g s k h, ap (place g) e), omega (arith, e))
 
     -- what its first word is
-    pub unlink-first : (low : ℕ) (M : ℕ → Cell) → Undone (suc (pos g k)) low M → M (place g k) .l ≡ val (span g k)
+    pub unlink-first : (low : ℕ) (M : ℕ → ChainCell) → Undone (suc (pos g k)) low M → M (place g k) .l ≡ val (span g k)
     unlink-first low M u =
         subst (λ (x : ℕ). M x .l ≡ sweepL g j (suc (pos g k)) k) (spot-past g j k turned)
-        (ap (λ (x : Cell). x .l) (u .cells .at k stands-k))
+        (ap (λ (x : ChainCell). x .l) (u .cells .at k stands-k))
         ∙ past-l g j (suc (pos g k)) k turned h ∙ heldL-no g j (suc (pos g k)) k (mended-no g j k (ap (pos g) e))
 
     live-m : g .live m ≡ true
     live-m = subst (λ (x : ℕ). g .live x ≡ true) e (ri-live g k s h)
 
-    pub unlink-hit : (low : ℕ) (M M′ : ℕ → Cell) → Undone (suc (pos g k)) low M
+    pub unlink-hit : (low : ℕ) (M M′ : ℕ → ChainCell) → Undone (suc (pos g k)) low M
         → Unlinked M M′ m (place g k) (place g m) → Undone (pos g k) (min (m - span g k) low) M′
     unlink-hit low M M′ u w = record {
       cells = record { at = λ c p. at c p (ℕ-discrete c m) (ℕ-discrete c k); dead = dead };

@@ -11,7 +11,7 @@ pub record Link : Type 0 where
   pub tag : Bool
   pub num : ℕ
 
-pub record Cell : Type 0 where
+pub record ChainCell : Type 0 where
   pub br : Bool
   pub used : Bool
   pub l : Link
@@ -23,13 +23,13 @@ val n = record { tag = false; num = n }
 abbrev pub ptr : ℕ → Link
 ptr n = record { tag = true; num = n }
 
-abbrev pub mk : Bool → Bool → Link → Link → Cell
+abbrev pub mk : Bool → Bool → Link → Link → ChainCell
 mk b u l r = record { br = b; used = u; l = l; r = r }
 
 -- the cell with the first word a and the second word's fields s
-abbrev pub linked : ℕ → Second → Cell
+abbrev pub linked : ℕ → Second → ChainCell
 linked a s = mk (s .br) (s .used) (record { tag = s .lc; num = a }) (record { tag = s .rc; num = s .ri })
 
 -- cell c of the words s
-abbrev pub cell : List ℕ → ℕ → Cell
+abbrev pub cell : List ℕ → ℕ → ChainCell
 cell s c = linked (firstWord s c) (decode (secondWord s c))

@@ -13,7 +13,7 @@ use mathlib.Core.Logic.{_≢_}
 use mathlib.Core.Bool.{Bool, true, false, cond, not, _&&_, _||_}
 use Prim.Native.Nat.{ℕ, zero, suc, _+_, _-_, _≤_, _<_}
 use lib.Dec.{ltb, leb, eqb}
-use Rattle.collect.specs.Cells.{Link, Cell, val, ptr, mk}
+use Rattle.collect.specs.Cells.{Link, ChainCell, val, ptr, mk}
 
 -- Registers below F, heap cells from F up to T; which cells are brackets, their ends, which heap cells are reached and
 -- the new addresses of these. And whether the sweep packs the reached cells against T or leaves them where they are.
@@ -91,11 +91,11 @@ sweepL g j x c =
 unfoldable pub sweepR : Heap → ℕ → ℕ → ℕ → Link
 sweepR g j x c = cond (holder g c && ltb (pos g c) j) (heldR g j x c) (val (g .ri c))
 
-abbrev pub sweepCell : Heap → ℕ → ℕ → ℕ → Cell
+abbrev pub sweepCell : Heap → ℕ → ℕ → ℕ → ChainCell
 sweepCell g j x c = mk (g .br c) false (sweepL g j x c) (sweepR g j x c)
 
 -- a cell as it was before the sweep
-abbrev pub oldCell : Heap → ℕ → Cell
+abbrev pub oldCell : Heap → ℕ → ChainCell
 oldCell g c = mk (g .br c) false (val (g .li c)) (val (g .ri c))
 
 -- where a cell stands after j turns, and the cells that stand: all but the unreached ones whose turn is over
@@ -106,7 +106,7 @@ abbrev pub Stands : Heap → ℕ → ℕ → Type 0
 Stands g j c = g .F ≤ c → pos g c < j → g .live c ≡ true
 
 -- An unreached cell at which none is placed stays as it was.
-pub record SweptTo (g : Heap) (j x : ℕ) (M : ℕ → Cell) : Type 0 where
+pub record SweptTo (g : Heap) (j x : ℕ) (M : ℕ → ChainCell) : Type 0 where
   pub at : (c : ℕ) → Stands g j c → M (spot g j c) ≡ sweepCell g j x c
   pub dead : (c : ℕ) → g .F ≤ c → g .live c ≡ false → ((y : ℕ) → g .live y ≡ true → place g y ≢ c)
       → M c ≡ oldCell g c
@@ -118,7 +118,7 @@ pub record Known (g : Heap) (j x low c : ℕ) : Type 0 where
   pub covers : (b : ℕ) → holder g b ≡ true → pos g b < j → mended g j x b ≡ true → low ≤ g .li b
 
 -- a register or reached cell at the end: both ends are places
-unfoldable pub placedCell : Heap → ℕ → Cell
+unfoldable pub placedCell : Heap → ℕ → ChainCell
 placedCell g c =
     mk (g .br c) false (val (cond (holder g c) (place g (g .li c)) (g .li c)))
     (val (cond (holder g c) (place g (g .ri c)) (g .ri c)))

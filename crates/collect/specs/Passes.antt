@@ -11,7 +11,7 @@ use lib.Dec.{ltb}
 use lib.ListN.{length}
 use Rattle.words.specs.Cell.{firstWord, secondWord, putCell}
 use Rattle.words.specs.Second.{decode, plain}
-use Rattle.meaning.specs.Limits.{firstCell, limit}
+use Rattle.meaning.specs.Limits.{firstHeapCell, limit}
 use Rattle.collect.specs.Cells.{linked, cell}
 use Rattle.collect.specs.Chain.{Heap, full, Proper, pos, place, SweptTo, Known}
 use Rattle.collect.specs.Step.{Laid, Linked, lowered}
@@ -19,7 +19,7 @@ use Rattle.collect.specs.Step.{Laid, Linked, lowered}
 -- The words s have room for the heap g, and every number of it fits 28 bits.
 pub record Frame (g : Heap) (s : List ℕ) : Type 0 where
   pub proper : Proper g
-  pub first : g .F ≡ firstCell
+  pub first : g .F ≡ firstHeapCell
   pub room : 2 * g .T ≤ length s
   pub len : length s ≤ 2 * limit
   pub small : (c : ℕ) → g .li c < 2 ^ 28
@@ -145,21 +145,21 @@ Lays s s′ to a w d = Laid (cell s) (cell s′) to (lowered d (linked a (decode
 
 -- the heap cells from d past the first one up to `top` move down by d, and so do their ends
 pub record Lowerable (s : List ℕ) (top d : ℕ) : Type 0 where
-  pub some : firstCell + d ≤ top
+  pub some : firstHeapCell + d ≤ top
   pub room : 2 * top ≤ length s
   pub len : length s ≤ 2 * limit
-  pub cells : (i : ℕ) → firstCell + d ≤ i → i < top → Layable s (i - d) (firstWord s i) (secondWord s i) d
+  pub cells : (i : ℕ) → firstHeapCell + d ≤ i → i < top → Layable s (i - d) (firstWord s i) (secondWord s i) d
 
 pub record Lowers (s s′ : List ℕ) (top d : ℕ) : Type 0 where
-  pub down : (i : ℕ) → firstCell + d ≤ i → i < top → cell s′ (i - d) ≡ lowered d (cell s i)
-  pub rest : (c : ℕ) → (firstCell ≤ c → top ≤ c + d) → cell s′ c ≡ cell s c
+  pub down : (i : ℕ) → firstHeapCell + d ≤ i → i < top → cell s′ (i - d) ≡ lowered d (cell s i)
+  pub rest : (c : ℕ) → (firstHeapCell ≤ c → top ≤ c + d) → cell s′ c ≡ cell s c
 
 -- the registers stay where they are
 abbrev pub Settleable : List ℕ → ℕ → Type 0
-Settleable s d = (r : ℕ) → r < firstCell → Layable s r (firstWord s r) (secondWord s r) d
+Settleable s d = (r : ℕ) → r < firstHeapCell → Layable s r (firstWord s r) (secondWord s r) d
 
 abbrev pub Settles : List ℕ → List ℕ → ℕ → Type 0
-Settles s s′ d = (c : ℕ) → cell s′ c ≡ cond (ltb c firstCell) (lowered d (cell s c)) (cell s c)
+Settles s s′ d = (c : ℕ) → cell s′ c ≡ cond (ltb c firstHeapCell) (lowered d (cell s c)) (cell s c)
 
 -- the cells from m up to n are two zero words, the others as they were
 pub record Cleared (s s′ : List ℕ) (m n : ℕ) : Type 0 where

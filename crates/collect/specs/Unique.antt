@@ -4,7 +4,7 @@
 use mathlib.Core.Path.{_≡_}
 use mathlib.Core.List.{List}
 use Prim.Native.Nat.{ℕ}
-use Rattle.meaning.specs.Limits.{firstCell}
+use Rattle.meaning.specs.Limits.{firstHeapCell}
 use Rattle.meaning.specs.Check.{collectIn}
 use Rattle.collect.specs.Answers.{collectedIn}
 use Rattle.collect.specs.declared.Collected.{Collected}
@@ -13,5 +13,5 @@ use Rattle.collect.specs.declared.Collected.{Collected}
 abbrev pub OneCollect : Type 0
 OneCollect =
     (ws : List ℕ) (top : ℕ) (r r′ : Collected) (vs vs′ : List ℕ)
-    → collectedIn r vs top ≡ collectIn firstCell ws top → collectedIn r′ vs′ top ≡ collectIn firstCell ws top
+    → collectedIn r vs top ≡ collectIn firstHeapCell ws top → collectedIn r′ vs′ top ≡ collectIn firstHeapCell ws top
     → (r ≡ r′) × (vs ≡ vs′)

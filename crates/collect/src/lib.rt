@@ -14,7 +14,7 @@
 // Settled  so have the registers' ends.
 // The phases are definitions of specs/Chain.antt and specs/Passes.antt, and the loops' invariants.
 ghost use mathlib.Core.Path.{_≡_};
-ghost use Rattle.meaning.specs.Limits.{firstCell};
+ghost use Rattle.meaning.specs.Limits.{firstHeapCell};
 ghost use Rattle.meaning.specs.Sound.{Sound};
 ghost use Rattle.meaning.specs.Reach.{live};
 ghost use Rattle.meaning.specs.Collected.{collected, collectedTop};
@@ -28,10 +28,10 @@ mod lower;
 mod sweep;
 
 // Collects a sound store and gives the new `top`.
-pub fn gather(ws: &mut [u32], top: usize) -> usize
-    requires { ⌜ Sound firstCell (now ws) top ⌝ }
-    ensures { λ r. ⌜ (now (ws .exit) ≡ collected firstCell (now (ws .entry)) top)
-        × (r ≡ collectedTop firstCell (now (ws .entry)) top) ⌝ }
+pub fn collect_sound(ws: &mut [u32], top: usize) -> usize
+    requires { ⌜ Sound firstHeapCell (now ws) top ⌝ }
+    ensures { λ r. ⌜ (now (ws .exit) ≡ collected firstHeapCell (now (ws .entry)) top)
+        × (r ≡ collectedTop firstHeapCell (now (ws .entry)) top) ⌝ }
 {
     let dead = sweep::sweep(ws, top, true);
     if dead == 0 {
@@ -45,11 +45,11 @@ pub fn gather(ws: &mut [u32], top: usize) -> usize
 
 // The number of reached heap cells of a sound store. Every word ends as it began.
 pub fn live(ws: &mut [u32], top: usize) -> usize
-    requires { ⌜ Sound firstCell (now ws) top ⌝ }
-    ensures { λ r. ⌜ (now (ws .exit) ≡ now (ws .entry)) × (r ≡ live firstCell (now (ws .entry)) top) ⌝ }
+    requires { ⌜ Sound firstHeapCell (now ws) top ⌝ }
+    ensures { λ r. ⌜ (now (ws .exit) ≡ now (ws .entry)) × (r ≡ live firstHeapCell (now (ws .entry)) top) ⌝ }
 {
     let dead = sweep::sweep(ws, top, false);
-    top - meaning::FIRST_CELL - dead
+    top - meaning::FIRST_HEAP_CELL - dead
 }
 
 // What collecting answers: live and the new `top`, or why it is refused.
@@ -60,13 +60,13 @@ pub enum Collected {
 
 // Collects any store that is sound; every other is left as it was lent.
 pub fn collect(ws: &mut [u32], top: usize) -> Collected
-    ensures { λ r. ⌜ collectedIn r (now (ws .exit)) top ≡ collectIn firstCell (now (ws .entry)) top ⌝ }
+    ensures { λ r. ⌜ collectedIn r (now (ws .exit)) top ≡ collectIn firstHeapCell (now (ws .entry)) top ⌝ }
 {
     let found = store::check(ws, top);
     match found {
         Checked::Sound => {
-            let new = gather(ws, top);
-            Collected::Done(new - meaning::FIRST_CELL, new)
+            let new = collect_sound(ws, top);
+            Collected::Done(new - meaning::FIRST_HEAP_CELL, new)
         }
         Checked::Refused(why) => Collected::Refused(why),
     }

@@ -21,7 +21,7 @@ pub fn lower_heap(ws: &mut [u32], top: usize, d: usize)
     requires { ⌜ Lowerable (now ws) top d ⌝ }
     ensures { λ _. ⌜ Lowers (now (ws .entry)) (now (ws .exit)) top d ⌝ }
 {
-    let mut i = meaning::FIRST_CELL + d;
+    let mut i = meaning::FIRST_HEAP_CELL + d;
     while i < top {
         let a = words::first_word(ws, i);
         let w = words::second_word(ws, i);
@@ -36,7 +36,7 @@ pub fn lower_registers(ws: &mut [u32], d: u32)
     ensures { λ _. ⌜ Settles (now (ws .entry)) (now (ws .exit)) d ⌝ }
 {
     let mut r: usize = 0;
-    while r < meaning::FIRST_CELL {
+    while r < meaning::FIRST_HEAP_CELL {
         let a = words::first_word(ws, r);
         let w = words::second_word(ws, r);
         lay(ws, r, a, w, d);

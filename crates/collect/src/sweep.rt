@@ -29,7 +29,7 @@ fn hold_registers(ws: &mut [u32])
     ensures { λ _. ⌜ HoldsRegisters (now (ws .entry)) (now (ws .exit)) ⌝ }
 {
     let mut r: usize = 0;
-    while r < meaning::FIRST_CELL {
+    while r < meaning::FIRST_HEAP_CELL {
         let a = words::first_word(ws, r);
         let w = words::second_word(ws, r);
         stand(ws, r, a, w);
@@ -79,7 +79,7 @@ pub fn sweep(ws: &mut [u32], top: usize, packs: bool) -> usize
     hold_registers(ws);
     let mut dead: usize = 0;
     let mut c = top;
-    while meaning::FIRST_CELL < c {
+    while meaning::FIRST_HEAP_CELL < c {
         c -= 1;
         let w = words::second_word(ws, c);
         if words::has_left_chain(w) {

@@ -1,7 +1,7 @@
 -- The table of stores to try is right: one computation.
 -- Assumes nothing.
 use Rattle.bytes.specs.Decimal.{decimal}
-use Rattle.meaning.specs.Limits.{firstCell, limit, codeTest, programCells, programBytes}
+use Rattle.meaning.specs.Limits.{firstHeapCell, limit, codeTest, programCells, programBytes}
 use Rattle.meaning.specs.Sound.{at}
 use Rattle.meaning.specs.Reach.{reached, live}
 use Rattle.meaning.specs.Collected.{newAddress, collectedOf, collected, collectedTop}
@@ -9,16 +9,16 @@ use Rattle.meaning.specs.Check.{bracketTest, termTest, cellTest, lengthT
 use Rattle.meaning.specs.Check.{collectIn}
 use Rattle.meaning.specs.Call.{ops, opAt, uses, wrong11, wrong12, wrong13, fault, put, copy, share, head, rest}
 use Rattle.meaning.specs.Call.{openTerm, openFirst, codeTerm, codeFirst, newSymbol, newBracket, newRunOf, newRun}
-use Rattle.meaning.specs.Call.{sought, planOf, lacks, roomWords, roomTop, withRoom, carry, perform, stepAfter}
+use Rattle.meaning.specs.Call.{sought, planOf, lacks, roomWords, roomTop, withRoom, carryOut, perform, stepAfter}
 use Rattle.meaning.specs.Call.{step}
-use Rattle.meaning.specs.Program.{written, refusal, served, program}
+use Rattle.meaning.specs.Program.{written, refusal, output, program}
 use Rattle.meaning.specs.Rows.{verdictTest, doneTest, ranTest, rowTest, p1, p1Lines, p2, p3, p6, lone, rows}
 use Rattle.meaning.specs.Rows.{RowsRight}
 
-pub rows-right : RowsRight firstCell
+pub rows-right : RowsRight firstHeapCell
 unfolding limit codeTest programCells programBytes at reached live newAddress collectedOf collected collectedTop
     bracketTest termTest cellTest lengthTest topTest verdictAt check fresh collectIn ops opAt uses wrong11 wrong12
     wrong13 fault put copy share head rest openTerm openFirst codeTerm codeFirst newSymbol newBracket newRunOf newRun
-    sought planOf lacks roomWords roomTop withRoom carry perform stepAfter step decimal written refusal served program
+    sought planOf lacks roomWords roomTop withRoom carryOut perform stepAfter step decimal written refusal output program
     verdictTest doneTest ranTest rowTest p1 p1Lines p2 p3 p6 lone rows
 rows-right = tt

@@ -1,6 +1,6 @@
 -- One call: the table of operand words, what each operation does to the words, and the rule for room ("Calls",
 -- "Numbers that come back"). A call is planned on the store as lent: to act in the store as it is, in the store
--- collected, or where there is room for n new cells. An action says what it does to the words, and `carry` alone has
+-- collected, or where there is room for n new cells. An action says what it does to the words, and `carryOut` alone has
 -- the rule for room. Assumes nothing.
 use mathlib.Core.Bool.{Bool, true, false, cond, _&&_, _||_}
 use mathlib.Core.List.{List, [], _∷_}
@@ -9,7 +9,7 @@ use lib.Dec.{ltb, leb, eqb}
 use lib.ListN.{getD}
 use Rattle.words.specs.Cell.{firstWord, secondWord, putCell}
 use Rattle.meaning.specs.Limits.{codeTest}
-use Rattle.meaning.specs.Sound.{Cell, code, hollow, ends, fst, snd, at, capacity}
+use Rattle.meaning.specs.Sound.{Cell, code, empty, ends, fst, snd, at, capacity}
 use Rattle.meaning.specs.Reach.{live}
 use Rattle.meaning.specs.Collected.{collected, collectedTop}
 use Rattle.meaning.specs.Check.{Done, done, refused, only, size, start}
@@ -115,18 +115,18 @@ share d a ws top = done (copy ws d a) top 0
 -- HEAD, REST, OPEN and FIRST: 14 on an empty register, else by its ends; the last two by its first term's cell too
 abbrev pub onEnds : List ℕ → ℕ → (ℕ → ℕ → Done) → Cell → Done
 onEnds ws top f (code a) = refused ws top (only 14)
-onEnds ws top f hollow = refused ws top (only 14)
+onEnds ws top f empty = refused ws top (only 14)
 onEnds ws top f (ends l r) = f l r
 
 unfoldable pub head : List ℕ → ℕ → ℕ → Cell → Done
 head ws top d p = onEnds ws top (λ l r. done (put ws d (ends l l)) top 0) p
 
 unfoldable pub rest : List ℕ → ℕ → ℕ → Cell → Done
-rest ws top d p = onEnds ws top (λ l r. done (put ws d (cond (ltb l r) (ends (suc l) r) hollow)) top 0) p
+rest ws top d p = onEnds ws top (λ l r. done (put ws d (cond (ltb l r) (ends (suc l) r) empty)) top 0) p
 
 unfoldable pub openTerm : List ℕ → ℕ → ℕ → ℕ → Cell → Done
 openTerm ws top d x (code a) = refused ws top (only 15)
-openTerm ws top d x hollow = done (copy ws d x) top 0
+openTerm ws top d x empty = done (copy ws d x) top 0
 openTerm ws top d x (ends l r) = done (copy ws d x) top 0
 
 unfoldable pub openFirst : List ℕ → ℕ → ℕ → Cell → Done
@@ -134,7 +134,7 @@ openFirst ws top d p = onEnds ws top (λ l r. openTerm ws top d l (at ws l)) p
 
 unfoldable pub codeTerm : List ℕ → ℕ → Cell → Done
 codeTerm ws top (code a) = done ws top a
-codeTerm ws top hollow = refused ws top (only 15)
+codeTerm ws top empty = refused ws top (only 15)
 codeTerm ws top (ends l r) = refused ws top (only 15)
 
 unfoldable pub codeFirst : List ℕ → ℕ → Cell → Done
@@ -159,8 +159,8 @@ newRun d a b ws top = newRunOf d (at ws a) (at ws b) ws top
 
 pub data Plan : Type 0 where
   plain : (List ℕ → ℕ → Done) → Plan
-  gathered : (List ℕ → ℕ → Done) → Plan
-  making : ℕ → List ℕ → (List ℕ → ℕ → Done) → Plan
+  inCollected : (List ℕ → ℕ → Done) → Plan
+  laying : ℕ → List ℕ → (List ℕ → ℕ → Done) → Plan
 
 -- whether the call keeps register d while it seeks room: it does not set d, or d is one of its operand registers
 unfoldable pub keeps : Op → ℕ → ℕ → ℕ → Bool
@@ -186,13 +186,13 @@ joinNeed (suc n) (suc m) = suc n + suc m
 abbrev pub joinPlan : ℕ → ℕ → List ℕ → ℕ → ℕ → ℕ → Plan
 joinPlan zero m v d a b = plain (share d b)
 joinPlan (suc n) zero v d a b = plain (share d a)
-joinPlan (suc n) (suc m) v d a b = making (joinNeed (suc n) (suc m)) v (newRun d a b)
+joinPlan (suc n) (suc m) v d a b = laying (joinNeed (suc n) (suc m)) v (newRun d a b)
 
 unfoldable pub planOf : Op → ℕ → List ℕ → ℕ → ℕ → ℕ → ℕ → Plan
-planOf CLEAR F ws top d a b = plain (λ v t. done (put v d hollow) t 0)
+planOf CLEAR F ws top d a b = plain (λ v t. done (put v d empty) t 0)
 planOf COPY F ws top d a b = plain (share d a)
-planOf SYMBOL F ws top d a b = making 1 (soughtBy SYMBOL d a b ws) (newSymbol d a)
-planOf WRAP F ws top d a b = making 1 (soughtBy WRAP d a b ws) (newBracket d a)
+planOf SYMBOL F ws top d a b = laying 1 (soughtBy SYMBOL d a b ws) (newSymbol d a)
+planOf WRAP F ws top d a b = laying 1 (soughtBy WRAP d a b ws) (newBracket d a)
 planOf JOIN F ws top d a b = joinPlan (size (at ws a)) (size (at ws b)) (soughtBy JOIN d a b ws) d a b
 planOf HEAD F ws top d a b = plain (λ v t. head v t d (at v a))
 planOf REST F ws top d a b = plain (λ v t. rest v t d (at v a))
@@ -200,7 +200,7 @@ planOf OPEN F ws top d a b = plain (λ v t. openFirst v t d (at v a))
 planOf LENGTH F ws top d a b = plain (λ v t. done v t (size (at v a)))
 planOf FIRST F ws top d a b = plain (λ v t. codeFirst v t (at v a))
 planOf LIVE F ws top d a b = plain (λ v t. done v t (live F v t))
-planOf COLLECT F ws top d a b = gathered (λ v t. done v t (live F v t))
+planOf COLLECT F ws top d a b = inCollected (λ v t. done v t (live F v t))
 
 -- ---- room for n new cells
 
@@ -221,16 +221,16 @@ withRoom F n v act ws top =
     cond (lacks F n v top) (refused (collected F ws top) (collectedTop F ws top) (only 16))
     (act (roomWords F n v top) (roomTop F n v top))
 
-unfoldable pub carry : ℕ → Plan → List ℕ → ℕ → Done
-carry F (plain act) ws top = act ws top
-carry F (gathered act) ws top = act (collected F ws top) (collectedTop F ws top)
-carry F (making n v act) ws top = withRoom F n v act ws top
+unfoldable pub carryOut : ℕ → Plan → List ℕ → ℕ → Done
+carryOut F (plain act) ws top = act ws top
+carryOut F (inCollected act) ws top = act (collected F ws top) (collectedTop F ws top)
+carryOut F (laying n v act) ws top = withRoom F n v act ws top
 
 -- ---- one call
 
 -- a call whose own words are right
 unfoldable pub perform : Op → ℕ → List ℕ → ℕ → ℕ → ℕ → ℕ → Done
-perform o F ws top d a b = carry F (planOf o F ws top d a b) ws top
+perform o F ws top d a b = carryOut F (planOf o F ws top d a b) ws top
 
 unfoldable pub stepAfter : ℕ → ℕ → List ℕ → ℕ → ℕ → ℕ → ℕ → ℕ → Done
 stepAfter zero F ws top o d a b = perform (opAt o) F ws top d a b

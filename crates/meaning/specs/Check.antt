@@ -9,7 +9,7 @@ use lib.ListN.{length, replicate, take, drop}
 use Rattle.words.specs.Cell.{firstWord, secondWord}
 use Rattle.words.specs.Second.{bracketTo}
 use Rattle.meaning.specs.Limits.{limit, codeTest}
-use Rattle.meaning.specs.Sound.{Cell, code, hollow, ends, at, capacity}
+use Rattle.meaning.specs.Sound.{Cell, code, empty, ends, at, capacity}
 use Rattle.meaning.specs.Reach.{live}
 use Rattle.meaning.specs.Collected.{collected, collectedTop}
 
@@ -90,13 +90,13 @@ ifSound v x y = onZero (v .status) x y
 -- ---- a fresh store
 
 -- n empty registers
-abbrev pub hollows : ℕ → List ℕ
-hollows zero = []
-hollows (suc n) = 0 ∷ bracketTo 0 ∷ hollows n
+abbrev pub emptyRegisters : ℕ → List ℕ
+emptyRegisters zero = []
+emptyRegisters (suc n) = 0 ∷ bracketTo 0 ∷ emptyRegisters n
 
 -- the words of a fresh store of n cells
 unfoldable pub fresh : ℕ → ℕ → List ℕ
-fresh F n = hollows F ++ replicate (2 * (n - F)) 0
+fresh F n = emptyRegisters F ++ replicate (2 * (n - F)) 0
 
 -- written into a slice: 0 with `top` F, or 1 with `top` 0 and the slice unchanged
 unfoldable pub freshIn : ℕ → List ℕ → Done
@@ -115,12 +115,12 @@ collectIn F ws top =
 -- the number of terms in a bracket, and its first cell
 abbrev pub size : Cell → ℕ
 size (code a) = 0
-size hollow = 0
+size empty = 0
 size (ends l r) = suc r - l
 
 abbrev pub start : Cell → ℕ
 start (code a) = 0
-start hollow = 0
+start empty = 0
 start (ends l r) = l
 
 -- a part of a list, as two word numbers: from the one up to but not including the other
@@ -133,7 +133,7 @@ spanOf b = record { from = 2 * start b; to = 2 * start b + 2 * size b }
 
 -- empty for an empty register, a register that is none, or an unsound store
 unfoldable pub lookSpan : ℕ → List ℕ → ℕ → ℕ → Span
-lookSpan F ws top i = ifSound (check F ws top) (cond (ltb i F) (spanOf (at ws i)) (spanOf hollow)) (spanOf hollow)
+lookSpan F ws top i = ifSound (check F ws top) (cond (ltb i F) (spanOf (at ws i)) (spanOf empty)) (spanOf empty)
 
 unfoldable pub look : ℕ → List ℕ → ℕ → ℕ → List ℕ
 look F ws top i = let s = lookSpan F ws top i in take (s .to - s .from) (drop (s .from) ws)

@@ -5,7 +5,7 @@ use mathlib.Core.List.{List, [], _∷_, _++_}
 use Prim.Native.Nat.{ℕ, zero, suc, _+_, _-_, _*_}
 use lib.Dec.{ltb}
 use lib.ListN.{length, replicate}
-use Rattle.meaning.specs.Sound.{Cell, code, hollow, ends, fst, snd, at}
+use Rattle.meaning.specs.Sound.{Cell, code, empty, ends, fst, snd, at}
 use Rattle.meaning.specs.Reach.{reached, live}
 
 abbrev pub countIf : Bool → ℕ → ℕ
@@ -24,7 +24,7 @@ newAddress F rs c = F + below c rs
 -- a cell with both ends moved
 abbrev pub mapEnds : (ℕ → ℕ) → Cell → Cell
 mapEnds f (code a) = code a
-mapEnds f hollow = hollow
+mapEnds f empty = empty
 mapEnds f (ends l r) = ends (f l) (f r)
 
 -- the words of the cells of a list

@@ -5,8 +5,8 @@ use Prim.Native.Nat.{ℕ}
 use lib.Dec.{leb}
 
 -- the first heap cell: cells 0 to 15 are the registers
-abbrev pub firstCell : ℕ
-firstCell = 16
+abbrev pub firstHeapCell : ℕ
+firstHeapCell = 16
 
 -- The greatest capacity of a store, in cells. No law unfolds it but the one that bounds it.
 unfoldable pub limit : ℕ

@@ -4,7 +4,7 @@ use mathlib.Core.List.{List}
 use Prim.Native.Nat.{ℕ, zero, suc, _-_}
 use lib.ListN.{length}
 use Rattle.meaning.specs.Expr.{Expr, nothing, symbol, parens, append}
-use Rattle.meaning.specs.Sound.{Cell, code, hollow, ends, at}
+use Rattle.meaning.specs.Sound.{Cell, code, empty, ends, at}
 
 -- the terms of n cells from l on, in order; `t` has each cell's term, as an expression of one term
 abbrev pub run : (ℕ → Expr) → ℕ → ℕ → Expr
@@ -14,13 +14,13 @@ run t l (suc n) = append (t l) (run t (suc l) n)
 -- the expression inside a bracket: the terms of cells l to r
 abbrev pub inside : (ℕ → Expr) → Cell → Expr
 inside t (code a) = nothing
-inside t hollow = nothing
+inside t empty = nothing
 inside t (ends l r) = run t l (suc r - l)
 
 -- A symbol cell denotes its code, a bracket a pair of parentheses around the terms of its cells.
 abbrev pub termOf : (ℕ → Expr) → Cell → Expr
 termOf t (code a) = symbol a nothing
-termOf t hollow = parens nothing nothing
+termOf t empty = parens nothing nothing
 termOf t (ends l r) = parens (run t l (suc r - l)) nothing
 
 -- The term of a cell, through at most n brackets. References point down, so in a sound store no more than c brackets

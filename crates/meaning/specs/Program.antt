@@ -26,8 +26,8 @@ unfoldable pub refusal : ℕ → ℕ → List ℕ
 refusal s v = 114 ∷ 101 ∷ 102 ∷ 117 ∷ 115 ∷ 101 ∷ 100 ∷ 32 ∷ decimal s ++ (32 ∷ decimal v ++ (10 ∷ []))
 
 -- a batch on a fresh store of `cells` cells
-unfoldable pub served : ℕ → ℕ → List ℕ → List ℕ
-served F cells calls = written (runs F (fresh F cells) F calls)
+unfoldable pub output : ℕ → ℕ → List ℕ → List ℕ
+output F cells calls = written (runs F (fresh F cells) F calls)
 
 -- the first word is the capacity, the others are the calls
 unfoldable pub program : ℕ → List ℕ → List ℕ
@@ -35,4 +35,4 @@ program F input =
     let cells = getD (wordsOf input) 0 0 in
     cond (ltb (length input) 4 || ltb cells F || ltb programCells cells) (refusal 1 0)
     (cond (ltb programBytes (length input) || ltb 0 ((length input - 4) % 16)) (refusal 4 0)
-    (served F cells (drop 1 (wordsOf input))))
+    (output F cells (drop 1 (wordsOf input))))

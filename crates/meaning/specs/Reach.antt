@@ -5,12 +5,12 @@ use mathlib.Core.List.{List, [], _∷_}
 use Prim.Native.Nat.{ℕ, zero, suc, _-_, _≤_, _<_}
 use lib.Dec.{leb}
 use lib.ListN.{length}
-use Rattle.meaning.specs.Sound.{Cell, code, hollow, ends, at}
+use Rattle.meaning.specs.Sound.{Cell, code, empty, ends, at}
 
 -- c lies between the ends of a bracket
 abbrev pub Between : Cell → ℕ → Type 0
 Between (code a) c = ⊥
-Between hollow c = ⊥
+Between empty c = ⊥
 Between (ends l r) c = (l ≤ c) × (c ≤ r)
 
 -- A heap cell is reached if it lies between the ends of a register or of a reached bracket, and not otherwise.
@@ -21,7 +21,7 @@ pub data Reached (F : ℕ) (k : ℕ → Cell) : ℕ → Type 0 where
 -- the same by computation
 abbrev pub between : Cell → ℕ → Bool
 between (code a) c = false
-between hollow c = false
+between empty c = false
 between (ends l r) c = leb l c && leb c r
 
 -- one of the cells below n holds c

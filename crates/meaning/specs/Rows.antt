@@ -7,7 +7,7 @@ use lib.Dec.{eqb, T}
 use Rattle.words.specs.Second.{bracketTo}
 use Rattle.bytes.specs.Little.{bytesOf}
 use Rattle.bytes.specs.Decimal.{decimal}
-use Rattle.meaning.specs.Check.{Verdict, check, Done, fresh, hollows, collectIn}
+use Rattle.meaning.specs.Check.{Verdict, check, Done, fresh, emptyRegisters, collectIn}
 use Rattle.meaning.specs.Batch.{Ran, runs}
 use Rattle.meaning.specs.Program.{program}
 
@@ -60,29 +60,29 @@ p1Lines =
 -- (B C D)(A B C) of 001, section 2, before and after it is collected
 unfoldable pub p2 : ℕ → List ℕ
 p2 F =
-    (5 + F) ∷ bracketTo (6 + F) ∷ hollows (F - 1) ++
+    (5 + F) ∷ bracketTo (6 + F) ∷ emptyRegisters (F - 1) ++
     (70 ∷ 0 ∷ 65 ∷ 0 ∷ 66 ∷ 0 ∷ 67 ∷ 0 ∷ 68 ∷ 0 ∷ (2 + F) ∷ bracketTo (4 + F) ∷ (1 + F) ∷ bracketTo (3 + F) ∷ 0 ∷ 0 ∷
     [])
 
 unfoldable pub p3 : ℕ → List ℕ
 p3 F =
-    (4 + F) ∷ bracketTo (5 + F) ∷ hollows (F - 1) ++
+    (4 + F) ∷ bracketTo (5 + F) ∷ emptyRegisters (F - 1) ++
     (65 ∷ 0 ∷ 66 ∷ 0 ∷ 67 ∷ 0 ∷ 68 ∷ 0 ∷ (1 + F) ∷ bracketTo (3 + F) ∷ F ∷ bracketTo (2 + F) ∷ 0 ∷ 0 ∷ 0 ∷ 0 ∷ [])
 
 -- two symbols and a bracket with ends l and r
 unfoldable pub p6 : ℕ → ℕ → ℕ → List ℕ
-p6 F l r = hollows F ++ (65 ∷ 0 ∷ 66 ∷ 0 ∷ l ∷ bracketTo r ∷ 0 ∷ 0 ∷ [])
+p6 F l r = emptyRegisters F ++ (65 ∷ 0 ∷ 66 ∷ 0 ∷ l ∷ bracketTo r ∷ 0 ∷ 0 ∷ [])
 
 -- one symbol in register 0
 unfoldable pub lone : ℕ → ℕ → List ℕ
-lone F a = F ∷ bracketTo F ∷ hollows (F - 1) ++ (a ∷ 0 ∷ [])
+lone F a = F ∷ bracketTo F ∷ emptyRegisters (F - 1) ++ (a ∷ 0 ∷ [])
 
 unfoldable pub rows : ℕ → List Row
 rows F =
     -- P1
     runsTo (fresh F (4 + F)) F p1
     (0 ∷ 0 ∷ 0 ∷ 0 ∷ 0 ∷ 0 ∷ 16 ∷ 0 ∷ 0 ∷ 0 ∷ 0 ∷ 0 ∷ 16 ∷ 0 ∷ 0 ∷ 0 ∷ 0 ∷ 3 ∷ [])
-    (hollows 2 ++ (F ∷ bracketTo (1 + F) ∷ (2 + F) ∷ bracketTo (2 + F) ∷ hollows (F - 4)) ++
+    (emptyRegisters 2 ++ (F ∷ bracketTo (1 + F) ∷ (2 + F) ∷ bracketTo (2 + F) ∷ emptyRegisters (F - 4)) ++
     (65 ∷ 0 ∷ 66 ∷ 0 ∷ F ∷ bracketTo (1 + F) ∷ 0 ∷ 0 ∷ [])) (3 + F) ∷
     writes (bytesOf ((4 + F) ∷ p1)) (p1Lines ++ decimal (3 + F) ++ (10 ∷ [])) ∷
     -- P2, P3

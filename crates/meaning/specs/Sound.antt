@@ -14,23 +14,23 @@ use Rattle.meaning.specs.Limits.{limit, codeTest}
 -- a cell: a symbol with its code, an empty bracket, or a bracket with its two ends, both inclusive
 pub data Cell : Type 0 where
   code : ℕ → Cell
-  hollow : Cell
+  empty : Cell
   ends : ℕ → ℕ → Cell
 
 -- its two words
 abbrev pub fst : Cell → ℕ
 fst (code a) = a
-fst hollow = 0
+fst empty = 0
 fst (ends l r) = l
 
 abbrev pub snd : Cell → ℕ
 snd (code a) = 0
-snd hollow = bracketTo 0
+snd empty = bracketTo 0
 snd (ends l r) = bracketTo r
 
 -- the cell that two words are: in a sound store their own, since a right end of 0 means empty
 abbrev pub bracketOf : ℕ → ℕ → Cell
-bracketOf l zero = hollow
+bracketOf l zero = empty
 bracketOf l (suc r) = ends l (suc r)
 
 abbrev pub cellOf : Bool → ℕ → ℕ → Cell

@@ -2,7 +2,7 @@
 // specs/Limits.antt.
 
 // The first heap cell; the registers are the cells below it.
-pub const FIRST_CELL: usize = 16;
+pub const FIRST_HEAP_CELL: usize = 16;
 
 // The most cells that a store may have.
 pub const LIMIT: usize = 4096;

@@ -2,7 +2,7 @@
 -- Assumes nothing.
 use Rattle.promises.specs.Table.{CheckAnswers, FreshAnswers, CollectAnswers, LookAnswers, BatchAnswers}
 use Rattle.promises.specs.Table.{CallAnswers}
-use Rattle.promises.specs.Collecting.{LiveCounts, CollectingGathers}
+use Rattle.promises.specs.Collecting.{LiveCounts, CollectingKeeps}
 use Rattle.promises.specs.Calls.{CallsDo, CallsAnswer, BatchesRun}
 use Rattle.promises.specs.Alike.{AlikeIsCollected, CollectionsNeverShow}
 use Rattle.promises.specs.Unique.{OneAnswer, OneCheck, OneFresh, OneCollected, OneLook, OneCollect, OneBatch}
@@ -38,7 +38,7 @@ call-answers = tables.call-answers
 pub live-counts : LiveCounts
 live-counts = gathering.live-counts
 
-pub collecting-gathers : CollectingGathers
+pub collecting-gathers : CollectingKeeps
 collecting-gathers = gathering.collecting-gathers
 
 pub calls-do : CallsDo

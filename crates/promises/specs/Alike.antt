@@ -8,7 +8,7 @@ use mathlib.Core.List.{List, [], _∷_, _++_}
 use Prim.Native.Nat.{ℕ, _*_, _/_, _<_}
 use lib.Dec.{eqb}
 use lib.ListN.{length, getD, take}
-use Rattle.meaning.specs.Sound.{Cell, code, hollow, ends, at, Sound, capacity}
+use Rattle.meaning.specs.Sound.{Cell, code, empty, ends, at, Sound, capacity}
 use Rattle.meaning.specs.Reach.{reached, live}
 use Rattle.meaning.specs.Check.{Verdict, collectIn}
 use Rattle.meaning.specs.Batch.{batch}
@@ -27,13 +27,13 @@ pub record Paired (xs ys : List ℕ) (x y : ℕ) : Type 0 where
 -- two cells have the same code, or both are empty brackets, or both have contents whose ends are paired
 abbrev pub PairedCells : List ℕ → List ℕ → Cell → Cell → Type 0
 PairedCells xs ys (code a) (code b) = a ≡ b
-PairedCells xs ys (code a) hollow = ⊥
+PairedCells xs ys (code a) empty = ⊥
 PairedCells xs ys (code a) (ends l r) = ⊥
-PairedCells xs ys hollow (code b) = ⊥
-PairedCells xs ys hollow hollow = Unit {0}
-PairedCells xs ys hollow (ends l r) = ⊥
+PairedCells xs ys empty (code b) = ⊥
+PairedCells xs ys empty empty = Unit {0}
+PairedCells xs ys empty (ends l r) = ⊥
 PairedCells xs ys (ends l r) (code b) = ⊥
-PairedCells xs ys (ends l r) hollow = ⊥
+PairedCells xs ys (ends l r) empty = ⊥
 PairedCells xs ys (ends l r) (ends l′ r′) = Paired xs ys l l′ × Paired xs ys r r′
 
 -- equally many reached cells, the k-th in each paired; registers likewise

@@ -28,13 +28,13 @@ lacking F ws top o d a b n = ltb (capacity ws) (F + liveForRoom F ws top o d a b
 
 -- The store in which the call acts, and its `top`: collected by a call that collects without need; else, where `top`
 -- + n exceeds the capacity, the store in which it seeks room, collected; else as it is.
-abbrev pub base : ℕ → List ℕ → ℕ → ℕ → ℕ → ℕ → ℕ → ℕ → List ℕ
-base F ws top o d a b n =
+abbrev pub actedOn : ℕ → List ℕ → ℕ → ℕ → ℕ → ℕ → ℕ → ℕ → List ℕ
+actedOn F ws top o d a b n =
     cond (effect F ws top o d a b .collects) (collected F ws top)
     (cond (ltb (capacity ws) (top + n)) (collected F (soughtBy (opAt o) d a b ws) top) ws)
 
-abbrev pub baseTop : ℕ → List ℕ → ℕ → ℕ → ℕ → ℕ → ℕ → ℕ → ℕ
-baseTop F ws top o d a b n =
+abbrev pub actedTop : ℕ → List ℕ → ℕ → ℕ → ℕ → ℕ → ℕ → ℕ → ℕ
+actedTop F ws top o d a b n =
     cond (effect F ws top o d a b .collects) (F + live F ws top)
     (cond (ltb (capacity ws) (top + n)) (F + liveForRoom F ws top o d a b) top)
 
@@ -58,11 +58,11 @@ pub record Called (F : ℕ) (ws : List ℕ) (top o d a b n : ℕ) (r : Done) : T
       → (r .verdict .status ≡ 16 → capacity ws < F + liveForRoom F ws top o d a b + n)
       × (capacity ws < F + liveForRoom F ws top o d a b + n → r .verdict .status ≡ 16)
   -- done: new cells are laid from the `top` of the store in which it acts, and no other cell but d changes
-  pub doneTop : r .verdict .status ≡ 0 → r .top ≡ baseTop F ws top o d a b n + n
+  pub doneTop : r .verdict .status ≡ 0 → r .top ≡ actedTop F ws top o d a b n + n
   pub doneWords : r .verdict .status ≡ 0
-      → OnlyThere d (baseTop F ws top o d a b n) n (base F ws top o d a b n) (r .words)
+      → OnlyThere d (actedTop F ws top o d a b n) n (actedOn F ws top o d a b n) (r .words)
   -- LENGTH, FIRST, LIVE and COLLECT change no register's words
-  pub asked : r .verdict .status ≡ 0 → 8 ≤ o → r .words ≡ base F ws top o d a b n
+  pub asked : r .verdict .status ≡ 0 → 8 ≤ o → r .words ≡ actedOn F ws top o d a b n
   -- a call without need never collects, COLLECT apart
   pub noNeed : r .verdict .status ≡ 0 → effect F ws top o d a b .collects ≡ false → n ≡ 0
       → (r .top ≡ top) × OnlyThere d top 0 ws (r .words)

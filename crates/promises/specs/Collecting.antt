@@ -27,7 +27,7 @@ LiveCounts = (F : ℕ) → 0 < F → (ws : List ℕ) (top : ℕ) → Sound F ws 
 abbrev pub new : ℕ → List ℕ → ℕ → ℕ → ℕ
 new F ws top = newAddress F (reached F ws top)
 
-pub record Gathered (F : ℕ) (ws : List ℕ) (top : ℕ) (v : List ℕ) : Type 0 where
+pub record CollectedFrom (F : ℕ) (ws : List ℕ) (top : ℕ) (v : List ℕ) : Type 0 where
   -- packed low: the new addresses are the cells from F up to but not including F + live, and no cell moves up
   pub low : (c : ℕ) → Reached F (at ws) c
       → (F ≤ new F ws top c) × (new F ws top c < F + live F ws top) × (new F ws top c ≤ c)
@@ -54,6 +54,6 @@ pub record Gathered (F : ℕ) (ws : List ℕ) (top : ℕ) (v : List ℕ) : Type 
   -- collecting again changes nothing
   pub again : collected F v (F + live F ws top) ≡ v
 
-abbrev pub CollectingGathers : Type 0
-CollectingGathers =
-    (F : ℕ) → 0 < F → (ws : List ℕ) (top : ℕ) → Sound F ws top → Gathered F ws top (collected F ws top)
+abbrev pub CollectingKeeps : Type 0
+CollectingKeeps =
+    (F : ℕ) → 0 < F → (ws : List ℕ) (top : ℕ) → Sound F ws top → CollectedFrom F ws top (collected F ws top)

@@ -9,7 +9,7 @@ use lib.ListN.{length, getD}
 use Rattle.words.specs.Cell.{firstWord, secondWord}
 use Rattle.meaning.specs.Limits.{limit, callsLimit}
 use Rattle.meaning.specs.Expr.{nothing}
-use Rattle.meaning.specs.Sound.{hollow, ends, at, IsBracket, IsTerm, capacity, Sound}
+use Rattle.meaning.specs.Sound.{empty, ends, at, IsBracket, IsTerm, capacity, Sound}
 use Rattle.meaning.specs.Meaning.{meaning}
 use Rattle.meaning.specs.Reach.{live}
 use Rattle.meaning.specs.Collected.{collected}
@@ -88,7 +88,7 @@ CollectAnswers = (F : ℕ) (ws : List ℕ) (top : ℕ) → CollectTable F ws top
 pub record LookTable (F : ℕ) (ws : List ℕ) (top i : ℕ) (part : List ℕ) : Type 0 where
   pub unsound : Not (Sound F ws top) → part ≡ []
   pub none : F ≤ i → part ≡ []
-  pub empty : at ws i ≡ hollow → part ≡ []
+  pub noContents : at ws i ≡ empty → part ≡ []
   pub cells : (l r : ℕ) → Sound F ws top → i < F → at ws i ≡ ends l r
       → (length part ≡ 2 * (suc r - l)) × ((j : ℕ) → j < length part → getD part j 0 ≡ getD ws (2 * l + j) 0)
 

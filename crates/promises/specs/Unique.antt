@@ -10,7 +10,7 @@ use Rattle.meaning.specs.Check.{Verdict, Done}
 use Rattle.meaning.specs.Batch.{Outcome}
 use Rattle.promises.specs.Table.{CheckTable, FreshTable, CollectTable, LookTable, BatchTable}
 use Rattle.promises.specs.Calls.{BatchRun}
-use Rattle.promises.specs.Collecting.{Gathered}
+use Rattle.promises.specs.Collecting.{CollectedFrom}
 
 -- an answer of which the promise says its number and values: two answers with the same numbers and values are one
 abbrev pub OneAnswer : Type 1
@@ -27,7 +27,7 @@ OneFresh = (F : ℕ) (ws : List ℕ) (r q : Done) → FreshTable F ws r → Fres
 -- the words by what is said of a collected store, cell by cell
 abbrev pub OneCollected : Type 0
 OneCollected =
-    (F : ℕ) → 0 < F → (ws : List ℕ) (top : ℕ) → Sound F ws top → (v : List ℕ) → Gathered F ws top v
+    (F : ℕ) → 0 < F → (ws : List ℕ) (top : ℕ) → Sound F ws top → (v : List ℕ) → CollectedFrom F ws top v
     → v ≡ collected F ws top
 
 abbrev pub OneLook : Type 0

@@ -7,16 +7,16 @@ use native.Mathlib.Omega.{arith}
 use lib.ListN.{length, take, replicate, length-replicate}
 use lib.Seq.{length-take-le}
 use borrow.Author.Tests.{le-ltb, le-leb}
-use Rattle.meaning.specs.Limits.{firstCell, limit, callsLimit, programCells, programBytes}
+use Rattle.meaning.specs.Limits.{firstHeapCell, limit, callsLimit, programCells, programBytes}
 use Rattle.meaning.specs.Sound.{Sound, capacity}
 use Rattle.meaning.specs.Check.{Done, done, lengthTest, fresh, freshIn}
 use Rattle.meaning.specs.Batch.{Ran, runs, Outcome, ended, callsTest, batchOf, batch}
 use Rattle.meaning.specs.Call.{step}
-use Rattle.meaning.specs.Program.{linesOf, written, served}
+use Rattle.meaning.specs.Program.{linesOf, written, output}
 use Rattle.meaning.proofs.check.Fresh.{fresh-sound}
 use Rattle.meaning.proofs.check.Checking.{sound-check}
 use Rattle.serve.specs.Lines.{topLine}
-use Rattle.serve.specs.Lent.{Lent, Served, programAnswers}
+use Rattle.serve.specs.Needs.{BatchFits, CallsFit, programAnswers}
 use Rattle.store.specs.Answers.{madeIn}
 use Rattle.calls.specs.Answers.{ranIn}
 use Rattle.store.specs.declared.Made.{Made}
@@ -88,35 +88,35 @@ module _ (F : ℕ) (ws : List ℕ) (top : ℕ) (cs out : List ℕ) (s : Sound F 
 
 -- ---- the whole
 
-module _ (ws cs out : List ℕ) (l : Lent ws cs out) where
-  fresh-done : freshIn firstCell ws ≡ done (fresh firstCell (capacity ws)) firstCell 0
+module _ (ws cs out : List ℕ) (l : BatchFits ws cs out) where
+  fresh-done : freshIn firstHeapCell ws ≡ done (fresh firstHeapCell (capacity ws)) firstHeapCell 0
   unfolding freshIn lengthTest
   fresh-done =
-      rw (l .even, le-ltb (length ws) (2 * firstCell) (l .low), le-leb (length ws) (2 * limit) (l .high))
+      rw (l .even, le-ltb (length ws) (2 * firstHeapCell) (l .low), le-leb (length ws) (2 * limit) (l .high))
 
-  module _ (m : Made) (ws′ : List ℕ) (e : madeIn m ws′ ≡ freshIn firstCell ws) where
-    fresh-words : ws′ ≡ fresh firstCell (capacity ws)
+  module _ (m : Made) (ws′ : List ℕ) (e : madeIn m ws′ ≡ freshIn firstHeapCell ws) where
+    fresh-words : ws′ ≡ fresh firstHeapCell (capacity ws)
     fresh-words = sym (made-words m ws′) ∙ ap (λ (d : Done). d .words) (e ∙ fresh-done)
 
-    fresh-top : madeIn m [] .top ≡ firstCell
+    fresh-top : madeIn m [] .top ≡ firstHeapCell
     fresh-top = sym (made-top m ws′) ∙ ap (λ (d : Done). d .top) (e ∙ fresh-done)
 
     -- what is left by the calls, run where the fresh store is
-    pub run-served : (r : ran.Ran) (ws″ out′ : List ℕ) (t t′ : ℕ) → t ≡ madeIn m [] .top
-        → ranIn r ws″ t out′ ≡ batch firstCell ws′ t cs out → t′ ≡ ranIn r [] t [] .top
-        → linesOf out′ ++ topLine t′ ≡ served firstCell (capacity ws) cs
-    unfolding served written
-    run-served r ws″ out′ t t′ p q u =
-        let s : Sound firstCell (fresh firstCell (capacity ws)) firstCell =
-        fresh-sound firstCell (capacity ws) (omega arith) (omega arith) in
-        let b : batch firstCell ws′ t cs out ≡ batch firstCell (fresh firstCell (capacity ws)) firstCell cs out =
-        ap₂ (λ (w : List ℕ) (n : ℕ). batch firstCell w n cs out) fresh-words (p ∙ fresh-top) in
-        let a : out′ ≡ runs firstCell (fresh firstCell (capacity ws)) firstCell cs .answers =
+    pub run-output : (r : ran.Ran) (ws″ out′ : List ℕ) (t t′ : ℕ) → t ≡ madeIn m [] .top
+        → ranIn r ws″ t out′ ≡ batch firstHeapCell ws′ t cs out → t′ ≡ ranIn r [] t [] .top
+        → linesOf out′ ++ topLine t′ ≡ output firstHeapCell (capacity ws) cs
+    unfolding output written
+    run-output r ws″ out′ t t′ p q u =
+        let s : Sound firstHeapCell (fresh firstHeapCell (capacity ws)) firstHeapCell =
+        fresh-sound firstHeapCell (capacity ws) (omega arith) (omega arith) in
+        let b : batch firstHeapCell ws′ t cs out ≡ batch firstHeapCell (fresh firstHeapCell (capacity ws)) firstHeapCell cs out =
+        ap₂ (λ (w : List ℕ) (n : ℕ). batch firstHeapCell w n cs out) fresh-words (p ∙ fresh-top) in
+        let a : out′ ≡ runs firstHeapCell (fresh firstHeapCell (capacity ws)) firstHeapCell cs .answers =
         sym (ran-answers r ws″ t out′) ∙ ap (λ (o : Outcome). o .answers) (q ∙ b)
-        ∙ batch-answers firstCell (fresh firstCell (capacity ws)) firstCell cs out s (l .short) (l .whole) (l .space) in
-        let n : t′ ≡ runs firstCell (fresh firstCell (capacity ws)) firstCell cs .top =
+        ∙ batch-answers firstHeapCell (fresh firstHeapCell (capacity ws)) firstHeapCell cs out s (l .short) (l .whole) (l .space) in
+        let n : t′ ≡ runs firstHeapCell (fresh firstHeapCell (capacity ws)) firstHeapCell cs .top =
         u ∙ sym (ran-top r ws″ t out′) ∙ ap (λ (o : Outcome). o .top) (q ∙ b)
-        ∙ batch-top firstCell (fresh firstCell (capacity ws)) firstCell cs out s (l .short) (l .whole) (l .space) in
+        ∙ batch-top firstHeapCell (fresh firstHeapCell (capacity ws)) firstHeapCell cs out s (l .short) (l .whole) (l .space) in
         rw (a, n)
 
 -- ---- what the program lends
@@ -132,8 +132,8 @@ pub calls-fit : (n : ℕ) → n ≤ callsLimit → n / 4 * 2 ≤ programAnswers
 unfolding callsLimit programBytes
 calls-fit n h = omega arith
 
-lends : (cells : ℕ) (cs : List ℕ) (room : ℕ) → Served cells cs room → (ws out : List ℕ) → length ws ≡ 2 * cells
-    → length out ≡ length cs / 4 * 2 → Lent ws cs out
+lends : (cells : ℕ) (cs : List ℕ) (room : ℕ) → CallsFit cells cs room → (ws out : List ℕ) → length ws ≡ 2 * cells
+    → length out ≡ length cs / 4 * 2 → BatchFits ws cs out
 lends cells cs room s ws out e f = record {
   even = omega arith;
   low = omega arith;
@@ -154,8 +154,8 @@ pub part-capacity : (n m : ℕ) → 2 * n ≤ m → capacity (part (2 * n) m) �
 part-capacity n m h = omega (arith, part-length (2 * n) m h)
 
 -- the store and the answers that the program lends, with the room that the lines of so many answers take
-pub lent-parts : (cells : ℕ) (cs : List ℕ) (room : ℕ) → Served cells cs room
-    → Lent (part (2 * cells) (2 * programCells)) cs (part (length cs / 4 * 2) programAnswers)
+pub lent-parts : (cells : ℕ) (cs : List ℕ) (room : ℕ) → CallsFit cells cs room
+    → BatchFits (part (2 * cells) (2 * programCells)) cs (part (length cs / 4 * 2) programAnswers)
     × (11 * length (part (length cs / 4 * 2) programAnswers) + 25 ≤ room)
 lent-parts cells cs room s =
     let a = part-length (2 * cells) (2 * programCells) (cells-fit cells (s .high)) in

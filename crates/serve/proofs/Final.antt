@@ -4,7 +4,7 @@ use mathlib.Core.List.{List}
 use Prim.Native.Nat.{ℕ, _≤_}
 use native.Mathlib.Omega.{arith}
 use lib.ListN.{length, drop, length-append}
-use Rattle.meaning.specs.Limits.{firstCell}
+use Rattle.meaning.specs.Limits.{firstHeapCell}
 use Rattle.meaning.specs.Program.{program}
 use Rattle.serve.specs.Unique.{Serves, OneServe}
 
@@ -13,4 +13,4 @@ one-serve input out r r′ out′ out″ p q = (cc, cc)
 
 pub serves-fits : (input out : List ℕ) (r : ℕ) (out′ : List ℕ) → Serves input out r out′ → r ≤ length out′
 serves-fits input out r out′ p =
-    omega (arith, p .0, ap length (p .1), length-append (program firstCell input) (drop r out))
+    omega (arith, p .0, ap length (p .1), length-append (program firstHeapCell input) (drop r out))

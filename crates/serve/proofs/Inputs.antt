@@ -10,7 +10,7 @@ use Rattle.bytes.specs.Space.{filled}
 use Rattle.bytes.proofs.Endian.{words-length}
 use Rattle.bytes.proofs.Final.{filled-fits}
 use Rattle.meaning.specs.Limits.{programBytes, callsLimit}
-use Rattle.serve.specs.Lent.{Served, Whole}
+use Rattle.serve.specs.Needs.{CallsFit, InputFits}
 
 -- a buffer of n zeros that the input's words have filled
 module _ (bs ws : List ℕ) (n : ℕ) (fits : length bs / 4 ≤ n)
@@ -32,10 +32,10 @@ module _ (bs ws : List ℕ) (n : ℕ) (fits : length bs / 4 ≤ n)
       (omega (arith, length-drop 1 (wordsOf bs), words-length bs)))
 
 -- and they are lent as a batch asks
-pub calls-served : (cells : ℕ) (bs : List ℕ) (room : ℕ) → Whole cells (length bs) room
-    → Served cells (drop 1 (wordsOf bs)) room
+pub calls-lent : (cells : ℕ) (bs : List ℕ) (room : ℕ) → InputFits cells (length bs) room
+    → CallsFit cells (drop 1 (wordsOf bs)) room
 unfolding programBytes callsLimit
-calls-served cells bs room w =
+calls-lent cells bs room w =
     let n : length (drop 1 (wordsOf bs)) ≡ length bs / 4 - 1 = omega
     (arith, length-drop 1 (wordsOf bs), words-length bs) in
     record {

@@ -1,5 +1,5 @@
 -- What the contracts of this crate cite beside the definitions of `meaning`. Assumes nothing.
 pub mod Front
 pub mod Lines
-pub mod Lent
+pub mod Needs
 pub mod Unique

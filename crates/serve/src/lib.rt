@@ -8,7 +8,7 @@ use meaning::PROGRAM_CELLS;
 ghost use mathlib.Core.Path.{_≡_};
 ghost use mathlib.Core.List.{_++_};
 ghost use lib.ListN.{length, drop};
-ghost use Rattle.meaning.specs.Limits.{firstCell};
+ghost use Rattle.meaning.specs.Limits.{firstHeapCell};
 ghost use Rattle.meaning.specs.Program.{program};
 
 // The answers to the longest input: two to each call of 16 bytes, after the capacity's 4.
@@ -20,14 +20,14 @@ pub const OUTPUT: usize = 11 * ANSWERS + 25;
 
 // Writes what the program has to write to the start of `out`, leaves the rest of it, and gives the number of bytes.
 pub fn serve(input: &[u8], out: &mut [u8; OUTPUT]) -> usize
-    ensures { λ r. ⌜ r ≡ length (program firstCell (now (input .entry))) ⌝ }
-    ensures { λ r. ⌜ now (out .exit) ≡ program firstCell (now (input .entry)) ++ drop r (now (out .entry)) ⌝ }
+    ensures { λ r. ⌜ r ≡ length (program firstHeapCell (now (input .entry))) ⌝ }
+    ensures { λ r. ⌜ now (out .exit) ≡ program firstHeapCell (now (input .entry)) ++ drop r (now (out .entry)) ⌝ }
 {
     if input.len() < 4 {
         return writing::refuse(out, 1); // no capacity
     }
     let cells = bytes::reading::word(input, 0) as usize;
-    if cells < meaning::FIRST_CELL {
+    if cells < meaning::FIRST_HEAP_CELL {
         return writing::refuse(out, 1); // too few cells
     }
     if PROGRAM_CELLS < cells {

@@ -10,14 +10,14 @@ ghost use mathlib.Core.List.{[], _++_};
 ghost use Prim.Native.Nat.{_+_, _*_, _≤_};
 ghost use lib.ListN.{length, drop};
 ghost use Rattle.bytes.specs.Little.{wordsOf};
-ghost use Rattle.meaning.specs.Limits.{firstCell};
+ghost use Rattle.meaning.specs.Limits.{firstHeapCell};
 ghost use Rattle.meaning.specs.Sound.{capacity};
-ghost use Rattle.meaning.specs.Program.{linesOf, served};
+ghost use Rattle.meaning.specs.Program.{linesOf, output};
 ghost use Rattle.store.specs.Answers.{madeIn};
 ghost use Rattle.calls.specs.Answers.{ranIn};
 ghost use Rattle.serve.specs.Front.{Front};
 ghost use Rattle.serve.specs.Lines.{topLine};
-ghost use Rattle.serve.specs.Lent.{Lent, Served, Whole};
+ghost use Rattle.serve.specs.Needs.{BatchFits, CallsFit, InputFits};
 
 // The `top` that goes with an answer.
 fn top_made(made: Made) -> usize
@@ -42,10 +42,10 @@ fn top_ran(ran: Ran, top: usize) -> usize
 
 // Makes the store, runs the calls and gives the last `top`. Neither refuses: what is lent is as they ask.
 fn run_fresh(ws: &mut [u32], calls: &[u32], answers: &mut [u32]) -> usize
-    requires { ⌜ Lent (now ws) (now calls) (now answers) ⌝ }
+    requires { ⌜ BatchFits (now ws) (now calls) (now answers) ⌝ }
     ensures { λ r.
         ⌜ linesOf (now (answers .exit)) ++ topLine r
-        ≡ served firstCell (capacity (now (ws .entry))) (now (calls .entry)) ⌝ }
+        ≡ output firstHeapCell (capacity (now (ws .entry))) (now (calls .entry)) ⌝ }
 {
     let top = top_made(store::fresh(ws));
     top_ran(calls::run(ws, top, calls, answers), top)
@@ -53,10 +53,10 @@ fn run_fresh(ws: &mut [u32], calls: &[u32], answers: &mut [u32]) -> usize
 
 // The same, and the lines of it.
 fn report_fresh(ws: &mut [u32], calls: &[u32], answers: &mut [u32], out: &mut [u8]) -> usize
-    requires { ⌜ Lent (now ws) (now calls) (now answers) ⌝ }
+    requires { ⌜ BatchFits (now ws) (now calls) (now answers) ⌝ }
     requires { ⌜ 11 * length (now answers) + 25 ≤ length (now out) ⌝ }
     ensures { λ r.
-        ⌜ Front (now (out .entry)) (served firstCell (capacity (now (ws .entry))) (now (calls .entry)))
+        ⌜ Front (now (out .entry)) (output firstHeapCell (capacity (now (ws .entry))) (now (calls .entry)))
         (now (out .exit)) r ⌝ }
 {
     let top = run_fresh(ws, calls, answers);
@@ -65,8 +65,8 @@ fn report_fresh(ws: &mut [u32], calls: &[u32], answers: &mut [u32], out: &mut [u
 
 // A store of `cells` cells is a part of a buffer of zeros.
 fn serve_words(cells: usize, calls: &[u32], out: &mut [u8]) -> usize
-    requires { ⌜ Served cells (now calls) (length (now out)) ⌝ }
-    ensures { λ r. ⌜ Front (now (out .entry)) (served firstCell cells (now (calls .entry))) (now (out .exit)) r ⌝ }
+    requires { ⌜ CallsFit cells (now calls) (length (now out)) ⌝ }
+    ensures { λ r. ⌜ Front (now (out .entry)) (output firstHeapCell cells (now (calls .entry))) (now (out .exit)) r ⌝ }
 {
     let mut buffer = [0u32; 2 * PROGRAM_CELLS];
     let mut answers = [0u32; ANSWERS];
@@ -76,9 +76,9 @@ fn serve_words(cells: usize, calls: &[u32], out: &mut [u8]) -> usize
 
 // The input's words are read, and those after the capacity are the calls.
 pub fn serve_calls(cells: usize, input: &[u8], out: &mut [u8]) -> usize
-    requires { ⌜ Whole cells (length (now input)) (length (now out)) ⌝ }
+    requires { ⌜ InputFits cells (length (now input)) (length (now out)) ⌝ }
     ensures { λ r.
-        ⌜ Front (now (out .entry)) (served firstCell cells (drop 1 (wordsOf (now (input .entry)))))
+        ⌜ Front (now (out .entry)) (output firstHeapCell cells (drop 1 (wordsOf (now (input .entry)))))
         (now (out .exit)) r ⌝ }
 {
     let mut words = [0u32; PROGRAM_BYTES / 4];

@@ -12,7 +12,7 @@ use Rattle.store.specs.declared.Checked.{Checked}
 use Rattle.store.specs.declared.Checked.the-variants as checked
 use Rattle.store.specs.declared.Made.{Made}
 use Rattle.store.specs.declared.Made.the-variants as made
-use Rattle.store.specs.declared.Extent.{Extent}
+use Rattle.store.specs.declared.Span as span
 use Rattle.store.proofs.Refusals.{unsoundOf, unsoundOf-back, ifSound-refusal}
 
 abbrev checkedOf : Verdict → Checked
@@ -45,11 +45,11 @@ one-fresh ws r r′ vs vs′ p q =
     let w : madeIn r vs .words ≡ madeIn r′ vs′ .words = ap (λ (d : Done). d .words) e in
     (sym (made-back r vs) ∙ ap madeOf e ∙ made-back r′ vs′, sym (words-back r vs) ∙ w ∙ words-back r′ vs′)
 
-abbrev extentOf : Span → Extent
-extentOf s = record { from = s .from; to = s .to }
+abbrev spanFrom : Span → span.Span
+spanFrom s = record { from = s .from; to = s .to }
 
 pub one-span : OneSpan
-one-span ws top i r r′ p q = ap extentOf (p .0 ∙ sym (q .0))
+one-span ws top i r r′ p q = ap spanFrom (p .0 ∙ sym (q .0))
 
 pub one-look : OneLook
 one-look ws top i r r′ p q =

@@ -10,7 +10,7 @@ use Rattle.words.specs.Cell.{firstWord, secondWord}
 use Rattle.words.specs.Second.{Second, decode}
 use Rattle.words.proofs.Plain.{decode-zero, decode-bracket}
 use Rattle.meaning.specs.Limits.{limit}
-use Rattle.meaning.specs.Sound.{Cell, code, hollow, ends, at, IsBracket, isEmpty, isFull, IsTerm, isSymbol, isBracket}
+use Rattle.meaning.specs.Sound.{Cell, code, empty, ends, at, IsBracket, isEmpty, isFull, IsTerm, isSymbol, isBracket}
 use Rattle.meaning.specs.Check.{start, size}
 use Rattle.meaning.proofs.sound.Cells.{limit-fits, read, read-ends}
 use Rattle.store.specs.Holds.{RunIs, isCode, termIs}
@@ -24,16 +24,16 @@ br-tested p e f = rw (← p) (sym e ∙ f)
 
 -- what a bracket with the first word a and the right end r is
 pub record Contents (a r : ℕ) (k : Cell) : Type 0 where
-  pub empty : r ≡ 0 → (start k ≡ 0) × (size k ≡ 0)
+  pub noContents : r ≡ 0 → (start k ≡ 0) × (size k ≡ 0)
   pub full : r ≢ 0 → (a ≤ r) × (start k ≡ a) × (size k ≡ r + 1 - a)
   pub notCode : isCode k ≡ false
 
-contents-hollow : Contents 0 0 hollow
-contents-hollow = record { empty = λ e. (refl, refl); full = λ n. absurd (n refl); notCode = refl }
+contents-empty : Contents 0 0 empty
+contents-empty = record { noContents = λ e. (refl, refl); full = λ n. absurd (n refl); notCode = refl }
 
 contents-ends : (l r : ℕ) → 0 < l → l ≤ r → Contents l r (ends l r)
 contents-ends l r p h =
-    record { empty = λ e. absurd (omega arith); full = λ n. (h, refl, omega arith); notCode = refl }
+    record { noContents = λ e. absurd (omega arith); full = λ n. (h, refl, omega arith); notCode = refl }
 
 module _ (F lim : ℕ) (p : 0 < F) (m : lim ≤ limit) where
   pub bracket-second : {a b : ℕ} → IsBracket F lim a b → decode b .br ≡ true
@@ -42,7 +42,7 @@ module _ (F lim : ℕ) (p : 0 < F) (m : lim ≤ limit) where
 
   contents-read : {a b : ℕ} → IsBracket F lim a b → Contents a (decode b .ri) (read a b)
   unfolding read
-  contents-read isEmpty = rw (decode-bracket 0 (omega arith)) contents-hollow
+  contents-read isEmpty = rw (decode-bracket 0 (omega arith)) contents-empty
   contents-read (isFull {l} {r} x y z) =
       rw (decode-bracket r (omega (arith, limit-fits)), read-ends l r (omega arith)) (contents-ends l r (omega arith) y)
 
@@ -78,7 +78,7 @@ bracket-is k h e = rw e at h
 
 -- so what holds of an empty bracket and of one with ends holds of that cell
 pub bracket-by : (P : Cell → Type 0) (k : Cell) {t : Term} {r : Run} → termIs t k → t ≡ Bracket r
-    → P hollow → ((l r : ℕ) → P (ends l r)) → P k
+    → P empty → ((l r : ℕ) → P (ends l r)) → P k
 bracket-by P (code a) h e p q = absurd (true≢false (bracket-is (code a) h e .0))
-bracket-by P hollow h e p q = p
+bracket-by P empty h e p q = p
 bracket-by P (ends l r) h e p q = q l r

@@ -9,7 +9,7 @@ use native.Mathlib.Omega.{arith}
 use lib.Dec.{eqb, lit<}
 use lib.ListN.{length}
 use borrow.Author.Tests.{eqb-true, eqb-false, eq-eqb}
-use Rattle.meaning.specs.Limits.{firstCell, limit}
+use Rattle.meaning.specs.Limits.{firstHeapCell, limit}
 use Rattle.meaning.specs.Sound.{Sound}
 use Rattle.meaning.specs.Check.{Verdict, check, onZero, ifSound}
 use Rattle.meaning.proofs.check.Checking.{sound-check, check-sound}
@@ -20,8 +20,8 @@ use Rattle.store.specs.declared.Checked.{Checked}
 use Rattle.store.specs.declared.Checked.the-variants as checked
 use Rattle.store.proofs.Refusals.{ifSound-refusal}
 
-pub firstCell-pos : 0 < firstCell
-firstCell-pos = lit< tt
+pub firstHeapCell-pos : 0 < firstHeapCell
+firstHeapCell-pos = lit< tt
 
 onZero-no : {A : Type 0} (s : ℕ) (x y : A) → s ≢ 0 → onZero s x y ≡ y
 onZero-no zero x y n = absurd (n refl)
@@ -60,18 +60,18 @@ module _ (F : ℕ) (ws : List ℕ) (top : ℕ) (found : Checked) (q : verdictOf 
   found-refused {u = u} x f e = rw (← q, e) (sym (ifSound-refusal u x (f (refusalOf u))))
 
 -- a sound store's cells may be read
-module _ (ws : List ℕ) (top : ℕ) (s : Sound firstCell ws top) where
+module _ (ws : List ℕ) (top : ℕ) (s : Sound firstHeapCell ws top) where
   top-limit : top ≤ limit
   top-limit = omega (arith, s .high, s .small)
 
-  pub register-bracketed : (i : ℕ) → i < firstCell → Bracketed ws i
+  pub register-bracketed : (i : ℕ) → i < firstHeapCell → Bracketed ws i
   register-bracketed i h = (top, top-limit, s .registers i h)
 
-  pub heap-termed : (c : ℕ) → firstCell ≤ c → c < top → Termed ws c
+  pub heap-termed : (c : ℕ) → firstHeapCell ≤ c → c < top → Termed ws c
   heap-termed c l h = (c, omega (arith, top-limit), s .heap c l h)
 
   -- its words lie in the store
-  pub register-inside : (i : ℕ) → i < firstCell → 2 * i + 1 < length ws
+  pub register-inside : (i : ℕ) → i < firstHeapCell → 2 * i + 1 < length ws
   register-inside i h = omega (arith, s .large)
 
   pub heap-inside : (c : ℕ) → c < top → 2 * c + 1 < length ws

@@ -12,7 +12,7 @@ use Rattle.store.specs.declared.Checked.{Checked}
 use Rattle.store.specs.declared.Checked.the-variants as checked
 use Rattle.store.specs.declared.Made.{Made}
 use Rattle.store.specs.declared.Made.the-variants as made
-use Rattle.store.specs.declared.Extent.{Extent}
+use Rattle.store.specs.declared.Span as span
 
 -- an unsound store: 1 for the length; 2 for `top`; 3 with the first damaged cell
 abbrev pub refusalOf : Unsound → Verdict
@@ -31,11 +31,11 @@ madeIn (made.Ready t) ws = done ws t 0
 madeIn made.BadLength ws = refused ws 0 (only 1)
 
 -- the look's place
-abbrev pub spanIn : Extent → Span
+abbrev pub spanIn : span.Span → Span
 spanIn e = record { from = e .from; to = e .to }
 
 -- the extent is that of register i's cells, and a part of the store
-abbrev pub Placed : ℕ → List ℕ → ℕ → ℕ → Extent → Type 0
+abbrev pub Placed : ℕ → List ℕ → ℕ → ℕ → span.Span → Type 0
 Placed F ws top i e = (spanIn e ≡ lookSpan F ws top i) × (e .from ≤ e .to) × (e .to ≤ length ws)
 
 -- r refers to the place s of what ws refers to: `ptr` is a block of memory and a byte of it, and a word has four bytes

@@ -6,8 +6,8 @@ use mathlib.Core.Bool.{Bool, true, false}
 use mathlib.Core.List.{List}
 use Prim.Native.Nat.{ℕ, _≤_}
 use Rattle.words.specs.Cell.{firstWord, secondWord}
-use Rattle.meaning.specs.Limits.{firstCell, limit}
-use Rattle.meaning.specs.Sound.{Cell, code, hollow, ends, IsBracket, IsTerm}
+use Rattle.meaning.specs.Limits.{firstHeapCell, limit}
+use Rattle.meaning.specs.Sound.{Cell, code, empty, ends, IsBracket, IsTerm}
 use Rattle.meaning.specs.Check.{start, size}
 use Rattle.store.specs.declared.Run.{Run}
 use Rattle.store.specs.declared.Term.{Term}
@@ -15,10 +15,10 @@ use Rattle.store.specs.declared.Term.the-variants.{Symbol, Bracket}
 
 -- cell c is a bracket, or a term
 abbrev pub Bracketed : List ℕ → ℕ → Type 0
-Bracketed ws c = (lim : ℕ) × (lim ≤ limit) × IsBracket firstCell lim (firstWord ws c) (secondWord ws c)
+Bracketed ws c = (lim : ℕ) × (lim ≤ limit) × IsBracket firstHeapCell lim (firstWord ws c) (secondWord ws c)
 
 abbrev pub Termed : List ℕ → ℕ → Type 0
-Termed ws c = (lim : ℕ) × (lim ≤ limit) × IsTerm firstCell lim (firstWord ws c) (secondWord ws c)
+Termed ws c = (lim : ℕ) × (lim ≤ limit) × IsTerm firstHeapCell lim (firstWord ws c) (secondWord ws c)
 
 -- the contents of a cell
 abbrev pub RunIs : Run → Cell → Type 0
@@ -26,7 +26,7 @@ RunIs r k = (r .start ≡ start k) × (r .size ≡ size k)
 
 abbrev pub isCode : Cell → Bool
 isCode (code a) = true
-isCode hollow = false
+isCode empty = false
 isCode (ends l r) = false
 
 -- the term of a cell: its code, or that it is no symbol, with its contents

@@ -6,17 +6,17 @@ use mathlib.Core.List.{List}
 use Prim.Native.Nat.{ℕ, _-_}
 use lib.ListN.{take, drop}
 use denote.Ref.{RefT}
-use Rattle.meaning.specs.Limits.{firstCell}
+use Rattle.meaning.specs.Limits.{firstHeapCell}
 use Rattle.meaning.specs.Check.{check, freshIn, lookSpan, look}
 use Rattle.store.specs.Answers.{verdictOf, madeIn, Placed, PartAt}
 use Rattle.store.specs.declared.Checked.{Checked}
 use Rattle.store.specs.declared.Made.{Made}
-use Rattle.store.specs.declared.Extent.{Extent}
+use Rattle.store.specs.declared.Span as span
 
 -- what `look` promises of the slice r
 abbrev pub Looks : RefT (List ℕ) → ℕ → ℕ → RefT (List ℕ) → Type 0
 Looks ws top i r =
-    (r .now ≡ look firstCell (ws .now) top i) × PartAt ws (lookSpan firstCell (ws .now) top i) r
+    (r .now ≡ look firstHeapCell (ws .now) top i) × PartAt ws (lookSpan firstHeapCell (ws .now) top i) r
 
 -- no two answers have one number and value
 abbrev pub VerdictsDiffer : Type 0
@@ -24,18 +24,18 @@ VerdictsDiffer = (r r′ : Checked) → verdictOf r ≡ verdictOf r′ → r ≡
 
 abbrev pub OneCheck : Type 0
 OneCheck =
-    (ws : List ℕ) (top : ℕ) (r r′ : Checked) → verdictOf r ≡ check firstCell ws top
-    → verdictOf r′ ≡ check firstCell ws top → r ≡ r′
+    (ws : List ℕ) (top : ℕ) (r r′ : Checked) → verdictOf r ≡ check firstHeapCell ws top
+    → verdictOf r′ ≡ check firstHeapCell ws top → r ≡ r′
 
 -- the answer and every word of the slice
 abbrev pub OneFresh : Type 0
 OneFresh =
-    (ws : List ℕ) (r r′ : Made) (vs vs′ : List ℕ) → madeIn r vs ≡ freshIn firstCell ws
-    → madeIn r′ vs′ ≡ freshIn firstCell ws → (r ≡ r′) × (vs ≡ vs′)
+    (ws : List ℕ) (r r′ : Made) (vs vs′ : List ℕ) → madeIn r vs ≡ freshIn firstHeapCell ws
+    → madeIn r′ vs′ ≡ freshIn firstHeapCell ws → (r ≡ r′) × (vs ≡ vs′)
 
 abbrev pub OneSpan : Type 0
 OneSpan =
-    (ws : List ℕ) (top i : ℕ) (r r′ : Extent) → Placed firstCell ws top i r → Placed firstCell ws top i r′ → r ≡ r′
+    (ws : List ℕ) (top i : ℕ) (r r′ : span.Span) → Placed firstHeapCell ws top i r → Placed firstHeapCell ws top i r′ → r ≡ r′
 
 -- the words and the place of the part that is handed back; that is all of a reference to a slice
 abbrev pub OneLook : Type 0
@@ -45,5 +45,5 @@ OneLook =
 
 abbrev pub LookAtSpan : Type 0
 LookAtSpan =
-    (ws : List ℕ) (top i : ℕ) (r : Extent) → Placed firstCell ws top i r
-    → look firstCell ws top i ≡ take (r .to - r .from) (drop (r .from) ws)
+    (ws : List ℕ) (top i : ℕ) (r : span.Span) → Placed firstHeapCell ws top i r
+    → look firstHeapCell ws top i ≡ take (r .to - r .from) (drop (r .from) ws)

@@ -4,9 +4,9 @@ ghost use mathlib.Core.Path.{_≡_};
 ghost use Prim.Native.Nat.{_+_, _*_, _≤_, _<_};
 ghost use lib.Dec.{eqb};
 ghost use lib.ListN.{length, take};
-ghost use Rattle.meaning.specs.Limits.{firstCell};
+ghost use Rattle.meaning.specs.Limits.{firstHeapCell};
 ghost use Rattle.meaning.specs.Sound.{at};
-ghost use Rattle.meaning.specs.Check.{lengthTest, topTest, check, hollows, freshIn, lookSpan, look};
+ghost use Rattle.meaning.specs.Check.{lengthTest, topTest, check, emptyRegisters, freshIn, lookSpan, look};
 ghost use Rattle.store.specs.Answers.{verdictOf, madeIn, Placed, PartAt};
 ghost use Rattle.store.specs.Holds.{Bracketed, Termed, RunIs, termIs};
 
@@ -28,21 +28,21 @@ pub enum Checked {
 }
 
 fn length_ok(n: usize) -> bool
-    ensures { λ r. ⌜ r ≡ lengthTest firstCell n ⌝ }
+    ensures { λ r. ⌜ r ≡ lengthTest firstHeapCell n ⌝ }
 {
     if n % 2 != 0 {
         return false;
     }
-    if n < 2 * meaning::FIRST_CELL {
+    if n < 2 * meaning::FIRST_HEAP_CELL {
         return false;
     }
     n <= 2 * meaning::LIMIT
 }
 
 fn top_ok(top: usize, cells: usize) -> bool
-    ensures { λ r. ⌜ r ≡ topTest firstCell cells top ⌝ }
+    ensures { λ r. ⌜ r ≡ topTest firstHeapCell cells top ⌝ }
 {
-    if top < meaning::FIRST_CELL {
+    if top < meaning::FIRST_HEAP_CELL {
         return false;
     }
     top <= cells
@@ -51,7 +51,7 @@ fn top_ok(top: usize, cells: usize) -> bool
 // The length, then `top`, then the cells. Passes that are never left find a sound store sound. In any other a scan from
 // the lowest address up leaves at the first damaged cell.
 pub fn check(ws: &[u32], top: usize) -> Checked
-    ensures { λ r. ⌜ verdictOf r ≡ check firstCell (now (ws .entry)) top ⌝ }
+    ensures { λ r. ⌜ verdictOf r ≡ check firstHeapCell (now (ws .entry)) top ⌝ }
 {
     if !length_ok(ws.len()) {
         return Checked::Refused(Unsound::BadLength);
@@ -72,7 +72,7 @@ pub fn check(ws: &[u32], top: usize) -> Checked
             words::first_word(ws, c),
             words::second_word(ws, c),
             c,
-            meaning::FIRST_CELL,
+            meaning::FIRST_HEAP_CELL,
             top,
         ) {
             break Checked::Refused(Unsound::Damaged(c));
@@ -98,24 +98,24 @@ pub enum Made {
 
 // Every register becomes empty.
 fn empty_registers(ws: &mut [u32])
-    requires { ⌜ 2 * firstCell ≤ length (now ws) ⌝ }
-    ensures { λ _. ⌜ take (2 * firstCell) (now (ws .exit)) ≡ hollows firstCell ⌝ }
+    requires { ⌜ 2 * firstHeapCell ≤ length (now ws) ⌝ }
+    ensures { λ _. ⌜ take (2 * firstHeapCell) (now (ws .exit)) ≡ emptyRegisters firstHeapCell ⌝ }
 {
-    for c in 0..meaning::FIRST_CELL {
+    for c in 0..meaning::FIRST_HEAP_CELL {
         words::put_cell(ws, c, 0, words::EMPTY);
     }
 }
 
 // A fresh store, written into a slice of an allowed length. Any other slice is left as it is.
 pub fn fresh(ws: &mut [u32]) -> Made
-    ensures { λ r. ⌜ madeIn r (now (ws .exit)) ≡ freshIn firstCell (now (ws .entry)) ⌝ }
+    ensures { λ r. ⌜ madeIn r (now (ws .exit)) ≡ freshIn firstHeapCell (now (ws .entry)) ⌝ }
 {
     if !length_ok(ws.len()) {
         return Made::BadLength;
     }
     empty_registers(ws);
-    words::zero_from(ws, 2 * meaning::FIRST_CELL);
-    Made::Ready(meaning::FIRST_CELL)
+    words::zero_from(ws, 2 * meaning::FIRST_HEAP_CELL);
+    Made::Ready(meaning::FIRST_HEAP_CELL)
 }
 
 // The contents of a bracket: `size` cells from `start` on, or 0 and 0 where it is empty.
@@ -159,34 +159,34 @@ pub fn term_at(ws: &[u32], c: usize) -> Term
 
 // A part of the store, by its words: `from` up to but not including `to`.
 #[repr(C)]
-pub struct Extent {
+pub struct Span {
     pub from: usize,
     pub to: usize,
 }
 
 // Where the cells of a register lie; 0 to 0 for an empty register, a register that is none, or an unsound store.
-pub fn span(ws: &[u32], top: usize, register: usize) -> Extent
-    ensures { λ r. ⌜ Placed firstCell (now (ws .entry)) top register r ⌝ }
+pub fn look_span(ws: &[u32], top: usize, register: usize) -> Span
+    ensures { λ r. ⌜ Placed firstHeapCell (now (ws .entry)) top register r ⌝ }
 {
     if !is_sound(check(ws, top)) {
-        return Extent { from: 0, to: 0 };
+        return Span { from: 0, to: 0 };
     }
-    if meaning::FIRST_CELL <= register {
-        return Extent { from: 0, to: 0 };
+    if meaning::FIRST_HEAP_CELL <= register {
+        return Span { from: 0, to: 0 };
     }
     let held = run_at(ws, register);
     let from = 2 * held.start;
     let to = from + 2 * held.size;
-    Extent { from, to }
+    Span { from, to }
 }
 
 // The part of the lent store that holds a register's cells, from its left end to its right end: not a copy of it, nor
 // equal words at another place.
 pub fn look(ws: &[u32], top: usize, register: usize) -> &[u32]
-    ensures words { λ r. ⌜ now r ≡ look firstCell (now (ws .entry)) top register ⌝ }
-    ensures place { λ r. ⌜ PartAt (ws .entry) (lookSpan firstCell (now (ws .entry)) top register) r ⌝ }
+    ensures words { λ r. ⌜ now r ≡ look firstHeapCell (now (ws .entry)) top register ⌝ }
+    ensures place { λ r. ⌜ PartAt (ws .entry) (lookSpan firstHeapCell (now (ws .entry)) top register) r ⌝ }
 {
-    let place = span(ws, top, register);
+    let place = look_span(ws, top, register);
     let from = place.from;
     let to = place.to;
     &ws[from..to]

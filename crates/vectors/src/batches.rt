@@ -5,10 +5,10 @@ use crate::cells;
 use crate::numbers;
 use crate::show;
 use meaning::CALL_WORDS as LIST;
-use meaning::FIRST_CELL;
+use meaning::FIRST_HEAP_CELL;
 use meaning::LIMIT;
 
-const FIRST: u32 = FIRST_CELL as u32;
+const FIRST: u32 = FIRST_HEAP_CELL as u32;
 
 const EMPTY: u32 = words::EMPTY;
 
@@ -80,7 +80,7 @@ pub fn lists() {
     list(b"a bad list and no answers", 20, &zeros[..3], 0);
     list(
         b"a bad store and a bad list",
-        FIRST_CELL - 1,
+        FIRST_HEAP_CELL - 1,
         &zeros[..3],
         0,
     );
@@ -139,31 +139,31 @@ pub fn terms() {
     );
     row(
         b"joined with nothing",
-        FIRST_CELL + 1,
+        FIRST_HEAP_CELL + 1,
         b"2 0 65 0,4 1 0 2,4 3 2 0,1 4 3 0,10 0 0 0,8 0 4 0",
     );
 }
 
 pub fn room() {
-    row(b"no heap cell", FIRST_CELL, b"2 0 1 0,3 0 0 0,4 0 0 0");
+    row(b"no heap cell", FIRST_HEAP_CELL, b"2 0 1 0,3 0 0 0,4 0 0 0");
     row(
         b"the old expression counts",
-        FIRST_CELL + 1,
+        FIRST_HEAP_CELL + 1,
         b"2 0 65 0,2 0 66 0,9 0 0 0",
     );
     row(
         b"and is dead afterwards",
-        FIRST_CELL + 2,
+        FIRST_HEAP_CELL + 2,
         b"2 0 65 0,2 0 66 0,9 0 0 0",
     );
     row(
         b"no room, and collected",
-        FIRST_CELL + 2,
+        FIRST_HEAP_CELL + 2,
         b"2 0 65 0,2 0 66 0,4 1 0 0,10 0 0 0",
     );
     row(
         b"just room, once collected",
-        FIRST_CELL + 2,
+        FIRST_HEAP_CELL + 2,
         b"2 0 65 0,2 0 66 0,3 1 0 0,10 0 0 0",
     );
     row(
@@ -175,17 +175,17 @@ pub fn room() {
 
 // P2's symbols, with a dead one below them.
 fn lay_symbols(ws: &mut [u32]) {
-    cells::put(ws, FIRST_CELL, 70, 0);
-    cells::put(ws, FIRST_CELL + 1, 65, 0);
-    cells::put(ws, FIRST_CELL + 2, 66, 0);
-    cells::put(ws, FIRST_CELL + 3, 67, 0);
-    cells::put(ws, FIRST_CELL + 4, 68, 0);
+    cells::put(ws, FIRST_HEAP_CELL, 70, 0);
+    cells::put(ws, FIRST_HEAP_CELL + 1, 65, 0);
+    cells::put(ws, FIRST_HEAP_CELL + 2, 66, 0);
+    cells::put(ws, FIRST_HEAP_CELL + 3, 67, 0);
+    cells::put(ws, FIRST_HEAP_CELL + 4, 68, 0);
 }
 
 // And its brackets.
 fn lay_brackets(ws: &mut [u32]) {
-    cells::put(ws, FIRST_CELL + 5, FIRST + 2, EMPTY + FIRST + 4);
-    cells::put(ws, FIRST_CELL + 6, FIRST + 1, EMPTY + FIRST + 3);
+    cells::put(ws, FIRST_HEAP_CELL + 5, FIRST + 2, EMPTY + FIRST + 4);
+    cells::put(ws, FIRST_HEAP_CELL + 6, FIRST + 1, EMPTY + FIRST + 3);
     cells::put(ws, 0, FIRST + 5, EMPTY + FIRST + 6);
 }
 
@@ -200,8 +200,8 @@ fn look(ws: &[u32], top: usize, register: usize) {
 // P2, collected and collected again.
 fn collect_rows(ws: &mut [u32], space: &mut [u32]) -> usize {
     let collect = [11, 0, 0, 0];
-    look(ws, FIRST_CELL + 7, 0);
-    let top = batch(b"P2", ws, FIRST_CELL + 7, &collect, space);
+    look(ws, FIRST_HEAP_CELL + 7, 0);
+    let top = batch(b"P2", ws, FIRST_HEAP_CELL + 7, &collect, space);
     look(ws, top, 0);
     look(ws, top, 1);
     let again = batch(b"P3", ws, top, &collect, space);
@@ -213,8 +213,8 @@ fn collect_rows(ws: &mut [u32], space: &mut [u32]) -> usize {
 fn look_rows(ws: &mut [u32], top: usize, space: &mut [u32]) {
     let last = [1, FIRST - 1, 0, 0];
     batch(b"the last register", ws, top, &last, space);
-    look(ws, top, FIRST_CELL - 1);
-    look(ws, top, FIRST_CELL);
+    look(ws, top, FIRST_HEAP_CELL - 1);
+    look(ws, top, FIRST_HEAP_CELL);
     look(ws, top, 18446744073709551615);
     show::text(b"words:");
     show::words(ws);
@@ -226,7 +226,7 @@ fn refused_rows(ws: &mut [u32], top: usize, space: &mut [u32]) {
     let clear = [0, 0, 0, 0];
     look(ws, top, 0);
     batch(b"a free cell in use", ws, top, &clear, space);
-    batch(b"top too small", ws, FIRST_CELL - 1, &clear, space);
+    batch(b"top too small", ws, FIRST_HEAP_CELL - 1, &clear, space);
     batch(b"top too large", ws, 25, &clear, space);
     batch(b"top largest", ws, 18446744073709551615, &clear, space);
 }
@@ -239,6 +239,6 @@ pub fn stores() {
     lay_brackets(&mut ws);
     let top = collect_rows(&mut ws, &mut space);
     look_rows(&mut ws, top, &mut space);
-    cells::put(&mut ws, FIRST_CELL + 7, 1, 0);
+    cells::put(&mut ws, FIRST_HEAP_CELL + 7, 1, 0);
     refused_rows(&mut ws, top, &mut space);
 }

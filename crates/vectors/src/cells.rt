@@ -2,9 +2,9 @@
 use crate::answers;
 use crate::show;
 use meaning::CODE_LIMIT;
-use meaning::FIRST_CELL;
+use meaning::FIRST_HEAP_CELL;
 
-const FIRST: u32 = FIRST_CELL as u32;
+const FIRST: u32 = FIRST_HEAP_CELL as u32;
 
 const EMPTY: u32 = words::EMPTY;
 
@@ -25,7 +25,7 @@ fn row(cell: usize, a: u32, b: u32) {
     show::number(a as u64);
     show::number(b as u64);
     show::text(b": check");
-    let found = store::check(&ws, FIRST_CELL + 3);
+    let found = store::check(&ws, FIRST_HEAP_CELL + 3);
     show::number(answers::checked_status(found));
     show::number(answers::checked_value(found));
     show::end();
@@ -33,35 +33,35 @@ fn row(cell: usize, a: u32, b: u32) {
 
 // The last heap cell as a bracket: P6, and each end one too far; then with used, the left or the right chain.
 fn brackets() {
-    row(FIRST_CELL + 2, FIRST, EMPTY + FIRST + 1);
-    row(FIRST_CELL + 2, FIRST, EMPTY + FIRST + 2);
-    row(FIRST_CELL + 2, FIRST + 1, EMPTY + FIRST);
-    row(FIRST_CELL + 2, FIRST + 1, EMPTY + FIRST + 1);
-    row(FIRST_CELL + 2, FIRST - 1, EMPTY + FIRST + 1);
-    row(FIRST_CELL + 2, 0, EMPTY);
-    row(FIRST_CELL + 2, 1, EMPTY);
-    row(FIRST_CELL + 2, FIRST, EMPTY + 1073741824 + FIRST);
-    row(FIRST_CELL + 2, FIRST, EMPTY + 536870912 + FIRST);
-    row(FIRST_CELL + 2, FIRST, EMPTY + 268435456 + FIRST);
+    row(FIRST_HEAP_CELL + 2, FIRST, EMPTY + FIRST + 1);
+    row(FIRST_HEAP_CELL + 2, FIRST, EMPTY + FIRST + 2);
+    row(FIRST_HEAP_CELL + 2, FIRST + 1, EMPTY + FIRST);
+    row(FIRST_HEAP_CELL + 2, FIRST + 1, EMPTY + FIRST + 1);
+    row(FIRST_HEAP_CELL + 2, FIRST - 1, EMPTY + FIRST + 1);
+    row(FIRST_HEAP_CELL + 2, 0, EMPTY);
+    row(FIRST_HEAP_CELL + 2, 1, EMPTY);
+    row(FIRST_HEAP_CELL + 2, FIRST, EMPTY + 1073741824 + FIRST);
+    row(FIRST_HEAP_CELL + 2, FIRST, EMPTY + 536870912 + FIRST);
+    row(FIRST_HEAP_CELL + 2, FIRST, EMPTY + 268435456 + FIRST);
 }
 
 // The last heap cell as a symbol, and the first free cell.
 fn symbols() {
-    row(FIRST_CELL + 2, CODE_LIMIT, 0);
-    row(FIRST_CELL + 2, CODE_LIMIT + 1, 0);
-    row(FIRST_CELL + 2, 0, 1);
-    row(FIRST_CELL + 3, 1, 0);
-    row(FIRST_CELL + 3, 0, 1);
-    row(FIRST_CELL + 3, 0, EMPTY);
+    row(FIRST_HEAP_CELL + 2, CODE_LIMIT, 0);
+    row(FIRST_HEAP_CELL + 2, CODE_LIMIT + 1, 0);
+    row(FIRST_HEAP_CELL + 2, 0, 1);
+    row(FIRST_HEAP_CELL + 3, 1, 0);
+    row(FIRST_HEAP_CELL + 3, 0, 1);
+    row(FIRST_HEAP_CELL + 3, 0, EMPTY);
 }
 
 // The first register and the last.
 fn registers() {
     row(0, 0, 0);
     row(0, 0, EMPTY);
-    row(FIRST_CELL - 1, FIRST, EMPTY + FIRST + 2);
-    row(FIRST_CELL - 1, FIRST, EMPTY + FIRST + 3);
-    row(FIRST_CELL - 1, FIRST, EMPTY);
+    row(FIRST_HEAP_CELL - 1, FIRST, EMPTY + FIRST + 2);
+    row(FIRST_HEAP_CELL - 1, FIRST, EMPTY + FIRST + 3);
+    row(FIRST_HEAP_CELL - 1, FIRST, EMPTY);
 }
 
 pub fn rows() {

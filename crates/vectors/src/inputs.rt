@@ -1,6 +1,6 @@
 // The program's input at its edges: the number of bytes that it writes, and where they are few the bytes.
 use crate::show;
-use meaning::FIRST_CELL;
+use meaning::FIRST_HEAP_CELL;
 use meaning::PROGRAM_BYTES as BYTES;
 use meaning::PROGRAM_CELLS as CELLS;
 use serve::OUTPUT;
@@ -40,8 +40,8 @@ fn capacities() {
     row(0, 20);
     row(3, 20);
     row(4, 0);
-    row(4, FIRST_CELL as u32 - 1);
-    row(4, FIRST_CELL as u32);
+    row(4, FIRST_HEAP_CELL as u32 - 1);
+    row(4, FIRST_HEAP_CELL as u32);
     row(4, CELLS as u32);
     row(4, CELLS as u32 + 1);
     row(4, 4294967295);
@@ -57,8 +57,8 @@ fn lengths() {
     row(BYTES, 20);
     row(BYTES + 1, 20);
     row(BYTES + 16, 20);
-    row(BYTES + 1, FIRST_CELL as u32 - 1);
-    row(5, FIRST_CELL as u32 - 1);
+    row(BYTES + 1, FIRST_HEAP_CELL as u32 - 1);
+    row(5, FIRST_HEAP_CELL as u32 - 1);
 }
 
 pub fn rows() {

@@ -1,7 +1,7 @@
 // Store lengths, a fresh store in each, and `top`.
 use crate::answers;
 use crate::show;
-use meaning::FIRST_CELL;
+use meaning::FIRST_HEAP_CELL;
 use meaning::LIMIT;
 
 const WORDS: usize = 2 * LIMIT + 2;
@@ -15,7 +15,7 @@ fn fresh_row(ws: &mut [u32]) {
     show::number(answers::made_status(made));
     show::text(b" top");
     show::number(answers::made_top(made) as u64);
-    let found = store::check(ws, FIRST_CELL);
+    let found = store::check(ws, FIRST_HEAP_CELL);
     show::text(b", check");
     show::number(answers::checked_status(found));
     show::number(answers::checked_value(found));
@@ -44,15 +44,15 @@ fn top_row(top: usize) {
 
 pub fn rows() {
     length_row(0);
-    length_row(2 * FIRST_CELL - 2);
-    length_row(2 * FIRST_CELL);
-    length_row(2 * FIRST_CELL + 1);
+    length_row(2 * FIRST_HEAP_CELL - 2);
+    length_row(2 * FIRST_HEAP_CELL);
+    length_row(2 * FIRST_HEAP_CELL + 1);
     length_row(2 * LIMIT);
     length_row(2 * LIMIT + 1);
     length_row(2 * LIMIT + 2);
     top_row(0);
-    top_row(FIRST_CELL - 1);
-    top_row(FIRST_CELL);
+    top_row(FIRST_HEAP_CELL - 1);
+    top_row(FIRST_HEAP_CELL);
     top_row(20);
     top_row(21);
     top_row(18446744073709551615);

@@ -1,7 +1,7 @@
 -- `calls::run` meets its contract. Assumes nothing.
 use mathlib.Core.Path.{_∙_}
 use borrow.Author.Needs.{needs}
-use Rattle.meaning.specs.Limits.{firstCell}
+use Rattle.meaning.specs.Limits.{firstHeapCell}
 use Rattle.meaning.specs.Sound.{Sound}
 use Rattle.store.proofs.Sounds.{found-sound}
 use Rattle.calls.proofs.Batching.{batch-sound, batch-refused}
@@ -11,10 +11,10 @@ use Rattle.calls.proofs.run.Tie as tie
 -- the check said so
 sound : (c : tie.After-enum-told) →
     let s = c .before .before .before .before .before .before .before in
-    Sound firstCell (s .args .ws .now) (s .args .top)
+    Sound firstHeapCell (s .args .ws .now) (s .args .top)
 sound c =
     let check = c .before .before .check in
-    found-sound firstCell _ _ (check .result) (check .ensures) (c .enum-told .given .1)
+    found-sound firstHeapCell _ _ (check .result) (check .ensures) (c .enum-told .given .1)
 
 run-sound-requires : tie.Need-run-sound-requires
 run-sound-requires c κs = sound (c .before .before)

@@ -1,6 +1,6 @@
 -- `capi::zelmotar_check` meets its contract. Assumes nothing.
 use mathlib.Core.Path.{refl}
-use Rattle.meaning.specs.Limits.{firstCell}
+use Rattle.meaning.specs.Limits.{firstHeapCell}
 use Rattle.meaning.proofs.batch.Fits.{check-fits}
 use borrow.Author.Needs.{needs}
 use Rattle.capi.proofs.zelmotar_check.Statement.{statement}
@@ -8,7 +8,7 @@ use Rattle.capi.proofs.zelmotar_check.Tie as tie
 
 refuse-requires : tie.Need-refuse-requires
 refuse-requires c κs =
-    check-fits firstCell _ _ (rw (c .before .why .given .1) at (c .before .before .before .check .ensures))
+    check-fits firstHeapCell _ _ (rw (c .before .why .given .1) at (c .before .before .before .check .ensures))
 
 returns : tie.Need-returns
 returns c =

@@ -1,6 +1,6 @@
 -- `capi::zelmotar_collect` meets its contract. Assumes nothing.
-use Rattle.meaning.specs.Limits.{firstCell}
-use Rattle.store.proofs.Sounds.{firstCell-pos}
+use Rattle.meaning.specs.Limits.{firstHeapCell}
+use Rattle.store.proofs.Sounds.{firstHeapCell-pos}
 use Rattle.meaning.proofs.batch.Fits.{collect-fits}
 use borrow.Author.Needs.{needs}
 use Rattle.capi.proofs.zelmotar_collect.Statement.{statement}
@@ -9,12 +9,12 @@ use Rattle.capi.proofs.zelmotar_collect.Tie as tie
 reply-requires : tie.Need-reply-requires
 reply-requires c κs =
     let found = c .before .before .before .before .before .collect in
-    collect-fits firstCell _ _ firstCell-pos (rw (c .before .live .given .1) at (found .ensures))
+    collect-fits firstHeapCell _ _ firstHeapCell-pos (rw (c .before .live .given .1) at (found .ensures))
 
 refuse-requires : tie.Need-refuse-requires
 refuse-requires c κs =
     let found = c .before .before .before .before .before .collect in
-    collect-fits firstCell _ _ firstCell-pos (rw (c .before .why .given .1) at (found .ensures))
+    collect-fits firstHeapCell _ _ firstHeapCell-pos (rw (c .before .why .given .1) at (found .ensures))
 
 returns : tie.Need-returns
 returns c =

@@ -1,5 +1,5 @@
 -- `capi::zelmotar_run` meets its contract. Assumes nothing.
-use Rattle.meaning.specs.Limits.{firstCell}
+use Rattle.meaning.specs.Limits.{firstHeapCell}
 use Rattle.meaning.proofs.batch.Fits.{batch-fits}
 use borrow.Author.Needs.{needs}
 use Rattle.capi.proofs.zelmotar_run.Statement.{statement}
@@ -8,7 +8,7 @@ use Rattle.capi.proofs.zelmotar_run.Tie as tie
 refuse-requires : tie.Need-refuse-requires
 refuse-requires c κs =
     let ran = c .before .before .before .before .before .before .before .run in
-    batch-fits firstCell _ _ _ _ (rw (c .before .why .given .1) at (ran .ensures))
+    batch-fits firstHeapCell _ _ _ _ (rw (c .before .why .given .1) at (ran .ensures))
 
 returns : tie.Need-returns
 returns c =

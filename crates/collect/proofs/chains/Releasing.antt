@@ -13,7 +13,7 @@ use Rattle.words.specs.Cell.{firstWord, secondWord, putCell}
 use Rattle.words.specs.Second.{Second, decode, withRi, withRc, withLc, bit}
 use Rattle.words.proofs.Cells.{putCell-length, firstWord-other, secondWord-same, secondWord-other}
 use Rattle.meaning.proofs.sound.Cells.{limit-fits}
-use Rattle.collect.specs.Cells.{Link, Cell, linked, cell, val, mk}
+use Rattle.collect.specs.Cells.{Link, ChainCell, linked, cell, val, mk}
 use Rattle.collect.specs.Chain.{Heap, holder, pos, place, span, last, sweepCell, SweptTo}
 use Rattle.collect.specs.Step.{Unlinked}
 use Rattle.collect.specs.Passes.{Turn, MyTurn, Releases}
@@ -25,7 +25,7 @@ use Rattle.collect.proofs.Undoing.{unlink-span, unlink-first}
 use Rattle.collect.proofs.Puts.{cell-put, cell-put-other, cell-put-own}
 
 -- the cells of s with the words a and b put back at m
-abbrev pub back : List ℕ → ℕ → ℕ → ℕ → ℕ → Cell
+abbrev pub back : List ℕ → ℕ → ℕ → ℕ → ℕ → ChainCell
 back s m a b = cell (putCell s m a b)
 
 -- ---- one holder taken off, on words
@@ -96,7 +96,7 @@ pub record Releasing (s₀ : List ℕ) (m w to low₀ : ℕ) (s : List ℕ) (a b
   pub same : length s ≡ length s₀
   pub at : (g : Heap) (t : Turn g s₀ m w to low₀) → (x : ℕ) × Undone g (t .phase .frame .proper) m x low (back s m a b)
 
-swept-ext : (g : Heap) (j x : ℕ) (M M′ : ℕ → Cell) → ((c : ℕ) → M′ c ≡ M c) → SweptTo g j x M → SweptTo g j x M′
+swept-ext : (g : Heap) (j x : ℕ) (M M′ : ℕ → ChainCell) → ((c : ℕ) → M′ c ≡ M c) → SweptTo g j x M → SweptTo g j x M′
 swept-ext g j x M M′ e t = record {
   at = λ c h. e _ ∙ t .at c h;
   dead = λ c f l h. e c ∙ t .dead c f l h;
@@ -125,8 +125,8 @@ module _ {s₀ : List ℕ} {m w to low₀ : ℕ} where
   module _ {s : List ℕ} {a b low : ℕ} (o : Releasing s₀ m w to low₀ s a b low) where
     link-is : (g : Heap) (t : Turn g s₀ m w to low₀) → linked a (decode b) .l ≡ last g m (o .at g t .0)
     link-is g t =
-        sym (ap (λ (c : Cell). c .l) (cell-put s m a b (omega (arith, m-room g t, o .same))))
-        ∙ ap (λ (c : Cell). c .l)
+        sym (ap (λ (c : ChainCell). c .l) (cell-put s m a b (omega (arith, m-room g t, o .same))))
+        ∙ ap (λ (c : ChainCell). c .l)
         (subst (λ (c : ℕ). back s m a b c ≡ sweepCell g (pos g m) (o .at g t .0) m)
         (spot-ahead g (pos g m) m (omega arith)) (o .at g t .1 .cells .at m (λ f p. absurd (omega arith))))
         ∙ next-l g (pos g m) (o .at g t .0) m refl
@@ -177,7 +177,7 @@ module _ {s₀ : List ℕ} {m w to low₀ : ℕ} where
           let far : a ≢ m = λ q. unlink-apart g p m (n .k) (n .holds) (n .names) (sym (n .is) ∙ q) in
           let sp = unlink-span g p m (n .k) (n .holds) (n .names) in
           let own : cell s a .l ≡ val (span g (n .k)) =
-          ap (λ (c : Cell). c .l) (sym (cell-put-other s m a b a far))
+          ap (λ (c : ChainCell). c .l) (sym (cell-put-other s m a b a far))
           ∙ subst (λ (x : ℕ). back s m a b x .l ≡ val (span g (n .k))) (sym (n .is))
           (unlink-first g p m (n .k) (n .holds) (n .names) low (back s m a b) (n .at)) in
           let num : firstWord s a ≡ span g (n .k) = ap (λ (l : Link). l .num) own in
@@ -200,7 +200,7 @@ module _ {s₀ : List ℕ} {m w to low₀ : ℕ} where
           (ea : a′ ≡ decode v .ri) (eb : decode b′ ≡ withLc (decode v .rc) (decode b))
           (eu : decode u ≡ withRi to (withRc false (decode v))) (es : s′ ≡ putCell s a (to - n) u)
           (el : low′ ≡ min (m - n) low) where
-        abbrev M′ : ℕ → Cell
+        abbrev M′ : ℕ → ChainCell
         M′ = back (putCell s a (to - firstWord s a) u) m (decode (secondWord s a) .ri) b′
 
         mended : (g : Heap) (t : Turn g s₀ m w to low₀)
@@ -211,7 +211,7 @@ module _ {s₀ : List ℕ} {m w to low₀ : ℕ} where
             let z = taken g t in
             let num : firstWord s a ≡ span g (k .k) =
             ap (λ (l : Link). l .num)
-            (ap (λ (c : Cell). c .l) (sym (cell-put-other s m a b a (z .apart)))
+            (ap (λ (c : ChainCell). c .l) (sym (cell-put-other s m a b a (z .apart)))
             ∙ subst (λ (x : ℕ). back s m a b x .l ≡ val (span g (k .k))) (sym (k .is))
             (unlink-first g p m (k .k) (k .holds) (k .names) low (back s m a b) (k .at))) in
             let w : Unlinked (back s m a b) M′ m a to =

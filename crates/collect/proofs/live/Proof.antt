@@ -3,7 +3,7 @@ use borrow.Author.Needs.{needs}
 use mathlib.Core.Bool.{false}
 use mathlib.Core.Path.{refl}
 use native.Mathlib.Omega.{arith}
-use Rattle.meaning.specs.Limits.{firstCell}
+use Rattle.meaning.specs.Limits.{firstHeapCell}
 use Rattle.collect.proofs.Heaps.{begun}
 use Rattle.collect.proofs.Restored.{live-is, live-low, restored}
 use Rattle.collect.proofs.live.Statement.{statement}
@@ -12,7 +12,7 @@ use Rattle.collect.proofs.live.Tie as tie
 sweep-requires : tie.Need-sweep-requires
 sweep-requires c κs =
     let a = c .before .before in
-    (_, begun firstCell (a .args .ws .now) (a .args .top) false (omega arith) (a .pre) refl)
+    (_, begun firstHeapCell (a .args .ws .now) (a .args .top) false (omega arith) (a .pre) refl)
 
 sub-result-2 : tie.Need-sub-result-2
 sub-result-2 c =

@@ -12,9 +12,9 @@ use lib.ListN.{length}
 use borrow.Author.Tests.{lt-ltb, le-ltb}
 use Rattle.words.specs.Cell.{firstWord, secondWord}
 use Rattle.words.specs.Second.{Second, decode, plain}
-use Rattle.meaning.specs.Limits.{firstCell}
+use Rattle.meaning.specs.Limits.{firstHeapCell}
 use Rattle.meaning.proofs.Lists.{lt-or-ge}
-use Rattle.collect.specs.Cells.{Cell, linked, cell}
+use Rattle.collect.specs.Cells.{ChainCell, linked, cell}
 use Rattle.collect.specs.Chain.{full}
 use Rattle.collect.specs.Step.{lowered}
 use Rattle.collect.specs.Passes.{Layable, Lays, Lowers, Settles}
@@ -43,15 +43,15 @@ module _ {d from by high : ℕ} {s₀ s : List ℕ} {i a b : ℕ} (w : Lowering 
   is-cell : linked a (decode b) ≡ cell s₀ i
   is-cell = rw (ea, eb) (w .rest i (λ p. omega arith))
 
-  abbrev second : Cell → Second
+  abbrev second : ChainCell → Second
   second y = record { br = y .br; used = y .used; lc = y .l .tag; rc = y .r .tag; ri = y .r .num }
 
   pub lowering-lay : {to : ℕ} → Layable s₀ to (firstWord s₀ i) (secondWord s₀ i) d → Layable s to a b d
   lowering-lay o = record {
     to-in = omega (arith, o .to-in, w .same);
-    bare = subst (λ (y : Cell). second y ≡ plain (y .br) (y .r .num)) (sym is-cell) (o .bare);
+    bare = subst (λ (y : ChainCell). second y ≡ plain (y .br) (y .r .num)) (sym is-cell) (o .bare);
     far =
-        subst (λ (y : Cell). full (y .br) (y .r .num) ≡ true → (d ≤ y .l .num) × (d ≤ y .r .num)) (sym is-cell)
+        subst (λ (y : ChainCell). full (y .br) (y .r .num) ≡ true → (d ≤ y .l .num) × (d ≤ y .r .num)) (sym is-cell)
         (o .far);
   }
 
@@ -74,17 +74,17 @@ module _ {d from by high : ℕ} {s₀ s : List ℕ} {i a b : ℕ} (w : Lowering 
 
 -- ---- the end of each loop
 
-pub heap-lowered : {d top : ℕ} {s₀ s : List ℕ} {i : ℕ} → Lowering d firstCell d top s₀ s i → top ≤ i
+pub heap-lowered : {d top : ℕ} {s₀ s : List ℕ} {i : ℕ} → Lowering d firstHeapCell d top s₀ s i → top ≤ i
     → Lowers s₀ s top d
 heap-lowered {d} w le = record {
   down = λ x p q. w .down (x - d) x (omega arith) (omega arith) (omega arith);
   rest = λ c p. w .rest c (λ q. omega (arith, w .hi, p q));
 }
 
-pub registers-lowered : {d : ℕ} {s₀ s : List ℕ} {r : ℕ} → Lowering d 0 0 firstCell s₀ s r → firstCell ≤ r
+pub registers-lowered : {d : ℕ} {s₀ s : List ℕ} {r : ℕ} → Lowering d 0 0 firstHeapCell s₀ s r → firstHeapCell ≤ r
     → Settles s₀ s d
-registers-lowered {d} {s₀} {s} w le c = go (lt-or-ge c firstCell)
+registers-lowered {d} {s₀} {s} w le c = go (lt-or-ge c firstHeapCell)
   where
-    go : (c < firstCell) ⊎ (firstCell ≤ c) → cell s c ≡ cond (ltb c firstCell) (lowered d (cell s₀ c)) (cell s₀ c)
-    go (inl h) = rw (lt-ltb c firstCell h) (w .down c c (omega arith) (omega arith) (omega arith))
-    go (inr h) = rw (le-ltb c firstCell h) (w .rest c (λ p. omega (arith, w .hi)))
+    go : (c < firstHeapCell) ⊎ (firstHeapCell ≤ c) → cell s c ≡ cond (ltb c firstHeapCell) (lowered d (cell s₀ c)) (cell s₀ c)
+    go (inl h) = rw (lt-ltb c firstHeapCell h) (w .down c c (omega arith) (omega arith) (omega arith))
+    go (inr h) = rw (le-ltb c firstHeapCell h) (w .rest c (λ p. omega (arith, w .hi)))

@@ -12,7 +12,7 @@ use lib.ListN.{length}
 use borrow.Author.Tests.{lt-leb, ltb-true}
 use Rattle.words.specs.Cell.{secondWord}
 use Rattle.words.specs.Second.{decode}
-use Rattle.meaning.specs.Limits.{firstCell}
+use Rattle.meaning.specs.Limits.{firstHeapCell}
 use Rattle.meaning.proofs.sound.Cells.{limit-fits}
 use Rattle.collect.specs.Cells.{cell}
 use Rattle.collect.specs.Chain.{Heap, holder, Proper, pos, mended, Known}
@@ -82,7 +82,7 @@ module _ {s₁ : List ℕ} {top : ℕ} {packs : Bool} where
           let k = pos-heap g (g .ri b) (omega arith) (e .2) in
           omega (arith, mended-late g (g .F) b q z)
 
-  pub down-end : {s : List ℕ} {dead c : ℕ} → Descending s₁ top packs s dead c → c ≤ firstCell
+  pub down-end : {s : List ℕ} {dead c : ℕ} → Descending s₁ top packs s dead c → c ≤ firstHeapCell
       → {s₀ : List ℕ} → HoldsRegisters s₀ s₁ → Sweeps s₀ s top packs dead
   down-end {s} {dead} {c} r le h g b =
       let d = r .at g (registered h g b) in
@@ -94,12 +94,12 @@ module _ {s₁ : List ℕ} {top : ℕ} {packs : Bool} where
       )
 
   -- the loop's cell as the one above the next
-  pub down-pred : {s : List ℕ} {dead c : ℕ} → firstCell < c → Descending s₁ top packs s dead c
+  pub down-pred : {s : List ℕ} {dead c : ℕ} → firstHeapCell < c → Descending s₁ top packs s dead c
       → Descending s₁ top packs s dead (suc (c - 1))
   down-pred {s} {dead} {c} lt r =
       subst (λ (x : ℕ). Descending s₁ top packs s dead x) (let e : c ≡ suc (c - 1) = omega arith in e) r
 
-  module _ {s : List ℕ} {dead c : ℕ} (r : Descending s₁ top packs s dead (suc c)) (lt : firstCell < suc c) where
+  module _ {s : List ℕ} {dead c : ℕ} (r : Descending s₁ top packs s dead (suc c)) (lt : firstHeapCell < suc c) where
     module _ (g : Heap) (t : Registered g s₁ top packs) where
       abbrev k : Down g s dead (suc c)
       k = r .at g t

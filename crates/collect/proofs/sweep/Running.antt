@@ -14,7 +14,7 @@ use lib.ListN.{length}
 use Rattle.words.specs.Cell.{secondWord}
 use Rattle.words.specs.Second.{decode}
 use Rattle.meaning.proofs.sound.Cells.{limit-fits}
-use Rattle.collect.specs.Cells.{Link, Cell, cell}
+use Rattle.collect.specs.Cells.{Link, ChainCell, cell}
 use Rattle.collect.specs.Chain.{Heap, holder, Proper, pos, place, last, mended, sweepCell, Known}
 use Rattle.collect.specs.Passes.{Sweeping, Turn, MyTurn, Turned, Head, AtHead, Passes}
 use Rattle.collect.proofs.Order.{pos-heap}
@@ -27,7 +27,7 @@ pub chain-is : (g : Heap) (c : ℕ) {s : List ℕ} {w : ℕ} → Sweeping g s (p
     → decode w .lc ≡ last g c (pos g c) .tag
 chain-is g c {s} t e =
     ap (λ (x : ℕ). decode x .lc) e
-    ∙ ap (λ (x : Cell). x .l .tag)
+    ∙ ap (λ (x : ChainCell). x .l .tag)
     (subst (λ (x : ℕ). cell s x ≡ sweepCell g (pos g c) (pos g c) c) (spot-ahead g (pos g c) c (omega arith))
     (t .at .at c (λ f q. absurd (omega arith))))
     ∙ ap (λ (x : Link). x .tag) (whole-l g (pos g c) c (omega arith))

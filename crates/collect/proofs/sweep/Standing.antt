@@ -12,9 +12,9 @@ use lib.ListN.{length}
 use borrow.Author.Tests.{lt-ltb, le-ltb}
 use Rattle.words.specs.Cell.{firstWord, secondWord, putCell}
 use Rattle.words.specs.Second.{decode}
-use Rattle.meaning.specs.Limits.{firstCell}
+use Rattle.meaning.specs.Limits.{firstHeapCell}
 use Rattle.meaning.proofs.sound.Cells.{limit-fits}
-use Rattle.collect.specs.Cells.{Link, Cell, linked, cell, ptr}
+use Rattle.collect.specs.Cells.{Link, ChainCell, linked, cell, ptr}
 use Rattle.collect.specs.Chain.{Heap, full, holder, Proper, pos, turn, place, last, sweepCell, oldCell, SweptTo}
 use Rattle.collect.specs.Step.{Linked, Laid}
 use Rattle.collect.specs.Passes.{Frame, fullWord, Linkable, Links, Standable, Stood, Sweeping}
@@ -72,7 +72,7 @@ last-small g h b k (suc j) = go (holder g (turn g j)) refl (eqb (g .ri (turn g j
 
 -- The cell m, whose turn it is, its chain undone: M are the cells with m's words a and b put back, s the words without.
 module _ {g : Heap} {s : List ℕ} (f : Frame g s) (m a b : ℕ) (k : (ltb m (g .F) || g .live m) ≡ true)
-    (M : ℕ → Cell) (u : SweptTo g (pos g m) 0 M) (same : (c : ℕ) → c ≢ m → cell s c ≡ M c)
+    (M : ℕ → ChainCell) (u : SweptTo g (pos g m) 0 M) (same : (c : ℕ) → c ≢ m → cell s c ≡ M c)
     (mine : linked a (decode b) ≡ M m) where
   abbrev p : Proper g
   p = f .proper
@@ -81,10 +81,10 @@ module _ {g : Heap} {s : List ℕ} (f : Frame g s) (m a b : ℕ) (k : (ltb m (g 
   is = mine ∙ own g p m M u
 
   first : a ≡ g .li m
-  first = ap (λ (c : Cell). c .l .num) is
+  first = ap (λ (c : ChainCell). c .l .num) is
 
   right : decode b .ri ≡ g .ri m
-  right = ap (λ (c : Cell). c .r .num) is
+  right = ap (λ (c : ChainCell). c .r .num) is
 
   is-holder : holder g m ≡ fullWord b
   is-holder = holder-full g m k ∙ sym (λ i. full (is i .br) (is i .r .num))
@@ -96,7 +96,7 @@ module _ {g : Heap} {s : List ℕ} (f : Frame g s) (m a b : ℕ) (k : (ltb m (g 
     len = f .len;
     apart = λ q. apart q (decLt m (g .F));
     small = rw (right, slave) (last-small g (f .small) low (g .ri m) (pos g m));
-    bare = ap (λ (c : Cell). c .l .tag) is;
+    bare = ap (λ (c : ChainCell). c .l .tag) is;
     order = omega (arith, first, right, p .ends m h);
   }
     where
@@ -123,7 +123,7 @@ module _ {g : Heap} {s : List ℕ} (f : Frame g s) (m a b : ℕ) (k : (ltb m (g 
       slave : firstWord s (g .ri m) ≡ last g (g .ri m) (pos g m) .num
       slave =
           let later = pos-holder g m p h in
-          ap (λ (c : Cell). c .l .num) (same (g .ri m) (ri-other g m p h)
+          ap (λ (c : ChainCell). c .l .num) (same (g .ri m) (ri-other g m p h)
           ∙ subst (λ (x : ℕ). M x ≡ sweepCell g (pos g m) 0 (g .ri m))
           (spot-ahead g (pos g m) (g .ri m) (omega (arith, later)))
           (u .at (g .ri m) (λ q r. absurd (omega (arith, later)))))
@@ -148,11 +148,11 @@ module _ {g : Heap} {s : List ℕ} (f : Frame g s) (m a b : ℕ) (k : (ltb m (g 
       go : (t : Bool) → fullWord b ≡ t → SweptTo g (suc (pos g m)) (suc (pos g m)) (cell s′)
       go true e =
           turn-held g p m k M (cell s) (cell s′) u same (is-holder ∙ e)
-          (subst (λ (x : Cell). Linked (cell s) (cell s′) (place g m) (g .ri m) x) is
+          (subst (λ (x : ChainCell). Linked (cell s) (cell s′) (place g m) (g .ri m) x) is
           (subst (λ (x : ℕ). Linked (cell s) (cell s′) (place g m) x (linked a (decode b))) right (w .held e)))
       go false e =
           turn-laid g p m k M (cell s) (cell s′) u same (is-holder ∙ e)
-          (subst (λ (x : Cell). Laid (cell s) (cell s′) (place g m) x) is (w .laid e))
+          (subst (λ (x : ChainCell). Laid (cell s) (cell s′) (place g m) x) is (w .laid e))
 
 -- ---- a reached cell's turn: its chain undone, then put down
 
@@ -192,18 +192,18 @@ module _ {s : List ℕ} {c w to low : ℕ} where
 -- ---- the registers
 
 pub record Registers (s₀ s : List ℕ) (r : ℕ) : Type 0 where
-  pub hi : r ≤ firstCell
+  pub hi : r ≤ firstHeapCell
   pub same : length s ≡ length s₀
   pub at : (g : Heap) → Sweeping g s₀ 0 → Sweeping g s r
 
 pub registers-start : {s₀ : List ℕ} → Registers s₀ s₀ 0
 registers-start = record { hi = omega arith; same = refl; at = λ g t. t }
 
-pub registers-end : {s₀ s : List ℕ} {r : ℕ} → Registers s₀ s r → firstCell ≤ r → HoldsRegisters s₀ s
+pub registers-end : {s₀ s : List ℕ} {r : ℕ} → Registers s₀ s r → firstHeapCell ≤ r → HoldsRegisters s₀ s
 registers-end {s = s} {r = r} w le g t =
     subst (λ (x : ℕ). Sweeping g s x) (let q : r ≡ g .F = omega (arith, w .hi, t .frame .first) in q) (w .at g t)
 
-module _ {s₀ s : List ℕ} {r : ℕ} (w : Registers s₀ s r) (lt : r < firstCell) where
+module _ {s₀ s : List ℕ} {r : ℕ} (w : Registers s₀ s r) (lt : r < firstHeapCell) where
   pub registers-room : Untouched s₀ → 2 * r + 1 < length s
   registers-room o = omega (arith, o .1 .frame .room, o .1 .frame .proper .FT, o .1 .frame .first, w .same)
 

@@ -14,11 +14,11 @@ use Rattle.meaning.specs.Sound.{Sound}
 use Rattle.meaning.specs.Check.{only, check, onZero}
 use Rattle.meaning.specs.Call.{step}
 use Rattle.meaning.specs.Batch.{Ran, then, runs, asLent, ended, callsTest, batchOf, batch}
-use Rattle.meaning.proofs.effect.Steps.{Batch, called, Fours, none, four}
+use Rattle.meaning.proofs.effect.Steps.{Batch, called, WholeCalls, none, four}
 use Rattle.meaning.proofs.check.Checking.{check-sound}
 
 -- a length that is a multiple of four
-pub fours : (n : ℕ) (cs : List ℕ) → length cs ≡ 4 * n → Fours cs
+pub fours : (n : ℕ) (cs : List ℕ) → length cs ≡ 4 * n → WholeCalls cs
 fours zero [] e = none
 fours zero (o ∷ cs) e = absurd (omega arith)
 fours (suc n) [] e = absurd (omega arith)
@@ -27,7 +27,7 @@ fours (suc n) (o ∷ d ∷ []) e = absurd (omega arith)
 fours (suc n) (o ∷ d ∷ a ∷ []) e = absurd (omega arith)
 fours (suc n) (o ∷ d ∷ a ∷ b ∷ cs) e = four (fours n cs (omega arith))
 
-pub fours-of : (cs : List ℕ) → length cs % 4 ≡ 0 → Fours cs
+pub fours-of : (cs : List ℕ) → length cs % 4 ≡ 0 → WholeCalls cs
 fours-of cs h = fours (length cs / 4) cs (omega arith)
 
 -- a sound store stays sound
@@ -37,7 +37,7 @@ batch-sound s Batch.ended = s
 batch-sound s (called r m q) = batch-sound (m .sound) q
 
 -- cut anywhere
-pub runs-cut : (F : ℕ) (ws : List ℕ) (top : ℕ) {cs : List ℕ} (ds : List ℕ) → Fours cs
+pub runs-cut : (F : ℕ) (ws : List ℕ) (top : ℕ) {cs : List ℕ} (ds : List ℕ) → WholeCalls cs
     → runs F ws top (cs ++ ds) ≡ record {
       words = runs F (runs F ws top cs .words) (runs F ws top cs .top) ds .words;
       top = runs F (runs F ws top cs .words) (runs F ws top cs .top) ds .top;
@@ -51,7 +51,7 @@ runs-cut F ws top ds (four {o} {d} {a} {b} {cs} c) =
 -- the whole batch
 module _ (F : ℕ) (p : 0 < F) (ws : List ℕ) (top : ℕ) (calls out : List ℕ) where
   pub batch-runs : batch F ws top calls out .verdict .status ≡ 0
-      → Sound F ws top × Fours calls × (batch F ws top calls out ≡ ended (runs F ws top calls) out)
+      → Sound F ws top × WholeCalls calls × (batch F ws top calls out ≡ ended (runs F ws top calls) out)
   unfolding batch batchOf callsTest
   batch-runs q = one (check F ws top .status) refl q
     where
@@ -59,7 +59,7 @@ module _ (F : ℕ) (p : 0 < F) (ws : List ℕ) (top : ℕ) (calls out : List ℕ
           → leb (2 * (length calls / 4)) (length out) ≡ v
           → cond (cond t u false) (cond v (ended (runs F ws top calls) out) (asLent (only 5) ws top out))
           (asLent (only 4) ws top out) .verdict .status ≡ 0
-          → Sound F ws top × Fours calls
+          → Sound F ws top × WholeCalls calls
           × (cond (cond t u false) (cond v (ended (runs F ws top calls) out) (asLent (only 5) ws top out))
           (asLent (only 4) ws top out) ≡ ended (runs F ws top calls) out)
       two s true true true a b c d = (s, fours-of calls (eqb-true (length calls % 4) 0 b), refl)
@@ -69,7 +69,7 @@ module _ (F : ℕ) (p : 0 < F) (ws : List ℕ) (top : ℕ) (calls out : List ℕ
 
       one : (n : ℕ) → check F ws top .status ≡ n
           → onZero n (batchOf F ws top calls out) (asLent (check F ws top) ws top out) .verdict .status ≡ 0
-          → Sound F ws top × Fours calls × (onZero n (batchOf F ws top calls out) (asLent (check F ws top) ws top out)
+          → Sound F ws top × WholeCalls calls × (onZero n (batchOf F ws top calls out) (asLent (check F ws top) ws top out)
           ≡ ended (runs F ws top calls) out)
       one zero e r = two (check-sound F ws top e) (leb (length calls) callsLimit) (eqb (length calls % 4) 0)
           (leb (2 * (length calls / 4)) (length out)) refl refl refl r

@@ -5,24 +5,24 @@ use mathlib.Core.List.{List, [], _∷_, _++_}
 use Prim.Native.Nat.{ℕ, zero, suc, _≤_, _<_}
 use native.Mathlib.Omega.{arith}
 use lib.ListN.{length, getD}
-use Rattle.meaning.specs.Limits.{firstCell}
+use Rattle.meaning.specs.Limits.{firstHeapCell}
 use Rattle.meaning.specs.Check.{refused, only}
 use Rattle.meaning.specs.Call.{Op, CLEAR, COPY, SYMBOL, WRAP, JOIN, HEAD, REST, OPEN, LENGTH, FIRST, LIVE, COLLECT}
 use Rattle.meaning.specs.Call.{ops, opAt, useD, useA, useB, fault, perform, stepAfter, step}
-use Rattle.meaning.proofs.call.Uses.{Right, right, is-register}
+use Rattle.meaning.proofs.call.Uses.{WordsRight, right, is-register}
 
-module _ (o d a b : ℕ) (q : fault firstCell o d a b ≡ 0) {k : ℕ} (e : o ≡ k) where
-  uses-right : Right firstCell (opAt k) d a b
-  uses-right = subst (λ (n : ℕ). Right firstCell (opAt n) d a b) e (right firstCell o d a b q)
+module _ (o d a b : ℕ) (q : fault firstHeapCell o d a b ≡ 0) {k : ℕ} (e : o ≡ k) where
+  uses-right : WordsRight firstHeapCell (opAt k) d a b
+  uses-right = subst (λ (n : ℕ). WordsRight firstHeapCell (opAt n) d a b) e (right firstHeapCell o d a b q)
 
-  pub d-register : useD (opAt k) ≡ 1 → d < firstCell
-  d-register u = is-register firstCell d (rw u at (uses-right .d11))
+  pub d-register : useD (opAt k) ≡ 1 → d < firstHeapCell
+  d-register u = is-register firstHeapCell d (rw u at (uses-right .d11))
 
-  pub a-register : useA (opAt k) ≡ 1 → a < firstCell
-  a-register u = is-register firstCell a (rw u at (uses-right .a11))
+  pub a-register : useA (opAt k) ≡ 1 → a < firstHeapCell
+  a-register u = is-register firstHeapCell a (rw u at (uses-right .a11))
 
-  pub b-register : useB (opAt k) ≡ 1 → b < firstCell
-  b-register u = is-register firstCell b (rw u at (uses-right .b11))
+  pub b-register : useB (opAt k) ≡ 1 → b < firstHeapCell
+  b-register u = is-register firstHeapCell b (rw u at (uses-right .b11))
 
 -- ---- the last operation, which is what is left of the match
 
@@ -49,15 +49,15 @@ collects o m =
 
 -- ---- one call, by what is wrong with its words
 
-module _ (ws : List ℕ) (top o d a b : ℕ) {f : ℕ} (q : f ≡ fault firstCell o d a b) where
-  pub step-refused : f ≢ 0 → step firstCell ws top o d a b ≡ refused ws top (only f)
+module _ (ws : List ℕ) (top o d a b : ℕ) {f : ℕ} (q : f ≡ fault firstHeapCell o d a b) where
+  pub step-refused : f ≢ 0 → step firstHeapCell ws top o d a b ≡ refused ws top (only f)
   unfolding step
   step-refused n = rw (← q) (go f n)
     where
-      go : (g : ℕ) → g ≢ 0 → stepAfter g firstCell ws top o d a b ≡ refused ws top (only g)
+      go : (g : ℕ) → g ≢ 0 → stepAfter g firstHeapCell ws top o d a b ≡ refused ws top (only g)
       go zero n = absurd (n refl)
       go (suc g) n = unfold stepAfter in refl
 
-  pub step-performed : f ≡ 0 → step firstCell ws top o d a b ≡ perform (opAt o) firstCell ws top d a b
+  pub step-performed : f ≡ 0 → step firstHeapCell ws top o d a b ≡ perform (opAt o) firstHeapCell ws top d a b
   unfolding step stepAfter
   step-performed e = rw (← q, e) refl

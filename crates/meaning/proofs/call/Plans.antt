@@ -16,7 +16,7 @@ use Rattle.meaning.specs.Meaning.{meaning}
 use Rattle.meaning.specs.Reach.{live}
 use Rattle.meaning.specs.Collected.{collected, collectedTop}
 use Rattle.meaning.specs.Check.{Done, only, refused}
-use Rattle.meaning.specs.Call.{Plan, plain, gathered, making, sought, lacks, roomWords, roomTop, withRoom, carry}
+use Rattle.meaning.specs.Call.{Plan, plain, inCollected, laying, sought, lacks, roomWords, roomTop, withRoom, carryOut}
 use Rattle.meaning.specs.Effect.{Effect, orElse, after, answer}
 use Rattle.meaning.proofs.reach.Reaching.{live-le}
 use Rattle.meaning.proofs.collected.Collecting.{collected-sound, length-collected, meaning-kept}
@@ -50,13 +50,13 @@ module _ (F : ℕ) (ws : List ℕ) (top : ℕ) (p : 0 < F) (s : Sound F ws top) 
 -- is there no room for it? and `top`, when it is done
 unfoldable pub planLacks : ℕ → Plan → List ℕ → ℕ → Bool
 planLacks F (plain act) ws top = false
-planLacks F (gathered act) ws top = false
-planLacks F (making n v act) ws top = lacks F n v top
+planLacks F (inCollected act) ws top = false
+planLacks F (laying n v act) ws top = lacks F n v top
 
 unfoldable pub planTop : ℕ → Plan → List ℕ → ℕ → ℕ
 planTop F (plain act) ws top = top
-planTop F (gathered act) ws top = collectedTop F ws top
-planTop F (making n v act) ws top = roomTop F n v top + n
+planTop F (inCollected act) ws top = collectedTop F ws top
+planTop F (laying n v act) ws top = roomTop F n v top + n
 
 -- `top` after a call, by its status: x where it is done, y, the collected store's, where it is refused with 16, else
 -- as it was
@@ -70,7 +70,7 @@ WordsAfter zero ws ws₁ ws′ = Unit {0}
 WordsAfter (suc s) ws ws₁ ws′ = ws′ ≡ cond (eqb s 15) ws₁ ws
 
 -- r is what the plan has to give, in the store ws, for its effect to be x
-pub record Meets (F : ℕ) (ws : List ℕ) (top : ℕ) (x : Effect) (plan : Plan) (r : Done) : Type 0 where
+pub record PlanMeets (F : ℕ) (ws : List ℕ) (top : ℕ) (x : Effect) (plan : Plan) (r : Done) : Type 0 where
   pub sound : Sound F (r .words) (r .top)
   pub len : length (r .words) ≡ length ws
   pub status : r .verdict .status ≡ orElse (x .unfit) (cond (planLacks F plan ws top) 16 0)
@@ -137,12 +137,12 @@ module _ (F : ℕ) (n : ℕ) (v : List ℕ) (top : ℕ) (p : 0 < F) (s : Sound F
 
 -- ---- what a plan's action has to do, for the plan to meet the effect x
 
-abbrev pub Does : ℕ → List ℕ → ℕ → Effect → Plan → Type 0
-Does F ws top x (plain act) = Acts F (meaning ws) x 0 ws top (act ws top)
-Does F ws top x (gathered act) =
+abbrev pub PlanDoes : ℕ → List ℕ → ℕ → Effect → Plan → Type 0
+PlanDoes F ws top x (plain act) = Acts F (meaning ws) x 0 ws top (act ws top)
+PlanDoes F ws top x (inCollected act) =
     (x .unfit ≡ 0) × Acts F (meaning ws) x 0 (collected F ws top) (collectedTop F ws top)
     (act (collected F ws top) (collectedTop F ws top))
-Does F ws top x (making n v act) =
+PlanDoes F ws top x (laying n v act) =
     (x .unfit ≡ 0) × Sound F v top × (length v ≡ length ws)
     × ((u : List ℕ) (t : ℕ) → Sound F u t → Denote F u (meaning v) → 2 * (t + n) ≤ length u
     → Acts F (meaning ws) x n u t (act u t))
@@ -151,7 +151,7 @@ module _ (F : ℕ) (ws : List ℕ) (top : ℕ) (p : 0 < F) (s : Sound F ws top) 
   -- done without fail, in a store v with its `top` t
   done-meets : (plan : Plan) (n : ℕ) (v : List ℕ) (t : ℕ) (r : Done) → length v ≡ length ws
       → planTop F plan ws top ≡ t + n → planLacks F plan ws top ≡ false → x .unfit ≡ 0
-      → Acts F (meaning ws) x n v t r → Meets F ws top x plan r
+      → Acts F (meaning ws) x n v t r → PlanMeets F ws top x plan r
   done-meets plan n v t r l y k z m =
       let u = m .status ∙ z in
       record {
@@ -165,7 +165,7 @@ module _ (F : ℕ) (ws : List ℕ) (top : ℕ) (p : 0 < F) (s : Sound F ws top) 
       }
 
   plain-meets : (act : List ℕ → ℕ → Done) (r : Done) → Acts F (meaning ws) x 0 ws top r
-      → (u : ℕ) → x .unfit ≡ u → Meets F ws top x (plain act) r
+      → (u : ℕ) → x .unfit ≡ u → PlanMeets F ws top x (plain act) r
   unfolding planTop planLacks
   plain-meets act r m zero z = done-meets (plain act) 0 ws top r refl (sym (add-zero top)) refl z m
   plain-meets act r m (suc u) z =
@@ -181,17 +181,17 @@ module _ (F : ℕ) (ws : List ℕ) (top : ℕ) (p : 0 < F) (s : Sound F ws top) 
         left = rw (t, y) (rw t at (m .left));
       }
 
-  pub carry-meets : (plan : Plan) → Does F ws top x plan → Meets F ws top x plan (carry F plan ws top)
-  unfolding carry withRoom planTop planLacks
+  pub carry-meets : (plan : Plan) → PlanDoes F ws top x plan → PlanMeets F ws top x plan (carryOut F plan ws top)
+  unfolding carryOut withRoom planTop planLacks
   carry-meets (plain act) m = plain-meets act (act ws top) m (x .unfit) refl
-  carry-meets (gathered act) m =
-      done-meets (gathered act) 0 (collected F ws top) (collectedTop F ws top)
+  carry-meets (inCollected act) m =
+      done-meets (inCollected act) 0 (collected F ws top) (collectedTop F ws top)
       (act (collected F ws top) (collectedTop F ws top)) (length-collected F ws top p s)
       (sym (add-zero (collectedTop F ws top))) refl (m .0) (m .1)
-  carry-meets (making n v act) m = go (lacks F n v top) refl
+  carry-meets (laying n v act) m = go (lacks F n v top) refl
     where
       go : (t : Bool) → lacks F n v top ≡ t
-          → Meets F ws top x (making n v act)
+          → PlanMeets F ws top x (laying n v act)
           (cond t (refused (collected F ws top) (collectedTop F ws top) (only 16))
           (act (roomWords F n v top) (roomTop F n v top)))
       go true l = record {
@@ -204,7 +204,7 @@ module _ (F : ℕ) (ws : List ℕ) (top : ℕ) (p : 0 < F) (s : Sound F ws top) 
         left = refl;
       }
       go false l =
-          done-meets (making n v act) n (roomWords F n v top) (roomTop F n v top)
+          done-meets (laying n v act) n (roomWords F n v top) (roomTop F n v top)
           (act (roomWords F n v top) (roomTop F n v top)) (room-length F n v top p (m .1) ∙ m .2) refl l (m .0)
           (m .3 (roomWords F n v top) (roomTop F n v top) (room-sound F n v top p (m .1))
           (room-denote F n v top p (m .1)) (room-fits F n v top p (m .1) l))

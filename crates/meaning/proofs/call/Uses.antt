@@ -45,13 +45,13 @@ cond-zero : (t : Bool) (n x : ℕ) → cond t (suc n) x ≡ 0 → (t ≡ false) 
 cond-zero true n x q = absurd (omega arith)
 cond-zero false n x q = (refl, q)
 
-pub record Right (F : ℕ) (o : Op) (d a b : ℕ) : Type 0 where
+pub record WordsRight (F : ℕ) (o : Op) (d a b : ℕ) : Type 0 where
   pub d11 : wrong11 F (useD o) d ≡ false
   pub a11 : wrong11 F (useA o) a ≡ false
   pub b11 : wrong11 F (useB o) b ≡ false
   pub a13 : wrong13 (useA o) a ≡ false
 
-pub right : (F o d a b : ℕ) → fault F o d a b ≡ 0 → Right F (opAt o) d a b
+pub right : (F o d a b : ℕ) → fault F o d a b ≡ 0 → WordsRight F (opAt o) d a b
 unfolding fault
 right F o d a b q =
     let u = getD uses (3 * o) 0 in
@@ -117,7 +117,7 @@ module _ (o : Op) (d a b : ℕ) where
       go true = refl
       go false = refl
 
-  pub unkept-register : (F : ℕ) → Right F o d a b → keeps o d a b ≡ false → d < F
+  pub unkept-register : (F : ℕ) → WordsRight F o d a b → keeps o d a b ≡ false → d < F
   unfolding keeps
   unkept-register F q = go (eqb (useD o) 1) refl
     where

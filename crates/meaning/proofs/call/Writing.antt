@@ -9,11 +9,11 @@ use native.Mathlib.Omega.{arith}
 use lib.ListN.{length, getD, set, length-set}
 use lib.Seq.{getD-set-same, getD-set-other}
 use Rattle.meaning.specs.Expr.{Expr}
-use Rattle.meaning.specs.Sound.{Cell, code, hollow, ends, fst, snd, at, Sound, IsBracket, isEmpty, isFull, IsTerm}
+use Rattle.meaning.specs.Sound.{Cell, code, empty, ends, fst, snd, at, Sound, IsBracket, isEmpty, isFull, IsTerm}
 use Rattle.meaning.specs.Meaning.{inside, termOf, term, meaning}
 use Rattle.meaning.specs.Call.{put, copy}
 use Rattle.meaning.proofs.Lists.{lt-or-ge}
-use Rattle.meaning.proofs.sound.Cells.{Good, TermIn, BracketIn, term-of-bracket, good, read, read-words, is-bracket}
+use Rattle.meaning.proofs.sound.Cells.{SoundCells, TermIn, BracketIn, term-of-bracket, good, read, read-words, is-bracket}
 use Rattle.meaning.proofs.sound.Cells.{is-term, bracket-words, term-words}
 use Rattle.meaning.proofs.meaning.Terms.{run-ext, term-depth}
 
@@ -67,7 +67,7 @@ bracket-wider F h (isFull x y z) = isFull x y (le-trans z h)
 
 pub termIn-wider : (F lim lim′ : ℕ) (b : Cell) → lim ≤ lim′ → TermIn F lim b → TermIn F lim′ b
 termIn-wider F lim lim′ (code a) h t = t
-termIn-wider F lim lim′ hollow h t = t
+termIn-wider F lim lim′ empty h t = t
 termIn-wider F lim lim′ (ends l r) h t = (t .0, t .1, le-trans (t .2) h)
 
 module _ (F : ℕ) (ws : List ℕ) (top : ℕ) (p : 0 < F) (s : Sound F ws top) where
@@ -150,11 +150,11 @@ module _ (F : ℕ) (ws : List ℕ) (top : ℕ) (p : 0 < F) (s : Sound F ws top) 
 
 -- ---- meaning
 
-module _ (F : ℕ) (k k′ : ℕ → Cell) (top : ℕ) (g : Good F k top) (same : (c : ℕ) → F ≤ c → c < top → k′ c ≡ k c) where
+module _ (F : ℕ) (k k′ : ℕ → Cell) (top : ℕ) (g : SoundCells F k top) (same : (c : ℕ) → F ≤ c → c < top → k′ c ≡ k c) where
   termOf-same : (n lim : ℕ) (b : Cell) → lim ≤ top → TermIn F lim b
       → ((c : ℕ) → F ≤ c → c < top → term k n c ≡ term k′ n c) → termOf (term k n) b ≡ termOf (term k′ n) b
   termOf-same n lim (code a) l t r = refl
-  termOf-same n lim hollow l t r = refl
+  termOf-same n lim empty l t r = refl
   termOf-same n lim (ends x y) l t r =
       ap (λ (z : Expr). Expr.parens z Expr.nothing) (run-ext (term k n) (term k′ n) x x (suc y - x)
       (λ j h. r (x + j) (omega (arith, t .0)) (omega (arith, t .1, t .2))))
@@ -166,7 +166,7 @@ module _ (F : ℕ) (k k′ : ℕ → Cell) (top : ℕ) (g : Good F k top) (same 
 
   pub inside-same : (n : ℕ) (b : Cell) → BracketIn F top b → inside (term k n) b ≡ inside (term k′ n) b
   inside-same n (code a) t = refl
-  inside-same n hollow t = refl
+  inside-same n empty t = refl
   inside-same n (ends x y) t =
       run-ext (term k n) (term k′ n) x x (suc y - x) (λ j h. term-same n (x + j) (omega (arith, t .0))
       (omega (arith, t .1, t .2)))

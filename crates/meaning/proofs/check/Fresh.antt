@@ -10,20 +10,20 @@ use Rattle.meaning.specs.Limits.{limit}
 use Rattle.meaning.specs.Expr.{nothing}
 use Rattle.meaning.specs.Sound.{at, Sound, isEmpty}
 use Rattle.meaning.specs.Meaning.{meaning}
-use Rattle.meaning.specs.Check.{hollows, fresh}
+use Rattle.meaning.specs.Check.{emptyRegisters, fresh}
 use Rattle.meaning.proofs.collected.Laid.{zeros-after}
 
-hollows-length : (n : ℕ) → length (hollows n) ≡ 2 * n
+hollows-length : (n : ℕ) → length (emptyRegisters n) ≡ 2 * n
 hollows-length zero = refl
 hollows-length (suc n) = omega (arith, hollows-length n)
 
-hollows-one : (n : ℕ) (zs : List ℕ) (i : ℕ) → i < n → getD (hollows n ++ zs) (2 * i) 0 ≡ 0
+hollows-one : (n : ℕ) (zs : List ℕ) (i : ℕ) → i < n → getD (emptyRegisters n ++ zs) (2 * i) 0 ≡ 0
 hollows-one zero zs i h = absurd (not-suc-le-zero h)
 hollows-one (suc n) zs zero h = refl
 hollows-one (suc n) zs (suc i) h =
     let e : 2 * suc i ≡ suc (suc (2 * i)) = omega arith in rw e (hollows-one n zs i (le-of-suc-le-suc h))
 
-hollows-two : (n : ℕ) (zs : List ℕ) (i : ℕ) → i < n → getD (hollows n ++ zs) (2 * i + 1) 0 ≡ 2147483648
+hollows-two : (n : ℕ) (zs : List ℕ) (i : ℕ) → i < n → getD (emptyRegisters n ++ zs) (2 * i + 1) 0 ≡ 2147483648
 hollows-two zero zs i h = absurd (not-suc-le-zero h)
 hollows-two (suc n) zs zero h = refl
 hollows-two (suc n) zs (suc i) h =
@@ -33,13 +33,13 @@ module _ (F n : ℕ) (l : F ≤ n) (m : n ≤ limit) where
   pub fresh-length : length (fresh F n) ≡ 2 * n
   unfolding fresh
   fresh-length =
-      let a = length-append (hollows F) (replicate (2 * (n - F)) 0) in
+      let a = length-append (emptyRegisters F) (replicate (2 * (n - F)) 0) in
       let b = length-replicate {A = ℕ} (2 * (n - F)) 0 in
       omega (arith, a, b, hollows-length F)
 
   zero-at : (i : ℕ) → 2 * F ≤ i → i < 2 * n → getD (fresh F n) i 0 ≡ 0
   unfolding fresh
-  zero-at i f h = zeros-after (hollows F) (2 * (n - F)) i (omega (arith, hollows-length F))
+  zero-at i f h = zeros-after (emptyRegisters F) (2 * (n - F)) i (omega (arith, hollows-length F))
       (omega (arith, hollows-length F, fresh-length))
 
   pub fresh-sound : Sound F (fresh F n) F

@@ -9,7 +9,7 @@ use lib.ListN.{length, getD, length-take, length-drop}
 use lib.Seq.{getD-take, getD-drop}
 use borrow.Author.Tests.{lt-ltb, le-ltb}
 use Rattle.meaning.specs.Expr.{terms}
-use Rattle.meaning.specs.Sound.{Cell, code, hollow, ends, at, Sound}
+use Rattle.meaning.specs.Sound.{Cell, code, empty, ends, at, Sound}
 use Rattle.meaning.specs.Meaning.{meaning}
 use Rattle.meaning.specs.Check.{check, size, start, spanOf, lookSpan, look}
 use Rattle.meaning.proofs.sound.Cells.{BracketIn, good}
@@ -20,7 +20,7 @@ use Rattle.meaning.proofs.effect.Stepping.{size-terms}
 -- a bracket's cells lie below the limit of its right end
 pub run-in : (F lim : ℕ) (b : Cell) → BracketIn F lim b → start b + size b ≤ lim
 run-in F lim (code a) t = absurd t
-run-in F lim hollow t = omega arith
+run-in F lim empty t = omega arith
 run-in F lim (ends l r) t = omega (arith, t .1, t .2)
 
 module _ (F : ℕ) (ws : List ℕ) (top : ℕ) (s : Sound F ws top) (i : ℕ) where
@@ -28,7 +28,7 @@ module _ (F : ℕ) (ws : List ℕ) (top : ℕ) (s : Sound F ws top) (i : ℕ) wh
   unfolding lookSpan
   span-register h = rw (sound-check F ws top s, lt-ltb i F h) refl
 
-  pub span-none : F ≤ i → lookSpan F ws top i ≡ spanOf hollow
+  pub span-none : F ≤ i → lookSpan F ws top i ≡ spanOf empty
   unfolding lookSpan
   span-none h = rw (sound-check F ws top s, le-ltb i F h) refl
 
@@ -37,7 +37,7 @@ module _ (F : ℕ) (ws : List ℕ) (top : ℕ) (s : Sound F ws top) (i : ℕ) wh
   look-none h = rw (span-none h) refl
 
   -- an empty register, and a cell that is none
-  pub look-empty : at ws i ≡ hollow → look F ws top i ≡ []
+  pub look-empty : at ws i ≡ empty → look F ws top i ≡ []
   unfolding look spanOf
   look-empty e = go (lt-or-ge i F)
     where

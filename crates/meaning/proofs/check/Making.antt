@@ -14,7 +14,7 @@ use Rattle.words.specs.Cell.{putCell}
 use Rattle.words.specs.Second.{bracketTo}
 use Rattle.meaning.specs.Limits.{limit}
 use Rattle.meaning.specs.Sound.{capacity}
-use Rattle.meaning.specs.Check.{done, refused, only, lengthTest, hollows, fresh, freshIn}
+use Rattle.meaning.specs.Check.{done, refused, only, lengthTest, emptyRegisters, fresh, freshIn}
 
 -- what an allowed length is
 pub record Allowed (F n : ℕ) : Type 0 where
@@ -34,23 +34,23 @@ length-yes F n q = go (eqb (n % 2) 0) (ltb n (2 * F)) refl refl q
 
 -- ---- the registers, a turn at a time
 
-hollows-more : (n : ℕ) → hollows n ++ (0 ∷ bracketTo 0 ∷ []) ≡ hollows (suc n)
+hollows-more : (n : ℕ) → emptyRegisters n ++ (0 ∷ bracketTo 0 ∷ []) ≡ emptyRegisters (suc n)
 hollows-more zero = refl
 hollows-more (suc n) = ap (λ (l : List ℕ). 0 ∷ bracketTo 0 ∷ l) (hollows-more n)
 
-module _ (ws : List ℕ) (c : ℕ) (h : 2 * c + 1 < length ws) (e : take (2 * c) ws ≡ hollows c) where
-  one-word : take (2 * c + 1) (set ws (2 * c) 0) ≡ hollows c ++ (0 ∷ [])
+module _ (ws : List ℕ) (c : ℕ) (h : 2 * c + 1 < length ws) (e : take (2 * c) ws ≡ emptyRegisters c) where
+  one-word : take (2 * c + 1) (set ws (2 * c) 0) ≡ emptyRegisters c ++ (0 ∷ [])
   one-word =
       ap (λ (n : ℕ). take n (set ws (2 * c) 0)) (add-one (2 * c))
       ∙ (take-suc-set ws (2 * c) 0 (omega arith) ∙ ap (λ (l : List ℕ). l ++ (0 ∷ [])) e)
 
-  pub one-more : take (2 * (c + 1)) (putCell ws c 0 (bracketTo 0)) ≡ hollows (c + 1)
+  pub one-more : take (2 * (c + 1)) (putCell ws c 0 (bracketTo 0)) ≡ emptyRegisters (c + 1)
   one-more =
       let n : 2 * (c + 1) ≡ suc (2 * c + 1) = omega arith in
       let both = take-suc-set (set ws (2 * c) 0) (2 * c + 1) (bracketTo 0) (omega (arith, length-set ws (2 * c) 0)) in
       ap (λ (m : ℕ). take m (putCell ws c 0 (bracketTo 0))) n
       ∙ (both ∙ ap (λ (l : List ℕ). l ++ (bracketTo 0 ∷ [])) one-word)
-      ∙ (append-assoc (hollows c) (0 ∷ []) (bracketTo 0 ∷ []) ∙ hollows-more c ∙ ap hollows (sym (add-one c)))
+      ∙ (append-assoc (emptyRegisters c) (0 ∷ []) (bracketTo 0 ∷ []) ∙ hollows-more c ∙ ap emptyRegisters (sym (add-one c)))
 
 -- ---- the whole store
 
@@ -61,7 +61,7 @@ module _ (F : ℕ) (ws : List ℕ) where
 
   -- vs is the store with its registers emptied, and out what it becomes
   pub fresh-done : lengthTest F (length ws) ≡ true → (vs : List ℕ) {out : List ℕ} → length vs ≡ length ws
-      → take (2 * F) vs ≡ hollows F → out ≡ take (2 * F) vs ++ replicate (length vs - 2 * F) 0
+      → take (2 * F) vs ≡ emptyRegisters F → out ≡ take (2 * F) vs ++ replicate (length vs - 2 * F) 0
       → freshIn F ws ≡ done out F 0
   unfolding freshIn fresh
   fresh-done e vs q f z =

@@ -9,7 +9,7 @@ use native.Mathlib.Omega.{arith}
 use lib.Dec.{ltb}
 use lib.ListN.{length, getD, replicate}
 use borrow.Author.Tests.{lt-ltb, le-ltb}
-use Rattle.meaning.specs.Sound.{Cell, code, hollow, ends, fst, snd, at, Sound}
+use Rattle.meaning.specs.Sound.{Cell, code, empty, ends, fst, snd, at, Sound}
 use Rattle.meaning.specs.Reach.{Between, Reached, byRegister, byBracket, reached, live}
 use Rattle.meaning.specs.Collected.{below, countIf, mapEnds, lay, upFrom, newAddress, collectedOf, collected}
 use Rattle.meaning.specs.Collected.{collectedTop}
@@ -65,7 +65,7 @@ lay-ext k k′ (x ∷ xs) (y ∷ ys) e h =
 same-ends : (F n lim : ℕ) (b : Cell) → lim ≤ F + n → TermIn F lim b → mapEnds (newAddress F (upFrom F n)) b ≡ b
 unfolding newAddress
 same-ends F n lim (code a) h t = refl
-same-ends F n lim hollow h t = refl
+same-ends F n lim empty h t = refl
 same-ends F n lim (ends l r) h t =
     ap₂ {C = Cell} (λ u v. ends u v) (omega (arith, below-upFrom F n l (t .0) (omega (arith, t .1, t .2)), t .0))
     (omega (arith, below-upFrom F n r (omega (arith, t .0, t .1)) (omega (arith, t .2)), t .0, t .1))
@@ -83,7 +83,7 @@ module _ (F : ℕ) (ws : List ℕ) (top : ℕ) (p : 0 < F) (s : Sound F ws top) 
   moved-between : (b : Cell) (c : ℕ) → Between b c → Between (mapEnds new b) (new c)
   unfolding newAddress
   moved-between (code a) c q = q
-  moved-between hollow c q = q
+  moved-between empty c q = q
   moved-between (ends l r) c q = (omega (arith, below-mono rs l c (q .0)), omega (arith, below-mono rs c r (q .1)))
 
   pub reached-kept : {c : ℕ} → Reached F (at ws) c

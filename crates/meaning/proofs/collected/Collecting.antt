@@ -6,7 +6,7 @@ use Prim.Native.Nat.{ℕ, suc, _+_, _-_, _*_, _≤_, _<_}
 use native.Mathlib.Nat.{le-refl, add-assoc}
 use native.Mathlib.Omega.{arith}
 use lib.ListN.{length, getD, length-append, replicate, length-replicate}
-use Rattle.meaning.specs.Sound.{Cell, code, hollow, ends, fst, snd, at, Sound, IsBracket, IsTerm}
+use Rattle.meaning.specs.Sound.{Cell, code, empty, ends, fst, snd, at, Sound, IsBracket, IsTerm}
 use Rattle.meaning.specs.Meaning.{term, meaning}
 use Rattle.meaning.specs.Reach.{Between, byRegister, byBracket, reached, live}
 use Rattle.meaning.specs.Collected.{below, mapEnds, lay, upFrom, newAddress, collectedOf, collected, collectedTop}
@@ -48,13 +48,13 @@ module _ (F : ℕ) (ws : List ℕ) (top : ℕ) (p : 0 < F) (s : Sound F ws top) 
 
   moved-bracket : (lim : ℕ) (b : Cell) → BracketIn F lim b → Held b → BracketIn F top′ (mapEnds new b)
   moved-bracket lim (code a) h q = h
-  moved-bracket lim hollow h q = tt
+  moved-bracket lim empty h q = tt
   moved-bracket lim (ends l r) h q =
       (omega arith, omega (arith, below-mono rs l r (h .1)), omega (arith, place F r rs asc (q r (h .1, le-refl r)) .0))
 
   moved-term : (c : ℕ) (b : Cell) → TermIn F c b → Held b → TermIn F (new c) (mapEnds new b)
   moved-term c (code a) h q = h
-  moved-term c hollow h q = tt
+  moved-term c empty h q = tt
   moved-term c (ends l r) h q = (
     omega arith,
     omega (arith, below-mono rs l r (h .1)),
@@ -178,7 +178,7 @@ module _ (F : ℕ) (ws : List ℕ) (top : ℕ) (p : 0 < F) (s : Sound F ws top) 
 
   pub along : (lim : ℕ) (b : Cell) → TermIn F lim b → Held b → Along (λ c. In c rs) new b
   along lim (code a) h q = tt
-  along lim hollow h q = tt
+  along lim empty h q = tt
   along lim (ends l r) h q = λ j d. (
     q (l + j) (omega arith, d),
     ap (λ (x : ℕ). F + x)

@@ -12,7 +12,7 @@ use lib.ListN.{length, getD}
 use lib.Seq.{ext-getD}
 use borrow.Author.Tests.{ltb-true, ltb-false, lt-ltb, le-ltb}
 use Rattle.meaning.specs.Expr.{Expr}
-use Rattle.meaning.specs.Sound.{Cell, fst, snd, at, Sound, code, hollow, ends}
+use Rattle.meaning.specs.Sound.{Cell, fst, snd, at, Sound, code, empty, ends}
 use Rattle.meaning.specs.Meaning.{termOf, term}
 use Rattle.meaning.specs.Reach.{Reached, reached, live}
 use Rattle.meaning.specs.Collected.{below, countIf, mapEnds, newAddress, collected, collectedTop}
@@ -151,7 +151,7 @@ module _ (F : ℕ) (ws : List ℕ) (top : ℕ) (p : 0 < F) (s : Sound F ws top) 
   term-unique-of : (u : ℕ → Expr) (b : Cell) (c : ℕ) → TermIn F c b
       → ((x : ℕ) → F ≤ x → x < c → u x ≡ term (at ws) (length ws) x) → termOf u b ≡ termOf (term (at ws) (length ws)) b
   term-unique-of u (code a) c t h = refl
-  term-unique-of u hollow c t h = refl
+  term-unique-of u empty c t h = refl
   term-unique-of u (ends l r) c t h =
       ap (λ (z : Expr). Expr.parens z Expr.nothing) (run-ext u (term (at ws) (length ws)) l l (suc r - l)
       (λ j k. h (l + j) (omega (arith, t .0)) (omega (arith, t .1, t .2))))

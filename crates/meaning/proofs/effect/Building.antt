@@ -7,7 +7,7 @@ use native.Mathlib.Nat.{le-refl, le-trans, not-suc-le-zero, add-assoc}
 use native.Mathlib.Omega.{arith}
 use lib.ListN.{length}
 use Rattle.meaning.specs.Expr.{Expr, nothing, symbol, parens, append, terms}
-use Rattle.meaning.specs.Sound.{IsCode, Cell, code, hollow, ends, at, Sound}
+use Rattle.meaning.specs.Sound.{IsCode, Cell, code, empty, ends, at, Sound}
 use Rattle.meaning.specs.Meaning.{run, inside, termOf, term, meaning}
 use Rattle.meaning.specs.Check.{size}
 use Rattle.meaning.specs.Call.{SYMBOL, WRAP, JOIN, put, copies, newSymbol, newBracket, newRunOf, newRun, share}
@@ -123,9 +123,9 @@ module _ (F : ℕ) (p : 0 < F) (e : ℕ → Expr) (fs : Facts) (ws : List ℕ) (
       → 0 < size x → 0 < size y → 2 * (top + (size x + size y)) ≤ length ws → (j : ℕ) → size x + size y ≡ j
       → Acts F e (does JOIN e fs d a b) j ws top (newRunOf d x y ws top)
   cells-act d a b g ga gb h ha hb (code i) y u v t t′ z z′ q j n = absurd t
-  cells-act d a b g ga gb h ha hb hollow y u v t t′ z z′ q j n = absurd (not-suc-le-zero z)
+  cells-act d a b g ga gb h ha hb empty y u v t t′ z z′ q j n = absurd (not-suc-le-zero z)
   cells-act d a b g ga gb h ha hb (ends l r) (code i) u v t t′ z z′ q j n = absurd t′
-  cells-act d a b g ga gb h ha hb (ends l r) hollow u v t t′ z z′ q j n = absurd (not-suc-le-zero z′)
+  cells-act d a b g ga gb h ha hb (ends l r) empty u v t t′ z z′ q j n = absurd (not-suc-le-zero z′)
   cells-act d a b g ga gb h ha hb (ends l r) (ends l′ r′) u v t t′ z z′ q j n =
       run-acts l r l′ r′ t t′ q d a b g ga gb h ha hb u v j n
 

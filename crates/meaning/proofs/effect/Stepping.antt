@@ -11,7 +11,7 @@ use lib.ListN.{length}
 use borrow.Author.Tests.{ltb-true, ltb-false}
 use Rattle.meaning.specs.Expr.{Expr, nothing, symbol, parens, append, terms, firstTerm, lessFirst, opened}
 use Rattle.meaning.specs.Expr.{firstCode}
-use Rattle.meaning.specs.Sound.{Cell, code, hollow, ends, at, Sound}
+use Rattle.meaning.specs.Sound.{Cell, code, empty, ends, at, Sound}
 use Rattle.meaning.specs.Meaning.{run, inside, termOf, term, meaning}
 use Rattle.meaning.specs.Check.{done, refused, size, only}
 use Rattle.meaning.specs.Call.{Op, CLEAR, COPY, SYMBOL, WRAP, JOIN, HEAD, REST, OPEN, LENGTH, FIRST, LIVE}
@@ -26,32 +26,32 @@ use Rattle.meaning.proofs.effect.Effects.{Denote, Acts, meaning-at, set
 
 terms-one : (t : ℕ → Expr) (b : Cell) → terms (termOf t b) ≡ 1
 terms-one t (code a) = refl
-terms-one t hollow = refl
+terms-one t empty = refl
 terms-one t (ends l r) = refl
 
 first-front : (t : ℕ → Expr) (b : Cell) (x : Expr) → firstTerm (append (termOf t b) x) ≡ termOf t b
 first-front t (code a) x = refl
-first-front t hollow x = refl
+first-front t empty x = refl
 first-front t (ends l r) x = refl
 
 less-front : (t : ℕ → Expr) (b : Cell) (x : Expr) → lessFirst (append (termOf t b) x) ≡ x
 less-front t (code a) x = refl
-less-front t hollow x = refl
+less-front t empty x = refl
 less-front t (ends l r) x = refl
 
 opened-front : (t : ℕ → Expr) (b : Cell) (x : Expr) → opened (append (termOf t b) x) ≡ inside t b
 opened-front t (code a) x = refl
-opened-front t hollow x = refl
+opened-front t empty x = refl
 opened-front t (ends l r) x = refl
 
 empty-front : (t : ℕ → Expr) (b : Cell) (x : Expr) → onEmpty (append (termOf t b) x) ≡ 0
 empty-front t (code a) x = refl
-empty-front t hollow x = refl
+empty-front t empty x = refl
 empty-front t (ends l r) x = refl
 
 pub wrapped : (t : ℕ → Expr) (F lim : ℕ) (b : Cell) → BracketIn F lim b → termOf t b ≡ parens (inside t b) nothing
 wrapped t F lim (code a) h = absurd h
-wrapped t F lim hollow h = refl
+wrapped t F lim empty h = refl
 wrapped t F lim (ends l r) h = refl
 
 -- ---- a sound store
@@ -79,7 +79,7 @@ module _ (F : ℕ) (ws : List ℕ) (top : ℕ) (p : 0 < F) (s : Sound F ws top) 
 
   size-inside : (b : Cell) → BracketIn F top b → terms (inside T b) ≡ size b
   size-inside (code a) t = absurd t
-  size-inside hollow t = refl
+  size-inside empty t = refl
   size-inside (ends l r) t = terms-run l (suc r - l) (t .0) (omega (arith, t .1, t .2))
 
   -- the number of terms of a register is its size
@@ -103,8 +103,8 @@ module _ (F : ℕ) (p : 0 < F) (e : ℕ → Expr) (fs : Facts) (ws : List ℕ) (
   held : (a : ℕ) → a < F → e a ≡ inside (T F ws top p s) (at ws a)
   held a h = sym (m a h) ∙ meaning-at F ws top p s a
 
-  pub clear-acts : (a b : ℕ) → d < F → Acts F e (does CLEAR e fs d a b) 0 ws top (done (put ws d hollow) top 0)
-  clear-acts a b l = set 0 refl l hollow tt nothing refl
+  pub clear-acts : (a b : ℕ) → d < F → Acts F e (does CLEAR e fs d a b) 0 ws top (done (put ws d empty) top 0)
+  clear-acts a b l = set 0 refl l empty tt nothing refl
 
   pub copy-acts : (a b : ℕ) → d < F → a < F → Acts F e (does COPY e fs d a b) 0 ws top (share d a ws top)
   unfolding share
@@ -123,7 +123,7 @@ module _ (F : ℕ) (p : 0 < F) (e : ℕ → Expr) (fs : Facts) (ws : List ℕ) (
       → Acts F e (does HEAD e fs d a b) 0 ws top (head ws top d k)
   unfolding head
   head-at a b h (code c) t q = absurd t
-  head-at a b h hollow t q = refuse (does HEAD e fs d a b) 13 (rw q refl)
+  head-at a b h empty t q = refuse (does HEAD e fs d a b) 13 (rw q refl)
   head-at a b h (ends l r) t q =
       let f = front-at a l r t q in
       let one : suc l - l ≡ 1 = omega arith in
@@ -133,13 +133,13 @@ module _ (F : ℕ) (p : 0 < F) (e : ℕ → Expr) (fs : Facts) (ws : List ℕ) (
       (append-nothing (T F ws top p s l) ∙ term-law F ws top p s l (t .0) (omega (arith, t .1, t .2))))
 
   rest-cell : (l r : ℕ) → BracketIn F top (ends l r)
-      → BracketIn F top (cond (ltb l r) (ends (suc l) r) hollow) ×
-      (inside (T F ws top p s) (cond (ltb l r) (ends (suc l) r) hollow) ≡ run (T F ws top p s) (suc l) (r - l))
+      → BracketIn F top (cond (ltb l r) (ends (suc l) r) empty) ×
+      (inside (T F ws top p s) (cond (ltb l r) (ends (suc l) r) empty) ≡ run (T F ws top p s) (suc l) (r - l))
   rest-cell l r t = go (ltb l r) refl
     where
       go : (u : Bool) → ltb l r ≡ u
-          → BracketIn F top (cond u (ends (suc l) r) hollow) ×
-          (inside (T F ws top p s) (cond u (ends (suc l) r) hollow) ≡ run (T F ws top p s) (suc l) (r - l))
+          → BracketIn F top (cond u (ends (suc l) r) empty) ×
+          (inside (T F ws top p s) (cond u (ends (suc l) r) empty) ≡ run (T F ws top p s) (suc l) (r - l))
       go true v = ((omega (arith, t .0), ltb-true l r v, t .2), rw (suc-sub-suc r l) refl)
       go false v = let z : r - l ≡ 0 = omega (arith, ltb-false l r v) in (tt, rw z refl)
 
@@ -147,21 +147,21 @@ module _ (F : ℕ) (p : 0 < F) (e : ℕ → Expr) (fs : Facts) (ws : List ℕ) (
       → Acts F e (does REST e fs d a b) 0 ws top (rest ws top d k)
   unfolding rest
   rest-at a b h (code c) t q = absurd t
-  rest-at a b h hollow t q = refuse (does REST e fs d a b) 13 (rw q refl)
+  rest-at a b h empty t q = refuse (does REST e fs d a b) 13 (rw q refl)
   rest-at a b h (ends l r) t q =
       let f = front-at a l r t q in
       let c = rest-cell l r t in
       set (onEmpty (e a)) (rw (f, empty-front (T F ws top p s) (at ws l) (run (T F ws top p s) (suc l) (r - l))) refl) h
-      (cond (ltb l r) (ends (suc l) r) hollow) (c .0) (lessFirst (e a))
+      (cond (ltb l r) (ends (suc l) r) empty) (c .0) (lessFirst (e a))
       (c .1 ∙ rw (f, less-front (T F ws top p s) (at ws l) (run (T F ws top p s) (suc l) (r - l))) refl)
 
   open-term : (a b x : ℕ) → d < F → F ≤ x → x < top → (k : Cell) (y : Expr) → TermIn F x k → at ws x ≡ k
       → e a ≡ append (termOf (T F ws top p s) k) y → Acts F e (does OPEN e fs d a b) 0 ws top (openTerm ws top d x k)
   unfolding openTerm
   open-term a b x h f g (code c) y t w q = refuse (does OPEN e fs d a b) 14 (rw q refl)
-  open-term a b x h f g hollow y t w q =
+  open-term a b x h f g empty y t w q =
       rw (copy-put F ws top d x p s g, w)
-      (set (onOpen (e a)) (rw q refl) h hollow tt (opened (e a)) (rw q refl))
+      (set (onOpen (e a)) (rw q refl) h empty tt (opened (e a)) (rw q refl))
   open-term a b x h f g (ends l r) y t w q =
       rw (copy-put F ws top d x p s g, w)
       (set (onOpen (e a)) (rw q refl) h (ends l r) (t .0, t .1, omega (arith, t .2)) (opened (e a)) (rw q refl))
@@ -170,7 +170,7 @@ module _ (F : ℕ) (p : 0 < F) (e : ℕ → Expr) (fs : Facts) (ws : List ℕ) (
       → Acts F e (does OPEN e fs d a b) 0 ws top (openFirst ws top d k)
   unfolding openFirst
   open-at a b h (code c) t q = absurd t
-  open-at a b h hollow t q = refuse (does OPEN e fs d a b) 13 (rw q refl)
+  open-at a b h empty t q = refuse (does OPEN e fs d a b) 13 (rw q refl)
   open-at a b h (ends l r) t q =
       let g : l < top = omega (arith, t .1, t .2) in
       open-term a b l h (t .0) g (at ws l) (run (T F ws top p s) (suc l) (r - l))
@@ -180,14 +180,14 @@ module _ (F : ℕ) (p : 0 < F) (e : ℕ → Expr) (fs : Facts) (ws : List ℕ) (
       → Acts F e (does FIRST e fs d a b) 0 ws top (codeTerm ws top k)
   unfolding codeTerm
   code-term a b (code c) y q = tell (onFirst (e a)) (firstCode (e a)) c false (rw q refl) (rw q refl)
-  code-term a b hollow y q = refuse (does FIRST e fs d a b) 14 (rw q refl)
+  code-term a b empty y q = refuse (does FIRST e fs d a b) 14 (rw q refl)
   code-term a b (ends l r) y q = refuse (does FIRST e fs d a b) 14 (rw q refl)
 
   pub code-at : (a b : ℕ) (k : Cell) → BracketIn F top k → e a ≡ inside (T F ws top p s) k
       → Acts F e (does FIRST e fs d a b) 0 ws top (codeFirst ws top k)
   unfolding codeFirst
   code-at a b (code c) t q = absurd t
-  code-at a b hollow t q = refuse (does FIRST e fs d a b) 13 (rw q refl)
+  code-at a b empty t q = refuse (does FIRST e fs d a b) 13 (rw q refl)
   code-at a b (ends l r) t q = code-term a b (at ws l) (run (T F ws top p s) (suc l) (r - l)) (front-at a l r t q)
 
   pub length-acts : (a b : ℕ) → a < F → Acts F e (does LENGTH e fs d a b) 0 ws top (done ws top (size (at ws a)))

@@ -27,10 +27,10 @@ use Rattle.meaning.proofs.effect.Effects.{Denote, Others, meaning-at}
 use Rattle.meaning.proofs.effect.Stepping.{clear-acts, copy-acts, head-at, rest-at, open-at, code-at, length-acts}
 use Rattle.meaning.proofs.effect.Stepping.{live-acts, collect-acts, size-terms, unfit-small}
 use Rattle.meaning.proofs.effect.Building.{symbol-acts, wrap-acts, join-left-acts, join-right-acts, join-both-acts}
-use Rattle.meaning.proofs.call.Uses.{keeps-a, keeps-b, unkept-register, Right, right, is-register, is-code}
+use Rattle.meaning.proofs.call.Uses.{keeps-a, keeps-b, unkept-register, WordsRight, right, is-register, is-code}
 use Rattle.meaning.proofs.call.Uses.{fault-small}
 use Rattle.meaning.proofs.call.Plans.{sought-sound, sought-length, sought-meaning, planLacks, planTop, topAfter}
-use Rattle.meaning.proofs.call.Plans.{WordsAfter, Meets, Does, carry-meets}
+use Rattle.meaning.proofs.call.Plans.{WordsAfter, PlanMeets, PlanDoes, carry-meets}
 
 -- ---- a call whose own words are right
 
@@ -46,14 +46,14 @@ module _ (F : ℕ) (ws : List ℕ) (top : ℕ) (p : 0 < F) (s : Sound F ws top) 
 
   -- ---- the store in which the call seeks room
 
-  pub sound-by : (o : Op) → Right F o d a b → Sound F (soughtBy o d a b ws) top
+  pub sound-by : (o : Op) → WordsRight F o d a b → Sound F (soughtBy o d a b ws) top
   sound-by o q = sought-sound F ws top p s (keeps o d a b) d (unkept-register o d a b F q)
 
   pub length-by : (o : Op) → length (soughtBy o d a b ws) ≡ length ws
   length-by o = sought-length (keeps o d a b) d ws
 
   -- in a store u that denotes what it denotes, an operand register and every register but d denote what they did
-  module _ (o : Op) (q : Right F o d a b) (u : List ℕ) (m : Denote F u (meaning (soughtBy o d a b ws))) where
+  module _ (o : Op) (q : WordsRight F o d a b) (u : List ℕ) (m : Denote F u (meaning (soughtBy o d a b ws))) where
     as-before : (i : ℕ) → i < F → (i ≡ d → keeps o d a b ≡ true) → meaning u i ≡ meaning ws i
     as-before i h k = m i h ∙ sought-meaning F ws top p s (keeps o d a b) d (unkept-register o d a b F q) i h k
 
@@ -79,8 +79,8 @@ module _ (F : ℕ) (ws : List ℕ) (top : ℕ) (p : 0 < F) (s : Sound F ws top) 
 
   -- ---- what each plan does
 
-  join-does : Right F JOIN d a b → d < F → a < F → b < F → (n m : ℕ) → size (at ws a) ≡ n → size (at ws b) ≡ m
-      → Does F ws top (does JOIN e fs d a b) (joinPlan n m (soughtBy JOIN d a b ws) d a b)
+  join-does : WordsRight F JOIN d a b → d < F → a < F → b < F → (n m : ℕ) → size (at ws a) ≡ n → size (at ws b) ≡ m
+      → PlanDoes F ws top (does JOIN e fs d a b) (joinPlan n m (soughtBy JOIN d a b ws) d a b)
   unfolding uses
   join-does q hd ha hb zero m x y = join-left-acts F p e fs ws top s d a b (λ i h g. refl) refl refl hd ha hb x
   join-does q hd ha hb (suc n) zero x y = join-right-acts F p e fs ws top s d a b (λ i h g. refl) refl refl hd ha hb y
@@ -95,7 +95,7 @@ module _ (F : ℕ) (ws : List ℕ) (top : ℕ) (p : 0 < F) (s : Sound F ws top) 
         (operand-b JOIN q u f refl hb) hd ha hb (omega arith) (omega arith) (suc n + suc m) (omega arith) r,
   )
 
-  plan-does : (o : Op) → Right F o d a b → Does F ws top (does o e fs d a b) (planOf o F ws top d a b)
+  plan-does : (o : Op) → WordsRight F o d a b → PlanDoes F ws top (does o e fs d a b) (planOf o F ws top d a b)
   unfolding planOf uses
   plan-does CLEAR q = clear-acts F p e fs ws top s d still a b (is-register F d (q .d11))
   plan-does COPY q = copy-acts F p e fs ws top s d still a b (is-register F d (q .d11)) (is-register F a (q .a11))
@@ -133,8 +133,8 @@ module _ (F : ℕ) (ws : List ℕ) (top : ℕ) (p : 0 < F) (s : Sound F ws top) 
         (collected-sound F ws top p s) d (meaning-kept F ws top p s) a b),
   )
 
-  perform-meets : (o : Op) → Right F o d a b
-      → Meets F ws top (does o e fs d a b) (planOf o F ws top d a b) (perform o F ws top d a b)
+  perform-meets : (o : Op) → WordsRight F o d a b
+      → PlanMeets F ws top (does o e fs d a b) (planOf o F ws top d a b) (perform o F ws top d a b)
   unfolding perform
   perform-meets o q =
       carry-meets F ws top p s (does o e fs d a b) (unfit-small o e fs d a b) (planOf o F ws top d a b) (plan-does o q)
@@ -144,7 +144,7 @@ module _ (F : ℕ) (ws : List ℕ) (top : ℕ) (p : 0 < F) (s : Sound F ws top) 
   abbrev short : Op → ℕ → Bool
   short o n = ltb (capacity ws) (F + live F (soughtBy o d a b ws) top + n)
 
-  pub no-need : (o : Op) → Right F o d a b → false ≡ short o 0
+  pub no-need : (o : Op) → WordsRight F o d a b → false ≡ short o 0
   no-need o q = sym (le-ltb (capacity ws) (F + live F (soughtBy o d a b ws) top + 0)
       (omega (arith, live-le F (soughtBy o d a b ws) top p (sound-by o q), s .high)))
 
@@ -152,14 +152,14 @@ module _ (F : ℕ) (ws : List ℕ) (top : ℕ) (p : 0 < F) (s : Sound F ws top) 
   unfolding lacks
   some-need o n = rw (length-by o) refl
 
-  join-need : Right F JOIN d a b → (n m : ℕ)
+  join-need : WordsRight F JOIN d a b → (n m : ℕ)
       → planLacks F (joinPlan n m (soughtBy JOIN d a b ws) d a b) ws top ≡ short JOIN (joinNeed n m)
   unfolding planLacks
   join-need q zero m = no-need JOIN q
   join-need q (suc n) zero = no-need JOIN q
   join-need q (suc n) (suc m) = some-need JOIN (suc n + suc m)
 
-  lacks-need : (o : Op) → Right F o d a b
+  lacks-need : (o : Op) → WordsRight F o d a b
       → planLacks F (planOf o F ws top d a b) ws top ≡ short o (does o e fs d a b .need)
   unfolding planLacks planOf uses
   lacks-need CLEAR q = no-need CLEAR q
@@ -232,11 +232,11 @@ pub data Batch (F : ℕ) : List ℕ → ℕ → List ℕ → List ℕ → List �
       → Batch F (r .words) (r .top) cs ans ws′ top′
       → Batch F ws top (o ∷ d ∷ a ∷ b ∷ cs) (r .verdict .status ∷ r .verdict .value ∷ ans) ws′ top′
 
-pub data Fours : List ℕ → Type 0 where
-  none : Fours []
-  four : {o d a b : ℕ} {cs : List ℕ} → Fours cs → Fours (o ∷ d ∷ a ∷ b ∷ cs)
+pub data WholeCalls : List ℕ → Type 0 where
+  none : WholeCalls []
+  four : {o d a b : ℕ} {cs : List ℕ} → WholeCalls cs → WholeCalls (o ∷ d ∷ a ∷ b ∷ cs)
 
-pub runs-batch : (F : ℕ) (p : 0 < F) (ws : List ℕ) (top : ℕ) {cs : List ℕ} → Fours cs → Sound F ws top
+pub runs-batch : (F : ℕ) (p : 0 < F) (ws : List ℕ) (top : ℕ) {cs : List ℕ} → WholeCalls cs → Sound F ws top
     → Batch F ws top cs (runs F ws top cs .answers) (runs F ws top cs .words) (runs F ws top cs .top)
 runs-batch F p ws top none s = ended
 runs-batch F p ws top (four {o} {d} {a} {b} {cs} c) s =

@@ -5,10 +5,10 @@ use Prim.Native.Nat.{ℕ, zero, suc, _+_, _-_, _≤_, _<_}
 use native.Mathlib.Nat.{not-suc-le-zero, zero-add, suc-add, add-zero, add-suc}
 use native.Mathlib.Omega.{arith}
 use Rattle.meaning.specs.Expr.{Expr, nothing, symbol, parens, append, terms}
-use Rattle.meaning.specs.Sound.{Cell, code, hollow, ends}
+use Rattle.meaning.specs.Sound.{Cell, code, empty, ends}
 use Rattle.meaning.specs.Meaning.{run, inside, termOf, term}
 use Rattle.meaning.specs.Collected.{mapEnds}
-use Rattle.meaning.proofs.sound.Cells.{Good, TermIn}
+use Rattle.meaning.proofs.sound.Cells.{SoundCells, TermIn}
 
 pub append-nothing : (e : Expr) → append e nothing ≡ e
 append-nothing nothing = refl
@@ -44,7 +44,7 @@ run-ext t u l m (suc n) h =
 -- f goes along with the run of a bracket: its cells, of which P holds, are mapped to a run
 abbrev pub Along : (ℕ → Type 0) → (ℕ → ℕ) → Cell → Type 0
 Along P f (code a) = Unit {0}
-Along P f hollow = Unit {0}
+Along P f empty = Unit {0}
 Along P f (ends l r) = (j : ℕ) → l + j ≤ r → P (l + j) × (f (l + j) ≡ f l + j)
 
 length-along : (P : ℕ → Type 0) (f : ℕ → ℕ) (l r : ℕ) → l ≤ r → Along P f (ends l r) → suc (f r) - f l ≡ suc r - l
@@ -60,12 +60,12 @@ module _ (P : ℕ → Type 0) (f : ℕ → ℕ) (t u : ℕ → Expr) (same : (c 
 
   pub inside-along : (F lim : ℕ) (b : Cell) → TermIn F lim b → Along P f b → inside t b ≡ inside u (mapEnds f b)
   inside-along F lim (code s) g a = refl
-  inside-along F lim hollow g a = refl
+  inside-along F lim empty g a = refl
   inside-along F lim (ends l r) g a = rw (length-along P f l r (g .1) a) (run-along l r a)
 
   pub termOf-along : (F lim : ℕ) (b : Cell) → TermIn F lim b → Along P f b → termOf t b ≡ termOf u (mapEnds f b)
   termOf-along F lim (code s) g a = refl
-  termOf-along F lim hollow g a = refl
+  termOf-along F lim empty g a = refl
   termOf-along F lim (ends l r) g a =
       rw (length-along P f l r (g .1) a) (ap (λ (x : Expr). parens x nothing) (run-along l r a))
 
@@ -81,11 +81,11 @@ term-along P f k k′ F lim h (suc n) c p =
 
 -- ---- depth: in a sound store no more than c brackets lie within one another in cell c
 
-module _ (F : ℕ) (k : ℕ → Cell) (top : ℕ) (g : Good F k top) where
+module _ (F : ℕ) (k : ℕ → Cell) (top : ℕ) (g : SoundCells F k top) where
   depth-of : (b : Cell) (c n m : ℕ) → c ≤ top → TermIn F c b
       → ((x : ℕ) → F ≤ x → x < c → term k n x ≡ term k m x) → termOf (term k n) b ≡ termOf (term k m) b
   depth-of (code a) c n m l h e = refl
-  depth-of hollow c n m l h e = refl
+  depth-of empty c n m l h e = refl
   depth-of (ends x y) c n m l h e =
       ap (λ (z : Expr). parens z nothing) (run-ext (term k n) (term k m) x x (suc y - x)
       (λ j p. e (x + j) (omega (arith, h .0)) (omega (arith, h .1, h .2))))

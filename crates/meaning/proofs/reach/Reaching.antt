@@ -9,11 +9,11 @@ use native.Mathlib.Nat.{le-refl, not-suc-le-zero, le-of-suc-le-suc, eq-or-lt-of-
 use native.Mathlib.Omega.{arith}
 use lib.Dec.{leb}
 use borrow.Author.Tests.{leb-true, le-leb}
-use Rattle.meaning.specs.Sound.{Cell, code, hollow, ends, at, Sound}
+use Rattle.meaning.specs.Sound.{Cell, code, empty, ends, at, Sound}
 use Rattle.meaning.specs.Reach.{Between, Reached, byRegister, byBracket, between, heldBelow, heldIn, consIf}
 use Rattle.meaning.specs.Reach.{reachedOf, reached, live}
 use Rattle.meaning.proofs.Lists.{In, Asc, asc-weaken, asc-length}
-use Rattle.meaning.proofs.sound.Cells.{Good, TermIn, BracketIn, good}
+use Rattle.meaning.proofs.sound.Cells.{SoundCells, TermIn, BracketIn, good}
 
 -- ---- the tests
 
@@ -31,7 +31,7 @@ or-cases false b e = inr e
 
 between-to : (b : Cell) (c : ℕ) → between b c ≡ true → Between b c
 between-to (code a) c e = absurd (false≢true e)
-between-to hollow c e = absurd (false≢true e)
+between-to empty c e = absurd (false≢true e)
 between-to (ends l r) c e = go (leb l c) (leb c r) refl refl e
   where
     go : (s t : Bool) → leb l c ≡ s → leb c r ≡ t → (s && t) ≡ true → (l ≤ c) × (c ≤ r)
@@ -41,7 +41,7 @@ between-to (ends l r) c e = go (leb l c) (leb c r) refl refl e
 
 between-of : (b : Cell) (c : ℕ) → Between b c → between b c ≡ true
 between-of (code a) c h = absurd h
-between-of hollow c h = absurd h
+between-of empty c h = absurd h
 between-of (ends l r) c h = rw (le-leb l c (h .0), le-leb c r (h .1)) refl
 
 below-to : (k : ℕ → Cell) (n c : ℕ) → heldBelow k n c ≡ true → (i : ℕ) × (i < n) × Between (k i) c
@@ -132,15 +132,15 @@ module _ (F : ℕ) (k : ℕ → Cell) (top : ℕ) where
       go (inl p) r = omega (arith, p .1)
       go (inr j) r = r j
 
-  module _ (g : Good F k top) where
+  module _ (g : SoundCells F k top) where
     between-reg : (b : Cell) (c : ℕ) → BracketIn F top b → Between b c → (F ≤ c) × (c < top)
     between-reg (code a) c h q = absurd q
-    between-reg hollow c h q = absurd q
+    between-reg empty c h q = absurd q
     between-reg (ends l r) c h q = (omega (arith, h .0, q .0), omega (arith, h .2, q .1))
 
     between-term : (b : Cell) (x c : ℕ) → TermIn F x b → Between b c → (F ≤ c) × (c < x)
     between-term (code a) x c h q = absurd q
-    between-term hollow x c h q = absurd q
+    between-term empty x c h q = absurd q
     between-term (ends l r) x c h q = (omega (arith, h .0, q .0), omega (arith, h .2, q .1))
 
     -- a reached cell is an occupied heap cell

@@ -11,7 +11,7 @@ use lib.Dec.{ltb}
 use lib.ListN.{length, getD}
 use borrow.Author.Tests.{leb-true, ltb-true, ltb-false, le-ltb}
 use Rattle.meaning.specs.Limits.{codeTest, limit}
-use Rattle.meaning.specs.Sound.{IsCode, Cell, code, hollow, ends, fst, snd, bracketOf, cellOf, at, IsBracket}
+use Rattle.meaning.specs.Sound.{IsCode, Cell, code, empty, ends, fst, snd, bracketOf, cellOf, at, IsBracket}
 use Rattle.meaning.specs.Sound.{isEmpty, isFull, IsTerm, isSymbol, isBracket, Sound}
 
 -- All that the code needs to know of the limit: an address fits the 28 bits of a right end.
@@ -26,21 +26,21 @@ code-fits a h = omega (arith, leb-true a 268435455 h)
 
 abbrev pub BracketIn : ℕ → ℕ → Cell → Type 0
 BracketIn F lim (code a) = ⊥
-BracketIn F lim hollow = Unit {0}
+BracketIn F lim empty = Unit {0}
 BracketIn F lim (ends l r) = (F ≤ l) × (l ≤ r) × (r < lim)
 
 abbrev pub TermIn : ℕ → ℕ → Cell → Type 0
 TermIn F lim (code a) = IsCode a
-TermIn F lim hollow = Unit {0}
+TermIn F lim empty = Unit {0}
 TermIn F lim (ends l r) = (F ≤ l) × (l ≤ r) × (r < lim)
 
-pub record Good (F : ℕ) (k : ℕ → Cell) (top : ℕ) : Type 0 where
+pub record SoundCells (F : ℕ) (k : ℕ → Cell) (top : ℕ) : Type 0 where
   pub regs : (i : ℕ) → i < F → BracketIn F top (k i)
   pub heap : (c : ℕ) → F ≤ c → c < top → TermIn F c (k c)
 
 pub term-of-bracket : (F lim : ℕ) (k : Cell) → BracketIn F lim k → TermIn F lim k
 term-of-bracket F lim (code a) h = absurd h
-term-of-bracket F lim hollow h = h
+term-of-bracket F lim empty h = h
 term-of-bracket F lim (ends l r) h = h
 
 -- two words as a cell
@@ -61,17 +61,17 @@ read-ends l r h =
 pub read-words : (F lim : ℕ) (k : Cell) → 0 < F → TermIn F lim k → read (fst k) (snd k) ≡ k
 unfolding read
 read-words F lim (code a) p h = refl
-read-words F lim hollow p h = refl
+read-words F lim empty p h = refl
 read-words F lim (ends l r) p h = read-ends l r (omega (arith, h .0, h .1))
 
 pub is-bracket : (F lim : ℕ) (k : Cell) → BracketIn F lim k → IsBracket F lim (fst k) (snd k)
 is-bracket F lim (code a) h = absurd h
-is-bracket F lim hollow h = isEmpty
+is-bracket F lim empty h = isEmpty
 is-bracket F lim (ends l r) h = isFull (h .0) (h .1) (h .2)
 
 pub is-term : (F lim : ℕ) (k : Cell) → TermIn F lim k → IsTerm F lim (fst k) (snd k)
 is-term F lim (code a) h = isSymbol h
-is-term F lim hollow h = isBracket isEmpty
+is-term F lim empty h = isBracket isEmpty
 is-term F lim (ends l r) h = isBracket (isFull (h .0) (h .1) (h .2))
 
 -- a cell with its two words
@@ -85,7 +85,7 @@ words-of P a b k e h p q = record { good = rw e h; one = rw e p; two = rw e q }
 
 pub bracket-words : (F lim a b : ℕ) → 0 < F → IsBracket F lim a b → Words (BracketIn F lim) a b
 unfolding read
-bracket-words F lim a b p isEmpty = words-of (BracketIn F lim) 0 2147483648 hollow refl tt refl refl
+bracket-words F lim a b p isEmpty = words-of (BracketIn F lim) 0 2147483648 empty refl tt refl refl
 bracket-words F lim a b p (isFull {l} {r} x y z) =
     words-of (BracketIn F lim) l (2147483648 + r) (ends l r) (read-ends l r (omega arith)) (x, y, z) refl refl
 
@@ -121,7 +121,7 @@ free-words F ws top s i l h =
     words-of-cells (λ j. getD ws j 0 ≡ 0) top (length ws / 2) (λ c f g. s .free c f g) i l (omega (arith, s .even))
 
 module _ (F : ℕ) (ws : List ℕ) (top : ℕ) (p : 0 < F) (s : Sound F ws top) where
-  pub good : Good F (at ws) top
+  pub good : SoundCells F (at ws) top
   unfolding at read
   good = record {
     regs = λ i h. bracket-words F top (getD ws (2 * i) 0) (getD ws (2 * i + 1) 0) p (s .registers i h) .good;

@@ -19,7 +19,7 @@ use borrow.Author.Tests.{ne-eqb}
 use Rattle.words.specs.Cell.{firstWord, secondWord}
 use Rattle.words.specs.Second.{Second, decode, plain}
 use Rattle.words.proofs.Plain.{decode-zero, decode-bracket}
-use Rattle.meaning.specs.Sound.{Cell, code, hollow, ends, fst, snd, at, Sound}
+use Rattle.meaning.specs.Sound.{Cell, code, empty, ends, fst, snd, at, Sound}
 use Rattle.meaning.proofs.Lists.{lt-or-ge}
 use Rattle.meaning.proofs.sound.Cells.{limit-fits, code-fits, TermIn, term-of-bracket, good}
 use Rattle.meaning.proofs.sound.Cells.{read, Words, bracket-words, term-words}
@@ -32,28 +32,28 @@ full f = f .br && not (eqb (f .ri) 0)
 
 abbrev pub Fields : Cell → ℕ → Second → Type 0
 Fields (code a) x s = (x ≡ a) × (s ≡ plain false 0) × (a < 2 ^ 28)
-Fields hollow x s = (x ≡ 0) × (s ≡ plain true 0)
+Fields empty x s = (x ≡ 0) × (s ≡ plain true 0)
 Fields (ends l r) x s = (x ≡ l) × (s ≡ plain true r) × (0 < r)
 
 -- a cell whose numbers fit: all that is asked of one past the end
 abbrev Fitting : ℕ → ℕ → Cell → Type 0
 Fitting F lim (code a) = a < 2 ^ 28
-Fitting F lim hollow = Unit {0}
+Fitting F lim empty = Unit {0}
 Fitting F lim (ends l r) = (F ≤ l) × (l ≤ r) × (r < lim)
 
 fitting : (F lim lim′ : ℕ) (k : Cell) → lim ≤ lim′ → TermIn F lim k → Fitting F lim′ k
 fitting F lim lim′ (code a) m h = code-fits a h
-fitting F lim lim′ hollow m h = h
+fitting F lim lim′ empty m h = h
 fitting F lim lim′ (ends l r) m h = (h .0, h .1, omega (arith, h .2))
 
 fields-of : (F lim : ℕ) (k : Cell) → 0 < F → lim ≤ 2 ^ 28 → Fitting F lim k → Fields k (fst k) (decode (snd k))
 fields-of F lim (code a) p m h = (refl, decode-zero, h)
-fields-of F lim hollow p m h = (refl, decode-bracket 0 (omega arith))
+fields-of F lim empty p m h = (refl, decode-bracket 0 (omega arith))
 fields-of F lim (ends l r) p m h = (refl, decode-bracket r (omega (arith, h .2)), omega (arith, h .0, h .1))
 
 snd-lt : (F lim : ℕ) (k : Cell) → lim ≤ 2 ^ 28 → Fitting F lim k → snd k < 2 ^ 32
 snd-lt F lim (code a) m h = omega arith
-snd-lt F lim hollow m h = omega arith
+snd-lt F lim empty m h = omega arith
 snd-lt F lim (ends l r) m h = omega (arith, h .2)
 
 no-words : (F lim : ℕ) → Words (Fitting F lim) 0 0
@@ -136,7 +136,7 @@ module _ (F : ℕ) (ws : List ℕ) (top : ℕ) (p : 0 < F) (s : Sound F ws top) 
     said-plain : (k : Cell) → Said k
         → decode (secondWord ws c) ≡ plain (decode (secondWord ws c) .br) (decode (secondWord ws c) .ri)
     said-plain (code a) h = rw (h .1) refl
-    said-plain hollow h = rw (h .1) refl
+    said-plain empty h = rw (h .1) refl
     said-plain (ends l r) h = rw (h .1) refl
 
     pub cell-plain : decode (secondWord ws c) ≡ plain (decode (secondWord ws c) .br) (decode (secondWord ws c) .ri)
@@ -147,7 +147,7 @@ module _ (F : ℕ) (ws : List ℕ) (top : ℕ) (p : 0 < F) (s : Sound F ws top) 
     said-full : (k : Cell) → at ws c ≡ k → Said k → full (decode (secondWord ws c)) ≡ true
         → at ws c ≡ ends (firstWord ws c) (decode (secondWord ws c) .ri)
     said-full (code a) e h t = absurd (false≢true (sym (ap full (h .1)) ∙ t))
-    said-full hollow e h t = absurd (false≢true (sym (ap full (h .1)) ∙ t))
+    said-full empty e h t = absurd (false≢true (sym (ap full (h .1)) ∙ t))
     said-full (ends l r) e h t = e ∙ rw (h .0, h .1) refl
 
     pub full-ends : full (decode (secondWord ws c)) ≡ true

@@ -8,7 +8,7 @@ use native.Mathlib.Nat.{le-refl, le-trans}
 use native.Mathlib.Omega.{arith}
 use lib.Dec.{ltb}
 use borrow.Author.Tests.{ltb-true, ltb-false, lt-ltb, le-ltb}
-use Rattle.meaning.specs.Sound.{Cell, code, hollow, ends, at, Sound}
+use Rattle.meaning.specs.Sound.{Cell, code, empty, ends, at, Sound}
 use Rattle.meaning.specs.Reach.{reached, live}
 use Rattle.meaning.specs.Collected.{mapEnds, newAddress, collected, collectedTop}
 use Rattle.meaning.specs.Check.{Verdict, Done, done, refused, only, size}
@@ -65,7 +65,7 @@ module _ (F : ℕ) (ws : List ℕ) (top : ℕ) (p : 0 < F) (s : Sound F ws top) 
 
   pub size-moved : (lim : ℕ) (b : Cell) → TermIn F lim b → Along P new b → size (mapEnds new b) ≡ size b
   size-moved lim (code c) t a = refl
-  size-moved lim hollow t a = refl
+  size-moved lim empty t a = refl
   size-moved lim (ends l r) t a = omega (arith, last-moved l r (t .1) a, t .1)
 
   pub moved-in : (lim : ℕ) (l r : ℕ) → TermIn F lim (ends l r) → Along P new (ends l r)
@@ -91,7 +91,7 @@ module _ (F : ℕ) (ws : List ℕ) (top : ℕ) (p : 0 < F) (s : Sound F ws top) 
       → Agree F (head ws top d b) (head ws′ top′ d (mapEnds new b))
   unfolding head
   head-agree d l (code c) t a = absurd t
-  head-agree d l hollow t a = refuse-both (only 14)
+  head-agree d l empty t a = refuse-both (only 14)
   head-agree d l (ends x y) t a =
       put-both d l (ends x x) (ends (new x) (new x)) (t .0, le-refl x, omega (arith, t .1, t .2))
       (new-low F ws top p s x, le-refl (new x), new-high F ws top p s x (first-in x y (t .1) a))
@@ -111,12 +111,12 @@ module _ (F : ℕ) (ws : List ℕ) (top : ℕ) (p : 0 < F) (s : Sound F ws top) 
       → Agree F (rest ws top d b) (rest ws′ top′ d (mapEnds new b))
   unfolding rest
   rest-agree d l (code c) t a = absurd t
-  rest-agree d l hollow t a = refuse-both (only 14)
+  rest-agree d l empty t a = refuse-both (only 14)
   rest-agree d l (ends x y) t a = go (ltb x y) refl
     where
       go : (u : Bool) → ltb x y ≡ u
-          → Agree F (done (put ws d (cond u (ends (suc x) y) hollow)) top 0)
-          (done (put ws′ d (cond (ltb (new x) (new y)) (ends (suc (new x)) (new y)) hollow)) top′ 0)
+          → Agree F (done (put ws d (cond u (ends (suc x) y) empty)) top 0)
+          (done (put ws′ d (cond (ltb (new x) (new y)) (ends (suc (new x)) (new y)) empty)) top′ 0)
       go true e =
           let m = ltb-true x y e in
           let q = rest-along x y m a in
@@ -126,16 +126,16 @@ module _ (F : ℕ) (ws : List ℕ) (top : ℕ) (p : 0 < F) (s : Sound F ws top) 
           (put-both d l (ends (suc x) y) (ends (new (suc x)) (new y)) (omega (arith, t .0), m, t .2) g (q .0) refl)
       go false e =
           rw (le-ltb (new x) (new y) (omega (arith, last-moved x y (t .1) a, ltb-false x y e)))
-          (put-both d l hollow hollow tt tt tt refl)
+          (put-both d l empty empty tt tt tt refl)
 
   open-agree : (d x : ℕ) → d < F → P x → F ≤ x → x < top → (b : Cell) → at ws x ≡ b → TermIn F x b → Along P new b
       → at ws′ (new x) ≡ mapEnds new b
       → Agree F (openTerm ws top d x b) (openTerm ws′ top′ d (new x) (mapEnds new b))
   unfolding openTerm
   open-agree d x l i f h (code c) e t a q = refuse-both (only 15)
-  open-agree d x l i f h hollow e t a q =
+  open-agree d x l i f h empty e t a q =
       rw (copy-put F ws top d x p s h, copy-put F ws′ top′ d (new x) p s′ (new-high F ws top p s x i), e, q)
-      (put-both d l hollow hollow tt tt tt refl)
+      (put-both d l empty empty tt tt tt refl)
   open-agree d x l i f h (ends y z) e t a q =
       rw (copy-put F ws top d x p s h, copy-put F ws′ top′ d (new x) p s′ (new-high F ws top p s x i), e, q)
       (put-both d l (ends y z) (ends (new y) (new z)) (t .0, t .1, omega (arith, t .2)) (moved-in x y z t a) a refl)
@@ -144,7 +144,7 @@ module _ (F : ℕ) (ws : List ℕ) (top : ℕ) (p : 0 < F) (s : Sound F ws top) 
       → Agree F (openFirst ws top d b) (openFirst ws′ top′ d (mapEnds new b))
   unfolding openFirst
   openFirst-agree d l (code c) t a = absurd t
-  openFirst-agree d l hollow t a = refuse-both (only 14)
+  openFirst-agree d l empty t a = refuse-both (only 14)
   openFirst-agree d l (ends x y) t a =
       let i = first-in x y (t .1) a in
       let h : x < top = omega (arith, t .1, t .2) in
@@ -155,14 +155,14 @@ module _ (F : ℕ) (ws : List ℕ) (top : ℕ) (p : 0 < F) (s : Sound F ws top) 
   code-agree : (b : Cell) → Agree F (codeTerm ws top b) (codeTerm ws′ top′ (mapEnds new b))
   unfolding codeTerm
   code-agree (code c) = done-both c c refl
-  code-agree hollow = refuse-both (only 15)
+  code-agree empty = refuse-both (only 15)
   code-agree (ends x y) = refuse-both (only 15)
 
   codeFirst-agree : (b : Cell) → BracketIn F top b → Along P new b
       → Agree F (codeFirst ws top b) (codeFirst ws′ top′ (mapEnds new b))
   unfolding codeFirst
   codeFirst-agree (code c) t a = absurd t
-  codeFirst-agree hollow t a = refuse-both (only 14)
+  codeFirst-agree empty t a = refuse-both (only 14)
   codeFirst-agree (ends x y) t a = rw (at-new F ws top p s x (first-in x y (t .1) a)) (code-agree (at ws x))
 
   pub size-register : (i : ℕ) → i < F → size (at (collected F ws top) i) ≡ size (at ws i)
@@ -196,5 +196,5 @@ module _ (F : ℕ) (ws : List ℕ) (top : ℕ) (p : 0 < F) (s : Sound F ws top) 
   pub live-same : Agree F (done ws top (live F ws top)) (done ws′ top′ (live F ws′ top′))
   live-same = done-both (live F ws top) (live F ws′ top′) (sym (live-kept F ws top p s))
 
-  pub clear-same : (d : ℕ) → d < F → Agree F (done (put ws d hollow) top 0) (done (put ws′ d hollow) top′ 0)
-  clear-same d l = put-both d l hollow hollow tt tt tt refl
+  pub clear-same : (d : ℕ) → d < F → Agree F (done (put ws d empty) top 0) (done (put ws′ d empty) top′ 0)
+  clear-same d l = put-both d l empty empty tt tt tt refl

@@ -8,7 +8,7 @@ use Prim.Native.Nat.{ℕ, suc, _+_, _-_, _*_, _≤_, _<_}
 use native.Mathlib.Nat.{le-trans, not-suc-le-zero}
 use native.Mathlib.Omega.{arith}
 use lib.ListN.{length}
-use Rattle.meaning.specs.Sound.{IsCode, Cell, code, hollow, ends, at, Sound}
+use Rattle.meaning.specs.Sound.{IsCode, Cell, code, empty, ends, at, Sound}
 use Rattle.meaning.specs.Reach.{reached}
 use Rattle.meaning.specs.Collected.{mapEnds, newAddress, collected, collectedTop}
 use Rattle.meaning.specs.Check.{done, size}
@@ -89,9 +89,9 @@ module _ (F : ℕ) (ws : List ℕ) (top : ℕ) (p : 0 < F) (s : Sound F ws top) 
       → Agree F (newRunOf d x y ws top) (newRunOf d (mapEnds new x) (mapEnds new y) ws′ top′)
   unfolding newRunOf
   run-agree d l (code c) y t u a b z w r = absurd t
-  run-agree d l hollow y t u a b z w r = absurd (not-suc-le-zero z)
+  run-agree d l empty y t u a b z w r = absurd (not-suc-le-zero z)
   run-agree d l (ends x₁ x₂) (code c) t u a b z w r = absurd u
-  run-agree d l (ends x₁ x₂) hollow t u a b z w r = absurd (not-suc-le-zero w)
+  run-agree d l (ends x₁ x₂) empty t u a b z w r = absurd (not-suc-le-zero w)
   run-agree d l (ends x₁ x₂) (ends y₁ y₂) t u a b z w r =
       let n : ℕ = suc x₂ - x₁ in
       let k : ℕ = suc y₂ - y₁ in

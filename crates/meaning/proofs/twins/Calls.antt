@@ -5,13 +5,13 @@ use mathlib.Core.List.{List}
 use Prim.Native.Nat.{ℕ, zero, suc, _+_, _*_, _≤_, _<_}
 use native.Mathlib.Omega.{arith}
 use lib.ListN.{length}
-use Rattle.meaning.specs.Sound.{hollow, at, Sound}
+use Rattle.meaning.specs.Sound.{empty, at, Sound}
 use Rattle.meaning.specs.Reach.{live}
 use Rattle.meaning.specs.Check.{Done, done, size}
 use Rattle.meaning.specs.Call.{Op, CLEAR, COPY, SYMBOL, WRAP, JOIN, HEAD, REST, OPEN, LENGTH, FIRST, LIVE, COLLECT}
 use Rattle.meaning.specs.Call.{uses, fault, put, share, newSymbol, newBracket, newRun, head, rest, openFirst, codeFirst}
-use Rattle.meaning.specs.Call.{keeps, soughtBy, joinPlan, withRoom, planOf, carry, perform, stepAfter, step, opAt}
-use Rattle.meaning.proofs.call.Uses.{Right, right, is-register, is-code, unkept-register}
+use Rattle.meaning.specs.Call.{keeps, soughtBy, joinPlan, withRoom, planOf, carryOut, perform, stepAfter, step, opAt}
+use Rattle.meaning.proofs.call.Uses.{WordsRight, right, is-register, is-code, unkept-register}
 use Rattle.meaning.proofs.effect.Steps.{size-a, size-b}
 use Rattle.meaning.proofs.twins.Agree.{Agree, clear-same, share-same, head-same, rest-same, open-same, length-same}
 use Rattle.meaning.proofs.twins.Agree.{first-same, live-same}
@@ -19,7 +19,7 @@ use Rattle.meaning.proofs.twins.Builds.{symbol-same, wrap-same, run-sam
 use Rattle.meaning.proofs.twins.Twins.{Twin, sought-twin, twin-size, Steady, via, via-collected, Builds, room-twin}
 
 -- JOIN copies n terms and m terms
-run-builds : (F : ℕ) (p : 0 < F) (ws : List ℕ) (top : ℕ) → Sound F ws top → (d a b : ℕ) → Right F JOIN d a b
+run-builds : (F : ℕ) (p : 0 < F) (ws : List ℕ) (top : ℕ) → Sound F ws top → (d a b : ℕ) → WordsRight F JOIN d a b
     → d < F → a < F → b < F → (n m : ℕ) → size (at ws a) ≡ suc n → size (at ws b) ≡ suc m
     → Builds F (suc n + suc m) (newRun d a b) (soughtBy JOIN d a b ws)
 unfolding uses
@@ -43,21 +43,21 @@ module _ (F : ℕ) (ws : List ℕ) (top : ℕ) (ws′ : List ℕ) (top′ : ℕ)
   abbrev v′ : Op → List ℕ
   v′ o = soughtBy o d a b ws′
 
-  makes : (o : Op) → Right F o d a b → (n : ℕ) (act : List ℕ → ℕ → Done) → Builds F n act (v o) → Builds F n act (v′ o)
+  makes : (o : Op) → WordsRight F o d a b → (n : ℕ) (act : List ℕ → ℕ → Done) → Builds F n act (v o) → Builds F n act (v′ o)
       → Agree F (withRoom F n (v o) act ws top) (withRoom F n (v′ o) act ws′ top′)
   makes o q n act =
       room-twin F p n act ws top ws′ top′ t (v o) (v′ o)
       (sought-twin F ws top ws′ top′ p t (keeps o d a b) d (unkept-register o d a b F q))
 
   -- by an action that asks nothing of the registers
-  lays : (o : Op) → Right F o d a b → (act : List ℕ → ℕ → Done)
+  lays : (o : Op) → WordsRight F o d a b → (act : List ℕ → ℕ → Done)
       → ((x : List ℕ) (u : ℕ) → Sound F x u → 2 * (u + 1) ≤ length x → Steady F act x u)
       → Agree F (withRoom F 1 (v o) act ws top) (withRoom F 1 (v′ o) act ws′ top′)
   lays o q act h = makes o q 1 act (λ x u s e r. h x u s r) (λ x u s e r. h x u s r)
 
-  join-twin : Right F JOIN d a b → d < F → a < F → b < F → (n m : ℕ) → size (at ws a) ≡ n → size (at ws b) ≡ m
-      → Agree F (carry F (joinPlan n m (v JOIN) d a b) ws top) (carry F (joinPlan n m (v′ JOIN) d a b) ws′ top′)
-  unfolding carry
+  join-twin : WordsRight F JOIN d a b → d < F → a < F → b < F → (n m : ℕ) → size (at ws a) ≡ n → size (at ws b) ≡ m
+      → Agree F (carryOut F (joinPlan n m (v JOIN) d a b) ws top) (carryOut F (joinPlan n m (v′ JOIN) d a b) ws′ top′)
+  unfolding carryOut
   join-twin q hd ha hb zero m za zb = plains (share d b) (λ x u s. share-same F x u p s d b hd hb)
   join-twin q hd ha hb (suc n) zero za zb = plains (share d a) (λ x u s. share-same F x u p s d a hd ha)
   join-twin q hd ha hb (suc n) (suc m) za zb =
@@ -65,10 +65,10 @@ module _ (F : ℕ) (ws : List ℕ) (top : ℕ) (ws′ : List ℕ) (top′ : ℕ)
       (run-builds F p ws′ top′ (t .two) d a b q hd ha hb n m (sym (twin-size F ws top ws′ top′ p t a ha) ∙ za)
       (sym (twin-size F ws top ws′ top′ p t b hb) ∙ zb))
 
-  perform-twin : (o : Op) → Right F o d a b → Agree F (perform o F ws top d a b) (perform o F ws′ top′ d a b)
-  unfolding perform planOf carry uses
+  perform-twin : (o : Op) → WordsRight F o d a b → Agree F (perform o F ws top d a b) (perform o F ws′ top′ d a b)
+  unfolding perform planOf carryOut uses
   perform-twin CLEAR q =
-      plains (λ x u. done (put x d hollow) u 0) (λ x u s. clear-same F x u p s d (is-register F d (q .d11)))
+      plains (λ x u. done (put x d empty) u 0) (λ x u s. clear-same F x u p s d (is-register F d (q .d11)))
   perform-twin COPY q =
       plains (share d a) (λ x u s. share-same F x u p s d a (is-register F d (q .d11)) (is-register F a (q .a11)))
   perform-twin SYMBOL q =

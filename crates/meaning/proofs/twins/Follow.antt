@@ -10,11 +10,11 @@ use native.Mathlib.Nat.{le-refl, eq-or-lt-of-le}
 use native.Mathlib.Omega.{arith}
 use lib.Dec.{ltb}
 use borrow.Author.Tests.{ltb-true, ltb-false, lt-ltb, le-ltb}
-use Rattle.meaning.specs.Sound.{Cell, code, hollow, ends, fst, snd, at, Sound}
+use Rattle.meaning.specs.Sound.{Cell, code, empty, ends, fst, snd, at, Sound}
 use Rattle.meaning.specs.Reach.{Between, Reached, byRegister, byBracket, reached}
 use Rattle.meaning.specs.Collected.{below, mapEnds, lay, upFrom, newAddress}
 use Rattle.meaning.proofs.Lists.{In, Asc, asc-in}
-use Rattle.meaning.proofs.sound.Cells.{Good, good, TermIn, term-of-bracket}
+use Rattle.meaning.proofs.sound.Cells.{SoundCells, good, TermIn, term-of-bracket}
 use Rattle.meaning.proofs.meaning.Terms.{Along}
 use Rattle.meaning.proofs.reach.Reaching.{listed-iff, reached-asc}
 use Rattle.meaning.proofs.twins.Canons.{canonOf, canon}
@@ -105,14 +105,14 @@ pub record Follows (F : ℕ) (k : ℕ → Cell) (top : ℕ) (k′ : ℕ → Cell
 
 between-P : (P : ℕ → Type 0) (f : ℕ → ℕ) (b : Cell) (c : ℕ) → Along P f b → Between b c → P c
 between-P P f (code a) c h q = absurd q
-between-P P f hollow c h q = absurd q
+between-P P f empty c h q = absurd q
 between-P P f (ends l r) c h q =
     let e : l + (c - l) ≡ c = omega (arith, q .0) in rw e at (h (c - l) (omega (arith, q .0, q .1)) .0)
 
 -- what lies in a bracket is mapped into the bracket's image, and onto all of it
 between-to : (P : ℕ → Type 0) (f : ℕ → ℕ) (b : Cell) (c : ℕ) → Along P f b → Between b c → Between (mapEnds f b) (f c)
 between-to P f (code a) c h q = q
-between-to P f hollow c h q = q
+between-to P f empty c h q = q
 between-to P f (ends l r) c h q =
     let u : l + (c - l) ≡ c = omega (arith, q .0) in
     let v : l + (r - l) ≡ r = omega (arith, q .0, q .1) in
@@ -123,14 +123,14 @@ between-to P f (ends l r) c h q =
 between-from : (P : ℕ → Type 0) (f : ℕ → ℕ) (F lim : ℕ) (b : Cell) (y : ℕ) → TermIn F lim b → Along P f b
     → Between (mapEnds f b) y → (c : ℕ) × Between b c × (y ≡ f c)
 between-from P f F lim (code a) y t h q = absurd q
-between-from P f F lim hollow y t h q = absurd q
+between-from P f F lim empty y t h q = absurd q
 between-from P f F lim (ends l r) y t h q =
     let v : l + (r - l) ≡ r = omega (arith, t .1) in
     let z : f r ≡ f l + (r - l) = rw v at (h (r - l) (omega (arith, t .1)) .1) in
     let x = h (y - f l) (omega (arith, q .1, t .1)) in
     (l + (y - f l), (omega arith, omega (arith, q .1, t .1)), omega (arith, x .1, q .0))
 
-module _ (F : ℕ) (k : ℕ → Cell) (top : ℕ) (k′ : ℕ → Cell) (P : ℕ → Type 0) (f : ℕ → ℕ) (g : Good F k top)
+module _ (F : ℕ) (k : ℕ → Cell) (top : ℕ) (k′ : ℕ → Cell) (P : ℕ → Type 0) (f : ℕ → ℕ) (g : SoundCells F k top)
     (w : Follows F k top k′ P f) where
   pub follow-P : {c : ℕ} → Reached F k c → P c
   follow-P {c} (byRegister i h q) = between-P P f (k i) c (w .regs i h .0) q
@@ -168,7 +168,7 @@ module _ (F : ℕ) (k : ℕ → Cell) (top : ℕ) (k′ : ℕ → Cell) (P : ℕ
       → mapEnds (newAddress F (map f rs)) (mapEnds f b) ≡ mapEnds (newAddress F rs) b
   unfolding newAddress
   moved-kept rs h lim (code a) t u = refl
-  moved-kept rs h lim hollow t u = refl
+  moved-kept rs h lim empty t u = refl
   moved-kept rs h lim (ends l r) t u =
       rw (
         place-kept rs h l (between-P P f (ends l r) l u (le-refl l, t .1)),

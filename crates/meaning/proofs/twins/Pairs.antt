@@ -9,7 +9,7 @@ use native.Mathlib.Nat.{le-refl, le-trans}
 use native.Mathlib.Omega.{arith}
 use lib.Dec.{ltb}
 use borrow.Author.Tests.{lt-ltb, le-ltb}
-use Rattle.meaning.specs.Sound.{Cell, code, hollow, ends, at, Sound}
+use Rattle.meaning.specs.Sound.{Cell, code, empty, ends, at, Sound}
 use Rattle.meaning.specs.Reach.{reached, live}
 use Rattle.meaning.specs.Collected.{mapEnds, newAddress, collected, collectedTop}
 use Rattle.meaning.specs.Call.{put}
@@ -144,7 +144,7 @@ module _ (F : ℕ) (ws : List ℕ) (top : ℕ) (p : 0 < F) (s : Sound F ws top) 
     far-along : (lim : ℕ) (b : Cell) → TermIn F lim b → Along P new b
         → Along Kept far b × (mapEnds far b ≡ mapEnds new b)
     far-along lim (code a) t h = (tt, refl)
-    far-along lim hollow t h = (tt, refl)
+    far-along lim empty t h = (tt, refl)
     far-along lim (ends l r) t h =
         let below-top : (j : ℕ) → l + j ≤ r → l + j < top = λ j k. reached-below F ws top p s (l + j) (h j k .0) in
         let lo : l < top = (let z : l + 0 ≡ l = omega arith in rw z at (below-top 0 (omega (arith, t .1)))) in

@@ -8,7 +8,7 @@ use native.Mathlib.Nat.{le-refl}
 use native.Mathlib.Omega.{arith}
 use lib.ListN.{length, getD, take, replicate}
 use lib.Seq.{take-at}
-use Rattle.meaning.specs.Sound.{Cell, code, hollow, ends, fst, snd, at, Sound, capacity}
+use Rattle.meaning.specs.Sound.{Cell, code, empty, ends, fst, snd, at, Sound, capacity}
 use Rattle.meaning.specs.Reach.{Between, reached, live}
 use Rattle.meaning.specs.Collected.{below, mapEnds, upFrom, newAddress, collected, collectedTop}
 use Rattle.meaning.specs.Check.{Done, done, collectIn}
@@ -57,13 +57,13 @@ module _ (F : ℕ) (p : 0 < F) (ws : List ℕ) (top : ℕ) (s : Sound F ws top) 
 
   paired-cells : (b b′ : Cell) → PairedCells rs rs′ b b′ → mapEnds new b ≡ mapEnds new′ b′
   paired-cells (code a) (code b) q = ap {B = Cell} (λ x. code x) q
-  paired-cells (code a) hollow q = absurd q
+  paired-cells (code a) empty q = absurd q
   paired-cells (code a) (ends l r) q = absurd q
-  paired-cells hollow (code b) q = absurd q
-  paired-cells hollow hollow q = refl
-  paired-cells hollow (ends l r) q = absurd q
+  paired-cells empty (code b) q = absurd q
+  paired-cells empty empty q = refl
+  paired-cells empty (ends l r) q = absurd q
   paired-cells (ends l r) (code b) q = absurd q
-  paired-cells (ends l r) hollow q = absurd q
+  paired-cells (ends l r) empty q = absurd q
   paired-cells (ends l r) (ends l′ r′) q =
       ap₂ {C = Cell} (λ x y. ends x y) (paired-new l l′ (q .0)) (paired-new r r′ (q .1))
 
@@ -115,13 +115,13 @@ module _ (F : ℕ) (p : 0 < F) (ws : List ℕ) (top : ℕ) (s : Sound F ws top) 
   pair-of : (lim lim′ : ℕ) (b b′ : Cell) → TermIn F lim b → TermIn F lim′ b′ → ((x : ℕ) → Between b x → In x rs)
       → ((x : ℕ) → Between b′ x → In x rs′) → mapEnds new b ≡ mapEnds new′ b′ → PairedCells rs rs′ b b′
   pair-of lim lim′ (code a) (code b) t t′ h h′ e = cc
-  pair-of lim lim′ (code a) hollow t t′ h h′ e = let z : _≡_ {A = ℕ} 0 1 = cc in omega arith
+  pair-of lim lim′ (code a) empty t t′ h h′ e = let z : _≡_ {A = ℕ} 0 1 = cc in omega arith
   pair-of lim lim′ (code a) (ends l r) t t′ h h′ e = let z : _≡_ {A = ℕ} 0 1 = cc in omega arith
-  pair-of lim lim′ hollow (code b) t t′ h h′ e = let z : _≡_ {A = ℕ} 0 1 = cc in omega arith
-  pair-of lim lim′ hollow hollow t t′ h h′ e = tt
-  pair-of lim lim′ hollow (ends l r) t t′ h h′ e = let z : _≡_ {A = ℕ} 0 1 = cc in omega arith
+  pair-of lim lim′ empty (code b) t t′ h h′ e = let z : _≡_ {A = ℕ} 0 1 = cc in omega arith
+  pair-of lim lim′ empty empty t t′ h h′ e = tt
+  pair-of lim lim′ empty (ends l r) t t′ h h′ e = let z : _≡_ {A = ℕ} 0 1 = cc in omega arith
   pair-of lim lim′ (ends l r) (code b) t t′ h h′ e = let z : _≡_ {A = ℕ} 0 1 = cc in omega arith
-  pair-of lim lim′ (ends l r) hollow t t′ h h′ e = let z : _≡_ {A = ℕ} 0 1 = cc in omega arith
+  pair-of lim lim′ (ends l r) empty t t′ h h′ e = let z : _≡_ {A = ℕ} 0 1 = cc in omega arith
   pair-of lim lim′ (ends l r) (ends l′ r′) t t′ h h′ e =
       let x : new l ≡ new′ l′ = cc in
       let y : new r ≡ new′ r′ = cc in (

@@ -8,7 +8,7 @@ use lib.ListN.{length}
 use Rattle.meaning.specs.Check.{Verdict}
 use Rattle.meaning.specs.Call.{step}
 use Rattle.meaning.specs.Batch.{Ran, then, runs}
-use Rattle.meaning.proofs.effect.Steps.{Fours, none, four}
+use Rattle.meaning.proofs.effect.Steps.{WholeCalls, none, four}
 use Rattle.promises.specs.Requests.{Request, requested, requests, inWords, verdicts}
 use Rattle.promises.specs.Alike.{Served}
 
@@ -23,7 +23,7 @@ ran F ws top (q ∷ qs) =
 abbrev pub ranWords : Served → Ran
 ranWords s = record { words = s .words; top = s .top; answers = inWords (s .answers) }
 
-pub runs-ran : (F : ℕ) (ws : List ℕ) (top : ℕ) {cs : List ℕ} → Fours cs
+pub runs-ran : (F : ℕ) (ws : List ℕ) (top : ℕ) {cs : List ℕ} → WholeCalls cs
     → runs F ws top cs ≡ ranWords (ran F ws top (requests cs))
 runs-ran F ws top none = refl
 runs-ran F ws top (four {o} {d} {a} {b} {cs} c) =
@@ -47,7 +47,7 @@ ran-length F ws top [] = refl
 ran-length F ws top (q ∷ qs) =
     let r = requested F ws top q in ap suc (ran-length F (r .words) (r .top) qs)
 
-pub requests-length : {cs : List ℕ} → Fours cs → length cs ≡ 4 * length (requests cs)
+pub requests-length : {cs : List ℕ} → WholeCalls cs → length cs ≡ 4 * length (requests cs)
 requests-length none = refl
 requests-length (four c) = omega (arith, requests-length c)
 

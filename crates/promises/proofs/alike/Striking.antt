@@ -11,7 +11,7 @@ use lib.Seq.{take-at}
 use borrow.Author.Tests.{eqb-true}
 use Rattle.meaning.specs.Sound.{Sound}
 use Rattle.meaning.specs.Check.{Verdict, Done}
-use Rattle.meaning.specs.Call.{ops, opAt, fault, planOf, carry, perform, stepAfter, step}
+use Rattle.meaning.specs.Call.{ops, opAt, fault, planOf, carryOut, perform, stepAfter, step}
 use Rattle.meaning.specs.Batch.{ended}
 use Rattle.meaning.proofs.effect.Steps.{step-meets}
 use Rattle.meaning.proofs.batch.Batches.{batch-runs}
@@ -38,7 +38,7 @@ module _ (F : ℕ) (p : 0 < F) (ws : List ℕ) (top : ℕ) where
     where
       go : (f : ℕ)
           → canon F (stepAfter f F ws top 11 d a b .words) (stepAfter f F ws top 11 d a b .top) ≡ canon F ws top
-      go zero = unfold stepAfter ops opAt perform planOf carry in canon-collected F ws top p s
+      go zero = unfold stepAfter ops opAt perform planOf carryOut in canon-collected F ws top p s
       go (suc f) = unfold stepAfter in refl
 
   -- a request leaves a sound store as long as before, and in twins it answers the same and leaves twins

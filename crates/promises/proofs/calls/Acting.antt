@@ -9,7 +9,7 @@ use native.Mathlib.Nat.{add-zero}
 use native.Mathlib.Omega.{arith}
 use lib.Dec.{ltb}
 use borrow.Author.Tests.{ltb-false, le-ltb}
-use Rattle.meaning.specs.Sound.{hollow, at, capacity, Sound}
+use Rattle.meaning.specs.Sound.{empty, at, capacity, Sound}
 use Rattle.meaning.specs.Meaning.{meaning}
 use Rattle.meaning.specs.Reach.{live}
 use Rattle.meaning.specs.Collected.{collected, collectedTop}
@@ -17,11 +17,11 @@ use Rattle.meaning.specs.Check.{Done, done, refused, only, size}
 use Rattle.meaning.specs.Call.{Op, CLEAR, COPY, SYMBOL, WRAP, JOIN, HEAD, REST, OPEN, LENGTH, FIRST, LIVE, COLLECT, ops}
 use Rattle.meaning.specs.Call.{uses, opAt, fault, put, share, head, rest, openFirst, codeFirst, newRun, newSymbol}
 use Rattle.meaning.specs.Call.{newBracket, keeps, soughtBy, joinNeed, joinPlan, lacks, roomWords, roomTop, withRoom}
-use Rattle.meaning.specs.Call.{planOf, carry, perform}
+use Rattle.meaning.specs.Call.{planOf, carryOut, perform}
 use Rattle.meaning.specs.Effect.{Effect, facts, does, orElse}
 use Rattle.meaning.proofs.effect.Effects.{Denote}
 use Rattle.meaning.proofs.effect.Stepping.{size-terms}
-use Rattle.meaning.proofs.call.Uses.{Right, is-register}
+use Rattle.meaning.proofs.call.Uses.{WordsRight, is-register}
 use Rattle.meaning.proofs.call.Plans.{sought-other, planTop, room-sound, room-denote}
 use Rattle.meaning.proofs.effect.Steps.{sound-by, length-by, size-a, size-b}
 use Rattle.promises.specs.Calls.{OnlyThere}
@@ -86,7 +86,7 @@ module _ (F : ℕ) (ws : List ℕ) (top : ℕ) (p : 0 < F) (s : Sound F ws top) 
     join-top (suc n) zero = same-top (lv JOIN)
     join-top (suc n) (suc m) = more-top JOIN (suc n + suc m)
 
-    pub plan-top : (o : Op) → Right F o d a b
+    pub plan-top : (o : Op) → WordsRight F o d a b
         → planTop F (planOf o F ws top d a b) ws top
         ≡ cond (x o .collects) (F + live F ws top) (cond (ltb (capacity ws) (top + x o .need)) (F + lv o) top)
         + x o .need
@@ -125,7 +125,7 @@ module _ (F : ℕ) (ws : List ℕ) (top : ℕ) (p : 0 < F) (s : Sound F ws top) 
     from-store o false n t u h =
         only-trans d t n ws (v o) u (λ c y g. sought-other (keeps o d a b) d ws c y) h
 
-    makes : (o : Op) → Right F o d a b → (n : ℕ) (act : List ℕ → ℕ → Done)
+    makes : (o : Op) → WordsRight F o d a b → (n : ℕ) (act : List ℕ → ℕ → Done)
         → ((u : List ℕ) (t : ℕ) → Sound F u t → Denote F u (meaning (v o)) → OnlyThere d t n u (act u t .words))
         → withRoom F n (v o) act ws top .verdict .status ≡ 0
         → Touches o (ltb (capacity ws) (top + n)) n (withRoom F n (v o) act ws top)
@@ -154,11 +154,11 @@ module _ (F : ℕ) (ws : List ℕ) (top : ℕ) (p : 0 < F) (s : Sound F ws top) 
         go true z = absurd (omega arith)
         go false z = there
 
-    join-words : Right F JOIN d a b → a < F → b < F → (n m : ℕ) → size (at ws a) ≡ n → size (at ws b) ≡ m
-        → carry F (joinPlan n m (v JOIN) d a b) ws top .verdict .status ≡ 0
+    join-words : WordsRight F JOIN d a b → a < F → b < F → (n m : ℕ) → size (at ws a) ≡ n → size (at ws b) ≡ m
+        → carryOut F (joinPlan n m (v JOIN) d a b) ws top .verdict .status ≡ 0
         → Touches JOIN (ltb (capacity ws) (top + joinNeed n m)) (joinNeed n m)
-        (carry F (joinPlan n m (v JOIN) d a b) ws top)
-    unfolding carry uses
+        (carryOut F (joinPlan n m (v JOIN) d a b) ws top)
+    unfolding carryOut uses
     join-words q ha hb zero m za zb e = plainly JOIN (share d b ws top) (share-only d top 0 ws top b)
     join-words q ha hb (suc n) zero za zb e = plainly JOIN (share d a ws top) (share-only d top 0 ws top a)
     join-words q ha hb (suc n) (suc m) za zb e =
@@ -167,13 +167,13 @@ module _ (F : ℕ) (ws : List ℕ) (top : ℕ) (p : 0 < F) (s : Sound F ws top) 
         (ap₂ _+_ (size-a F ws top p s d a b JOIN q u f t w refl ha ∙ za)
         (size-b F ws top p s d a b JOIN q u f t w refl hb ∙ zb))) e
 
-    pub plan-words : (o : Op) → Right F o d a b → perform o F ws top d a b .verdict .status ≡ 0
+    pub plan-words : (o : Op) → WordsRight F o d a b → perform o F ws top d a b .verdict .status ≡ 0
         → (let n = x o .need in
         OnlyThere d (cond (x o .collects) (F + live F ws top) (cond (ltb (capacity ws) (top + n)) (F + lv o) top)) n
         (cond (x o .collects) (collected F ws top) (cond (ltb (capacity ws) (top + n)) (collected F (v o) top) ws))
         (perform o F ws top d a b .words))
-    unfolding perform planOf carry uses
-    plan-words CLEAR q e = plainly CLEAR (done (put ws d hollow) top 0) (clear-only d top 0 ws top)
+    unfolding perform planOf carryOut uses
+    plan-words CLEAR q e = plainly CLEAR (done (put ws d empty) top 0) (clear-only d top 0 ws top)
     plan-words COPY q e = plainly COPY (share d a ws top) (share-only d top 0 ws top a)
     plan-words SYMBOL q e = makes SYMBOL q 1 (newSymbol d a) (λ u t w f. symbol-only d u t a) e
     plan-words WRAP q e = makes WRAP q 1 (newBracket d a) (λ u t w f. wrap-only d u t a) e
@@ -196,7 +196,7 @@ module _ (F : ℕ) (ws : List ℕ) (top : ℕ) (p : 0 < F) (s : Sound F ws top) 
         → perform (opAt (8 + k)) F ws top d a b .words
         ≡ cond (x (opAt (8 + k)) .collects) (collected F ws top)
         (cond (ltb (capacity ws) (top + x (opAt (8 + k)) .need)) (collected F (v (opAt (8 + k))) top) ws)
-    unfolding perform planOf carry uses
+    unfolding perform planOf carryOut uses
     asked-words =
         asking (λ o. perform o F ws top d a b .words ≡ cond (x o .collects) (collected F ws top)
         (cond (ltb (capacity ws) (top + x o .need)) (collected F (v o) top) ws))

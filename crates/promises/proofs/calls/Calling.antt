@@ -22,7 +22,7 @@ use Rattle.meaning.proofs.effect.Steps.{Steps, step-meets, no-need}
 use Rattle.meaning.proofs.batch.Batches.{batch-runs}
 use Rattle.promises.specs.Requests.{Request, call, requested, requests}
 use Rattle.promises.proofs.alike.Requests.{ran, runs-ran, ran-length, requests-length}
-use Rattle.promises.specs.Calls.{Did, base, baseTop, OnlyThere, CallsDo, CallsAnswer, Answered, none, next}
+use Rattle.promises.specs.Calls.{Did, actedOn, actedTop, OnlyThere, CallsDo, CallsAnswer, Answered, none, next}
 use Rattle.promises.specs.Calls.{BatchesRun}
 use Rattle.promises.proofs.calls.Acting.{orElse-zero, op-small, stays, plan-top, plan-words, asked-words}
 
@@ -57,28 +57,28 @@ module _ (F : ℕ) (p : 0 < F) (ws : List ℕ) (top : ℕ) (s : Sound F ws top) 
   unfolding callStatus
   faultless e = orElse-zero (fault F o d a b) _ (sym (m .status) ∙ e)
 
-  done-top : r .verdict .status ≡ 0 → r .top ≡ baseTop F ws top o d a b n + n
+  done-top : r .verdict .status ≡ 0 → r .top ≡ actedTop F ws top o d a b n + n
   done-top e = m .tops ∙ rw e (plan-top F ws top p s d a b (opAt o) (right F o d a b (faultless e)))
 
   performed : fault F o d a b ≡ 0 → r ≡ perform (opAt o) F ws top d a b
   unfolding step stepAfter
   performed q = rw q refl
 
-  done-words : r .verdict .status ≡ 0 → OnlyThere d (baseTop F ws top o d a b n) n (base F ws top o d a b n) (r .words)
+  done-words : r .verdict .status ≡ 0 → OnlyThere d (actedTop F ws top o d a b n) n (actedOn F ws top o d a b n) (r .words)
   done-words e =
       let q = faultless e in
       let z = performed q in
       rw z (plan-words F ws top p s d a b (opAt o) (right F o d a b q)
       (ap (λ (x : Done). x .verdict .status) (sym z) ∙ e))
 
-  asked : r .verdict .status ≡ 0 → 8 ≤ o → r .words ≡ base F ws top o d a b n
+  asked : r .verdict .status ≡ 0 → 8 ≤ o → r .words ≡ actedOn F ws top o d a b n
   asked e l =
       let q = faultless e in
       let k : o - 8 < 4 = omega (arith, op-small F o d a b q) in
       let z : 8 + (o - 8) ≡ o = omega arith in
       ap (λ (x : Done). x .words) (performed q)
       ∙ subst (λ (y : ℕ). perform (opAt y) F ws top d a b .words
-      ≡ base F ws top y d a b (effect F ws top y d a b .need)) z (asked-words F ws top p s d a b (o - 8) k)
+      ≡ actedOn F ws top y d a b (effect F ws top y d a b .need)) z (asked-words F ws top p s d a b (o - 8) k)
 
   -- without need
   as-it-is : n ≡ 0 → ltb (capacity ws) (top + n) ≡ false

@@ -6,7 +6,7 @@ use mathlib.Core.List.{List}
 use Prim.Native.Nat.{ℕ, zero, suc, _+_, _-_, _≤_, _<_}
 use native.Mathlib.Omega.{arith}
 use Rattle.words.proofs.Cells.{firstWord-other, secondWord-other}
-use Rattle.meaning.specs.Sound.{Cell, code, hollow, ends, fst, snd, at}
+use Rattle.meaning.specs.Sound.{Cell, code, empty, ends, fst, snd, at}
 use Rattle.words.specs.Cell.{firstWord, secondWord}
 use Rattle.meaning.specs.Check.{Done, done, size, start}
 use Rattle.meaning.specs.Call.{put, copy, copies, share, newSymbol, newBracket, newRunOf, newRun, head, rest, openTerm}
@@ -58,8 +58,8 @@ module _ (d t n : ℕ) (ws : List ℕ) (top : ℕ) where
   abbrev Only : Done → Type 0
   Only r = OnlyThere d t n ws (r .words)
 
-  pub clear-only : Only (done (put ws d hollow) top 0)
-  clear-only = only-put d t n ws hollow
+  pub clear-only : Only (done (put ws d empty) top 0)
+  clear-only = only-put d t n ws empty
 
   pub share-only : (a : ℕ) → Only (share d a ws top)
   unfolding share
@@ -68,38 +68,38 @@ module _ (d t n : ℕ) (ws : List ℕ) (top : ℕ) where
   pub head-only : (b : Cell) → Only (head ws top d b)
   unfolding head
   head-only (code a) = only-same d t n ws
-  head-only hollow = only-same d t n ws
+  head-only empty = only-same d t n ws
   head-only (ends l r) = only-put d t n ws (ends l l)
 
   pub rest-only : (b : Cell) → Only (rest ws top d b)
   unfolding rest
   rest-only (code a) = only-same d t n ws
-  rest-only hollow = only-same d t n ws
+  rest-only empty = only-same d t n ws
   rest-only (ends l r) = only-put d t n ws _
 
   open-only : (x : ℕ) (b : Cell) → Only (openTerm ws top d x b)
   unfolding openTerm
   open-only x (code a) = only-same d t n ws
-  open-only x hollow = only-copy d t n ws x
+  open-only x empty = only-copy d t n ws x
   open-only x (ends l r) = only-copy d t n ws x
 
   pub openFirst-only : (b : Cell) → Only (openFirst ws top d b)
   unfolding openFirst
   openFirst-only (code a) = only-same d t n ws
-  openFirst-only hollow = only-same d t n ws
+  openFirst-only empty = only-same d t n ws
   openFirst-only (ends l r) = open-only l (at ws l)
 
 -- FIRST changes no word
 code-words : (ws : List ℕ) (top : ℕ) (b : Cell) → codeTerm ws top b .words ≡ ws
 unfolding codeTerm
 code-words ws top (code a) = refl
-code-words ws top hollow = refl
+code-words ws top empty = refl
 code-words ws top (ends l r) = refl
 
 pub first-words : (ws : List ℕ) (top : ℕ) (b : Cell) → codeFirst ws top b .words ≡ ws
 unfolding codeFirst
 first-words ws top (code a) = refl
-first-words ws top hollow = refl
+first-words ws top empty = refl
 first-words ws top (ends l r) = code-words ws top (at ws l)
 
 -- the actions that lay cells from `top` on

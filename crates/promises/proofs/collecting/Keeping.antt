@@ -14,7 +14,7 @@ use Rattle.meaning.proofs.meaning.Terms.{Along}
 use Rattle.meaning.proofs.reach.Reaching.{listed-iff, reached-asc}
 use Rattle.meaning.proofs.collected.Collecting.{at-register, at-new, collected-sound, length-collected, meaning-kept}
 use Rattle.meaning.proofs.collected.Again.{all-reached, live-kept, collected-again}
-use Rattle.promises.specs.Collecting.{LiveCounts, CollectingGathers}
+use Rattle.promises.specs.Collecting.{LiveCounts, CollectingKeeps}
 use Rattle.meaning.proofs.twins.Pairs.{new-low, new-high, new-rises, along-register, along-heap}
 
 asc-rising : (lo : ℕ) (xs : List ℕ) → Asc lo xs → (j k : ℕ) → j < k → k < length xs → getD xs j 0 < getD xs k 0
@@ -65,7 +65,7 @@ module _ (F : ℕ) (p : 0 < F) (ws : List ℕ) (top : ℕ) (s : Sound F ws top) 
   unfolding newAddress
   not-up c i = let a = reached-asc F ws top p s in below-le F c (reached F ws top) a (asc-in F c (reached F ws top) a i)
 
-pub collecting-gathers : CollectingGathers
+pub collecting-gathers : CollectingKeeps
 unfolding collectedTop
 collecting-gathers F p ws top s =
     let new = newAddress F (reached F ws top) in

@@ -110,7 +110,7 @@ look-answers F p ws top i = go (check F ws top .status) refl
         record {
           unsound = λ n. absurd (n s);
           none = λ m. look-none F ws top s i m;
-          empty = λ z. look-empty F ws top s i z;
+          noContents = λ z. look-empty F ws top s i z;
           cells = λ x y q m z. (
             rw z at (look-size F ws top p s i m),
             λ j h. rw z at (look-word F ws top p s i m j (rw (look-size F ws top p s i m) at h)),
@@ -121,7 +121,7 @@ look-answers F p ws top i = go (check F ws top .status) refl
         record {
           unsound = λ _. z;
           none = λ _. z;
-          empty = λ _. z;
+          noContents = λ _. z;
           cells = λ x y s m w. absurd (let q = ap (λ (v : Verdict). v .status) (sound-check F ws top s) in omega arith);
         }
 

@@ -9,7 +9,7 @@ use native.Mathlib.Omega.{arith}
 use lib.ListN.{length, replicate}
 use lib.Seq.{ext-getD}
 use Rattle.words.specs.Cell.{firstWord, secondWord}
-use Rattle.meaning.specs.Sound.{Cell, code, hollow, ends, fst, snd, at, capacity, Sound}
+use Rattle.meaning.specs.Sound.{Cell, code, empty, ends, fst, snd, at, capacity, Sound}
 use Rattle.meaning.specs.Reach.{reached, live}
 use Rattle.meaning.specs.Collected.{mapEnds, newAddress, collectedTop}
 use Rattle.meaning.specs.Check.{Verdict, only, Done, lengthTest, check}
@@ -200,7 +200,7 @@ one-look F p ws top i x y a b = go (check F ws top .status) refl (lt-or-ge i F)
   where
     cell : Sound F ws top → i < F → (k : Cell) → at ws i ≡ k → BracketIn F top k → x ≡ y
     cell s h (code c) e t = absurd t
-    cell s h hollow e t = a .empty e ∙ sym (b .empty e)
+    cell s h empty e t = a .noContents e ∙ sym (b .noContents e)
     cell s h (ends l r) e t =
         let u = a .cells l r s h e in
         let v = b .cells l r s h e in

@@ -9,7 +9,7 @@ use lib.ListN.{length}
 use borrow.Author.Needs.{needs}
 use borrow.Author.Tests.{not-true, not-false}
 use Rattle.words.specs.Cell.{firstWord, secondWord}
-use Rattle.meaning.specs.Limits.{firstCell}
+use Rattle.meaning.specs.Limits.{firstHeapCell}
 use Rattle.meaning.specs.Check.{lengthTest, topTest, cellTest, damaged, verdictAt, check}
 use Rattle.store.proofs.Scan.{check-length, check-top, check-cells, check-kept, placed, tested, turn, stop}
 use Rattle.store.proofs.Scan.{finish, verdict-damaged, verdict-sound}
@@ -18,48 +18,48 @@ use Rattle.store.proofs.check.Tie as tie
 
 abbrev Inv-loop : tie.InvT-loop
 Inv-loop ws top cells c₀ c =
-    (c ≤ cells) × (damaged firstCell ws top c (cells - c) ≡ damaged firstCell ws top 0 cells)
+    (c ≤ cells) × (damaged firstHeapCell ws top c (cells - c) ≡ damaged firstHeapCell ws top 0 cells)
 
 abbrev μ-loop : tie.MeasureT-loop
 μ-loop ws top cells c₀ c = cells - c
 
 -- the tests that were passed
-long : (c : tie.Else1 Inv-loop μ-loop) → lengthTest firstCell (length (c .before .before .before .args .ws .now)) ≡ true
+long : (c : tie.Else1 Inv-loop μ-loop) → lengthTest firstHeapCell (length (c .before .before .before .args .ws .now)) ≡ true
 long c = sym (c .before .length-ok .ensures) ∙ not-false _ (c .if1 .left)
 
 low : (c : tie.Else2 Inv-loop μ-loop) →
     let a = c .before .before .before .before .before .args in
-    topTest firstCell (length (a .ws .now) / 2) (a .top) ≡ true
+    topTest firstHeapCell (length (a .ws .now) / 2) (a .top) ≡ true
 low c = sym (c .before .top-ok .ensures) ∙ not-false _ (c .if2 .left)
 
 -- where the cells are
 cells-at : (c : tie.Else2 Inv-loop μ-loop) →
     let a = c .before .before .before .before .before .args in
-    (firstCell ≤ a .top) × (2 * a .top ≤ length (a .ws .now)) × (a .top < 2 ^ 31)
+    (firstHeapCell ≤ a .top) × (2 * a .top ≤ length (a .ws .now)) × (a .top < 2 ^ 31)
 cells-at c =
     let a = c .before .before .before .before .before .args in
-    placed firstCell (a .ws .now) (a .top) (long (c .before .before)) (low c)
+    placed firstHeapCell (a .ws .now) (a .top) (long (c .before .before)) (low c)
 
 -- the answer of the scan is that of the check
 to-cells : (c : tie.Else2 Inv-loop μ-loop) →
     let a = c .before .before .before .before .before .args in
     let ws = a .ws .now in
-    check firstCell ws (a .top) ≡ verdictAt ws (damaged firstCell ws (a .top) 0 (length ws / 2))
-to-cells c = check-cells firstCell _ _ (long (c .before .before)) (low c)
+    check firstHeapCell ws (a .top) ≡ verdictAt ws (damaged firstHeapCell ws (a .top) 0 (length ws / 2))
+to-cells c = check-cells firstHeapCell _ _ (long (c .before .before)) (low c)
 
 returns : tie.Need-returns Inv-loop μ-loop
-returns c = sym (check-length firstCell _ _ (sym (c .before .length-ok .ensures) ∙ not-true _ (c .if1 .taken)))
+returns c = sym (check-length firstHeapCell _ _ (sym (c .before .length-ok .ensures) ∙ not-true _ (c .if1 .taken)))
 
 returns-2 : tie.Need-returns-2 Inv-loop μ-loop
 returns-2 c =
     let e = sym (c .before .top-ok .ensures) ∙ not-true _ (c .if2 .taken) in
-    sym (check-top firstCell _ _ (long (c .before .before)) e)
+    sym (check-top firstHeapCell _ _ (long (c .before .before)) e)
 
 returns-3 : tie.Need-returns-3 Inv-loop μ-loop
 returns-3 c =
     let tests = c .before .before in
     let kept = c .before .all-ok .ensures (c .if3 .taken) in
-    sym (check-kept firstCell _ _ (long (tests .before .before)) (low tests) kept)
+    sym (check-kept firstHeapCell _ _ (long (tests .before .before)) (low tests) kept)
 
 loop-holds : tie.Need-loop-holds Inv-loop μ-loop
 loop-holds c = (omega arith, simp sub-zero)
@@ -72,22 +72,22 @@ test : (c : tie.After-cell-ok Inv-loop μ-loop) (t : Bool) → c .cell-ok .resul
     let at-loop = c .before .before .before .before in
     let a = at-loop .before .before .before .before .before .before .before .before .args in
     let k = at-loop .loop .c in
-    cellTest firstCell (a .top) k (firstWord (a .ws .now) k) (secondWord (a .ws .now) k) ≡ t
+    cellTest firstHeapCell (a .top) k (firstWord (a .ws .now) k) (secondWord (a .ws .now) k) ≡ t
 test c t e =
     let read = c .before in
-    tested firstCell _ _ (read .before .first-word .ensures) (read .second-word .ensures) (c .cell-ok .ensures) e
+    tested firstHeapCell _ _ (read .before .first-word .ensures) (read .second-word .ensures) (c .cell-ok .ensures) e
 
 loop-again : tie.Need-loop-again Inv-loop μ-loop
 loop-again c =
     let at-loop = c .before .before .before .before .before in
     let e = test (c .before) _ (not-false _ (c .if5 .left)) in
-    (omega arith, turn firstCell _ _ _ _ (search needs) e ∙ at-loop .loop .inv .1)
+    (omega arith, turn firstHeapCell _ _ _ _ (search needs) e ∙ at-loop .loop .inv .1)
 
 returns-4 : tie.Need-returns-4 Inv-loop μ-loop
 returns-4 c =
     let at-loop = c .before in
     sym (verdict-sound _ _ (c .if4 .taken))
-    ∙ ap (verdictAt _) (sym (finish firstCell _ _ _ _ (c .if4 .taken)) ∙ at-loop .loop .inv .1)
+    ∙ ap (verdictAt _) (sym (finish firstHeapCell _ _ _ _ (c .if4 .taken)) ∙ at-loop .loop .inv .1)
     ∙ sym (to-cells (at-loop .before .before .before))
 
 returns-5 : tie.Need-returns-5 Inv-loop μ-loop
@@ -95,7 +95,7 @@ returns-5 c =
     let at-loop = c .before .before .before .before .before in
     let e = test (c .before) _ (not-true _ (c .if5 .taken)) in
     sym (verdict-damaged _ _ (search needs))
-    ∙ ap (verdictAt _) (sym (stop firstCell _ _ _ _ (search needs) e) ∙ at-loop .loop .inv .1)
+    ∙ ap (verdictAt _) (sym (stop firstHeapCell _ _ _ _ (search needs) e) ∙ at-loop .loop .inv .1)
     ∙ sym (to-cells (at-loop .before .before .before))
 
 pub check-spec : {M : Type 1} → statement M

@@ -4,17 +4,17 @@ use mathlib.Core.Path.{_≡_, refl, subst, ap, _∙_}
 use Prim.Native.Nat.{ℕ, _+_, _-_, _*_, _≤_}
 use native.Mathlib.Omega.{arith}
 use lib.ListN.{length, take, length-set}
-use Rattle.meaning.specs.Limits.{firstCell}
-use Rattle.meaning.specs.Check.{hollows}
+use Rattle.meaning.specs.Limits.{firstHeapCell}
+use Rattle.meaning.specs.Check.{emptyRegisters}
 use Rattle.meaning.proofs.check.Making.{one-more}
 use Rattle.store.proofs.empty_registers.Statement.{statement}
 use Rattle.store.proofs.empty_registers.Tie as tie
 
 abbrev Inv-loop : tie.InvT-loop
-Inv-loop ws₀ c₀ ws c = (c ≤ firstCell) × (length ws ≡ length ws₀) × (take (2 * c) ws ≡ hollows c)
+Inv-loop ws₀ c₀ ws c = (c ≤ firstHeapCell) × (length ws ≡ length ws₀) × (take (2 * c) ws ≡ emptyRegisters c)
 
 abbrev μ-loop : tie.MeasureT-loop
-μ-loop ws₀ c₀ ws c = firstCell - c
+μ-loop ws₀ c₀ ws c = firstHeapCell - c
 
 loop-holds : tie.Need-loop-holds Inv-loop μ-loop
 loop-holds c = (omega arith, refl, refl)
@@ -36,8 +36,8 @@ same-length c = c .before .loop .inv .1
 returns : tie.Need-returns Inv-loop μ-loop
 returns c =
     let at-loop = c .before in
-    let all : at-loop .loop .c ≡ firstCell = omega arith in
-    subst (λ (n : ℕ). take (2 * n) (at-loop .loop .ws) ≡ hollows n) all (at-loop .loop .inv .2)
+    let all : at-loop .loop .c ≡ firstHeapCell = omega arith in
+    subst (λ (n : ℕ). take (2 * n) (at-loop .loop .ws) ≡ emptyRegisters n) all (at-loop .loop .inv .2)
 
 pub empty-registers-spec : {M : Type 1} → statement M
 empty-registers-spec =

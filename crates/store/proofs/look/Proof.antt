@@ -11,7 +11,7 @@ use Rattle.store.proofs.look.Tie as tie
 returns : tie.Need-returns
 unfolding look
 returns c =
-    let e = c .before .span .ensures .0 in (
+    let e = c .before .look-span .ensures .0 in (
       ap (λ (s : Span). take (s .to - s .from) (drop (s .from) (c .before .before .before .args .ws .now))) e,
       (refl, omega (arith, ap (λ (s : Span). s .from) e)),
     )

@@ -3,9 +3,9 @@ use Prim.Native.Nat.{ℕ, _+_, _-_}
 use mathlib.Core.Path.{sym, ap, _∙_}
 use native.Mathlib.Omega.{arith}
 use Rattle.words.specs.Cell.{firstWord}
-use Rattle.meaning.specs.Limits.{firstCell}
+use Rattle.meaning.specs.Limits.{firstHeapCell}
 use Rattle.meaning.specs.Sound.{at}
-use Rattle.store.proofs.Sounds.{firstCell-pos}
+use Rattle.store.proofs.Sounds.{firstHeapCell-pos}
 use Rattle.store.proofs.Held.{Contents, contents}
 use borrow.Author.Needs.{needs}
 use Rattle.store.proofs.run_at.Statement.{statement}
@@ -16,10 +16,10 @@ known : (c : tie.After-right-end) →
     Contents (firstWord (a .ws .now) (a .c)) (c .right-end .result) (at (a .ws .now) (a .c))
 known c =
     let p = c .before .before .before .pre .1 in
-    contents firstCell (p .0) firstCell-pos (p .1) _ _ (c .before .second-word .ensures) (c .right-end .ensures) (p .2)
+    contents firstHeapCell (p .0) firstHeapCell-pos (p .1) _ _ (c .before .second-word .ensures) (c .right-end .ensures) (p .2)
 
 returns : tie.Need-returns
-returns c = let e = known (c .before) .empty (c .if1 .taken) in (sym (e .0), sym (e .1))
+returns c = let e = known (c .before) .noContents (c .if1 .taken) in (sym (e .0), sym (e .1))
 
 sub-size : tie.Need-sub-size
 sub-size c = omega (arith, known (c .before .before) .full (c .before .if1 .left) .0, c .first-word .ensures)

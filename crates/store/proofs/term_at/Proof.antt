@@ -1,10 +1,10 @@
 -- `store::term_at` meets its contract. Assumes nothing.
 use mathlib.Core.Path.{_≡_, refl, sym, ap, _∙_}
 use mathlib.Core.Bool.{false}
-use Rattle.meaning.specs.Limits.{firstCell}
+use Rattle.meaning.specs.Limits.{firstHeapCell}
 use Rattle.meaning.specs.Sound.{at, code}
 use Rattle.store.specs.Holds.{Bracketed, isCode}
-use Rattle.store.proofs.Sounds.{firstCell-pos}
+use Rattle.store.proofs.Sounds.{firstHeapCell-pos}
 use Rattle.store.proofs.Held.{br-tested, contents, term-bracket, term-symbol}
 use borrow.Author.Needs.{needs}
 use Rattle.store.proofs.term_at.Statement.{statement}
@@ -16,14 +16,14 @@ bracketed : (c : tie.Then1) →
 bracketed c =
     let p = c .before .before .before .before .pre .1 in
     let e = br-tested (c .before .before .second-word .ensures) (c .before .is-bracket .ensures) (c .if1 .taken) in
-    (p .0, p .1, term-bracket firstCell (p .0) firstCell-pos (p .1) (p .2) e)
+    (p .0, p .1, term-bracket firstHeapCell (p .0) firstHeapCell-pos (p .1) (p .2) e)
 
 bracketed-not : (c : tie.Then1) →
     let a = c .before .before .before .before .args in
     isCode (at (a .ws .now) (a .c)) ≡ false
 bracketed-not c =
     let b = bracketed c in
-    contents firstCell (b .0) firstCell-pos (b .1) _ _ refl refl (b .2) .notCode
+    contents firstHeapCell (b .0) firstHeapCell-pos (b .1) _ _ refl refl (b .2) .notCode
 
 run-at-requires : tie.Need-run-at-requires
 run-at-requires c κs = (search needs, bracketed c)
@@ -36,7 +36,7 @@ returns-2 c =
     let at-test = c .before .before in
     let p = at-test .before .before .before .pre .1 in
     let e = br-tested (at-test .before .second-word .ensures) (at-test .is-bracket .ensures) (c .before .if1 .left) in
-    term-symbol firstCell (p .0) firstCell-pos (p .1) _ _ (p .2) e ∙ ap code (sym (c .first-word .ensures))
+    term-symbol firstHeapCell (p .0) firstHeapCell-pos (p .1) _ _ (p .2) e ∙ ap code (sym (c .first-word .ensures))
 
 pub term-at-spec : {M : Type 1} → statement M
 term-at-spec =

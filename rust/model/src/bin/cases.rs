@@ -23,7 +23,7 @@ use mathlib.Core.List.{List, [], _∷_}
 use Prim.Native.Nat.{ℕ}
 use lib.Dec.{eqb, T}
 use Rattle.bytes.specs.Decimal.{decimal}
-use Rattle.meaning.specs.Limits.{firstCell, limit, codeTest, callsLimit, programCells, programBytes}
+use Rattle.meaning.specs.Limits.{firstHeapCell, limit, codeTest, callsLimit, programCells, programBytes}
 use Rattle.meaning.specs.Sound.{at}
 use Rattle.meaning.specs.Reach.{reached, live}
 use Rattle.meaning.specs.Collected.{newAddress, collectedOf, collected, collectedTop}
@@ -33,7 +33,7 @@ use Rattle.meaning.specs.Call.{ops, opAt, uses, wrong11, wrong12, wrong13, faul
 use Rattle.meaning.specs.Call.{openTerm, openFirst, codeTerm, codeFirst, newSymbol, newBracket, newRunOf, newRun}
 use Rattle.meaning.specs.Call.{sought, planOf, lacks, roomWords, roomTop, withRoom, carry, perform, stepAfter, step}
 use Rattle.meaning.specs.Batch.{Outcome, ended, callsTest, batchOf, batch}
-use Rattle.meaning.specs.Program.{written, refusal, served, program}
+use Rattle.meaning.specs.Program.{written, refusal, output, program}
 use Rattle.meaning.specs.Rows.{same}
 
 data Case : Type 0 where
@@ -58,11 +58,11 @@ span s from to = eqb (s .from) from && eqb (s .to) to
 
 right : Case → Bool
 right (batches ws top calls out s v ws′ top′ answers) =
-    outcome (batch firstCell ws top calls out) s v ws′ top′ answers
-right (collects ws top s v ws′ top′) = left (collectIn firstCell ws top) s v ws′ top′
-right (makes ws s ws′ top′) = left (freshIn firstCell ws) s 0 ws′ top′
-right (looks ws top i from to) = span (lookSpan firstCell ws top i) from to
-right (writes input output) = same (program firstCell input) output
+    outcome (batch firstHeapCell ws top calls out) s v ws′ top′ answers
+right (collects ws top s v ws′ top′) = left (collectIn firstHeapCell ws top) s v ws′ top′
+right (makes ws s ws′ top′) = left (freshIn firstHeapCell ws) s 0 ws′ top′
+right (looks ws top i from to) = span (lookSpan firstHeapCell ws top i) from to
+right (writes input output) = same (program firstHeapCell input) output
 
 every : List Case → Bool
 every [] = true
@@ -75,7 +75,7 @@ unfolding limit codeTest callsLimit programCells programBytes at reached live ne
     collectedTop bracketTest termTest cellTest lengthTest topTest verdictAt check fresh freshIn collectIn spanOf
     lookSpan ops opAt uses wrong11 wrong12 wrong13 fault put copy share head rest openTerm openFirst codeTerm
     codeFirst newSymbol newBracket newRunOf newRun sought planOf lacks roomWords roomTop withRoom carry perform
-    stepAfter step ended callsTest batchOf batch decimal written refusal served program verdict outcome left span
+    stepAfter step ended callsTest batchOf batch decimal written refusal output program verdict outcome left span
     right every";
 
 /// A list of numbers in antt.

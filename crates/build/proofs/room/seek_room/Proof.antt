@@ -11,7 +11,7 @@ returns-2 : tie.Need-returns-2
 returns-2 c =
     let if1 = c .before .before .before .before in
     let s = if1 .before .before in
-    let g = c .before .before .gather .ensures in gained (s .pre .0) (if1 .if1 .left) (g .0) (g .1)
+    let g = c .before .before .collect-sound .ensures in gained (s .pre .0) (if1 .if1 .left) (g .0) (g .1)
 
 pub seek-room-spec : {M : Type 1} → statement M
 seek-room-spec =

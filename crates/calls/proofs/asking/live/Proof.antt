@@ -2,17 +2,17 @@
 use mathlib.Core.Path.{_∙_}
 use native.Mathlib.Omega.{arith}
 use borrow.Author.Needs.{needs}
-use Rattle.meaning.specs.Limits.{firstCell}
+use Rattle.meaning.specs.Limits.{firstHeapCell}
 use Rattle.meaning.proofs.sound.Cells.{limit-fits}
 use Rattle.meaning.proofs.reach.Reaching.{live-le}
-use Rattle.store.proofs.Sounds.{firstCell-pos}
+use Rattle.store.proofs.Sounds.{firstHeapCell-pos}
 use Rattle.calls.proofs.asking.live.Statement.{statement}
 use Rattle.calls.proofs.asking.live.Tie as tie
 
 cast-done : tie.Need-cast-done
 cast-done c =
     let s = c .before .before .before .before .before in
-    omega (arith, limit-fits, live-le firstCell (s .args .ws .now) (s .args .top) firstCell-pos (s .pre))
+    omega (arith, limit-fits, live-le firstHeapCell (s .args .ws .now) (s .args .top) firstHeapCell-pos (s .pre))
 
 returns : tie.Need-returns
 returns c =

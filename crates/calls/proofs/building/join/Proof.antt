@@ -4,7 +4,7 @@ use mathlib.Core.List.{List}
 use Prim.Native.Nat.{ℕ, _+_}
 use native.Mathlib.Omega.{arith}
 use borrow.Author.Needs.{needs}
-use Rattle.meaning.specs.Limits.{firstCell}
+use Rattle.meaning.specs.Limits.{firstHeapCell}
 use Rattle.meaning.specs.Call.{sought}
 use Rattle.store.proofs.Registers.{readable, run-below}
 use Rattle.meaning.proofs.call.Joining.{join-first-empty, join-second-empty, join-neither-empty}
@@ -30,7 +30,7 @@ returns c =
     let if1 = c .before .before .before .before in
     let run-at = if1 .before .before .before .before in
     let s = run-at .before .before .before in
-    c .before .before .share .ensures ∙ sym (join-first-empty firstCell (v s) (s .args .ws .now) (s .args .top)
+    c .before .before .share .ensures ∙ sym (join-first-empty firstHeapCell (v s) (s .args .ws .now) (s .args .top)
     (s .args .d) (s .args .a) (s .args .b) _ _ (sym (run-at .run-at .ensures .1) ∙ if1 .if1 .taken))
 
 returns-2 : tie.Need-returns-2
@@ -43,7 +43,7 @@ returns-2 c =
     let p = run-at .run-at .ensures .1 in
     let q = run-at2 .run-at2 .ensures .1 in
     c .before .before .share2 .ensures
-    ∙ sym (join-second-empty firstCell (v s) (s .args .ws .now) (s .args .top) (s .args .d) (s .args .a) (s .args .b)
+    ∙ sym (join-second-empty firstHeapCell (v s) (s .args .ws .now) (s .args .top) (s .args .d) (s .args .a) (s .args .b)
     _ _ (λ e. if1 .if1 .left (p ∙ e)) (sym q ∙ if2 .if2 .taken))
 
 add-join-full : tie.Need-add-join-full
@@ -69,7 +69,7 @@ returns-3 c =
     let run-at = run-at2 .before .before in
     let s = run-at .before .before .before in
     c .before .before .join-full .ensures
-    ∙ sym (join-neither-empty firstCell (v s) (s .args .ws .now) (s .args .top) (s .args .d) (s .args .a) (s .args .b)
+    ∙ sym (join-neither-empty firstHeapCell (v s) (s .args .ws .now) (s .args .top) (s .args .d) (s .args .a) (s .args .b)
     (run-at .run-at .ensures .1) (run-at2 .run-at2 .ensures .1) (if1 .if1 .left) (if2 .if2 .left))
 
 pub join-spec : {M : Type 1} → statement M

@@ -2,10 +2,10 @@
 use mathlib.Core.Path.{sym, _∙_}
 use native.Mathlib.Omega.{arith}
 use borrow.Author.Needs.{needs}
-use Rattle.meaning.specs.Limits.{firstCell}
+use Rattle.meaning.specs.Limits.{firstHeapCell}
 use Rattle.meaning.specs.Call.{newRun}
 use Rattle.meaning.proofs.call.Plans.{sought-meaning}
-use Rattle.store.proofs.Sounds.{firstCell-pos}
+use Rattle.store.proofs.Sounds.{firstHeapCell-pos}
 use Rattle.store.proofs.Registers.{run-below}
 use Rattle.build.proofs.Rooms.{room-roomy, room-does, room-refuses, room-size}
 use Rattle.calls.proofs.building.join_full.Statement.{statement}
@@ -25,7 +25,7 @@ lay-run-requires c κs =
     let m = make-room .make-room .ensures in
     let e = c .before .before .t .given .1 in
     let y = room-roomy m e in
-    let stays = sought-meaning firstCell (s .args .ws .now) (s .args .top) firstCell-pos (s .pre .0 .0) (s .args .kept)
+    let stays = sought-meaning firstHeapCell (s .args .ws .now) (s .args .top) firstHeapCell-pos (s .pre .0 .0) (s .args .kept)
     (s .args .d) (λ k. s .pre .0 .1) in
     let za = room-size m e (s .pre .0 .0) (s .args .a) (s .pre .0 .2)
     (stays (s .args .a) (s .pre .0 .2) (s .pre .1 .0 .0)) in

@@ -7,7 +7,7 @@ use native.Mathlib.Omega.{arith}
 use lib.ListN.{getD}
 use borrow.Author.Tests.{lt-ltb, le-ltb}
 use borrow.Author.Needs.{needs}
-use Rattle.meaning.specs.Limits.{firstCell}
+use Rattle.meaning.specs.Limits.{firstHeapCell}
 use Rattle.meaning.specs.Call.{uses, wrong11, wrong12, wrong13, fault}
 use Rattle.meaning.proofs.call.Table.{rows, three, three-read}
 use Rattle.calls.proofs.operands.fault.Statement.{statement}
@@ -38,11 +38,11 @@ read : (s : tie.Start) → s .args .o ≤ 11 → (wrong : ℕ → ℕ → Bool) 
 unfolding uses
 read s h wrong = three-read (s .args .o) (s .args .d) (s .args .a) (s .args .b) wrong (omega arith)
 
-eleven : (c : tie.After-any) → found (wrong11 firstCell) (from-any c) ≡ c .any .result
+eleven : (c : tie.After-any) → found (wrong11 firstHeapCell) (from-any c) ≡ c .any .result
 unfolding uses
 eleven c =
     let x = c .before in
-    read (from-any c) (numbered c .if1 .left) (wrong11 firstCell) (x .before .before .is-no-register .ensures)
+    read (from-any c) (numbered c .if1 .left) (wrong11 firstHeapCell) (x .before .before .is-no-register .ensures)
     (x .before .is-no-register2 .ensures) (x .is-no-register3 .ensures) (c .any .ensures)
 
 twelve : (c : tie.After-any2) → found wrong12 (from-any2 c) ≡ c .any2 .result

@@ -3,35 +3,35 @@
 use mathlib.Core.Path.{_≡_, refl, sym, _∙_}
 use Prim.Native.Nat.{ℕ, _<_}
 use borrow.Author.Needs.{needs}
-use Rattle.meaning.specs.Limits.{firstCell}
+use Rattle.meaning.specs.Limits.{firstHeapCell}
 use Rattle.meaning.specs.Sound.{Sound}
-use Rattle.meaning.specs.Call.{SYMBOL, WRAP, JOIN, uses, useD, useA, useB, opAt, ops, planOf, carry, perform}
+use Rattle.meaning.specs.Call.{SYMBOL, WRAP, JOIN, uses, useD, useA, useB, opAt, ops, planOf, carryOut, perform}
 use Rattle.meaning.proofs.collected.Again.{live-kept}
 use Rattle.meaning.proofs.call.Uses.{keeps-operand, keeps-a, keeps-b}
-use Rattle.store.proofs.Sounds.{firstCell-pos}
+use Rattle.store.proofs.Sounds.{firstHeapCell-pos}
 use Rattle.meaning.proofs.call.Performing.{d-register, a-register, b-register, collects}
 use Rattle.calls.proofs.step.perform.Statement.{statement}
 use Rattle.calls.proofs.step.perform.Tie as tie
 
 -- what the operation's function asks: a sound store, and the registers that the arm hands to it
 module _ (s : tie.Start) {k : ℕ} (e : s .args .o ≡ k) where
-  d : useD (opAt k) ≡ 1 → s .args .d < firstCell
+  d : useD (opAt k) ≡ 1 → s .args .d < firstHeapCell
   d u = d-register (s .args .o) (s .args .d) (s .args .a) (s .args .b) (s .pre .1) e u
 
-  a : useA (opAt k) ≡ 1 → s .args .a < firstCell
+  a : useA (opAt k) ≡ 1 → s .args .a < firstHeapCell
   a u = a-register (s .args .o) (s .args .d) (s .args .a) (s .args .b) (s .pre .1) e u
 
-  b : useB (opAt k) ≡ 1 → s .args .b < firstCell
+  b : useB (opAt k) ≡ 1 → s .args .b < firstHeapCell
   b u = b-register (s .args .o) (s .args .d) (s .args .a) (s .args .b) (s .pre .1) e u
 
-  sets : useD (opAt k) ≡ 1 → Sound firstCell (s .args .ws .now) (s .args .top) × (s .args .d < firstCell)
+  sets : useD (opAt k) ≡ 1 → Sound firstHeapCell (s .args .ws .now) (s .args .top) × (s .args .d < firstHeapCell)
   sets u = (s .pre .0, d u)
 
-  asks : useA (opAt k) ≡ 1 → Sound firstCell (s .args .ws .now) (s .args .top) × (s .args .a < firstCell)
+  asks : useA (opAt k) ≡ 1 → Sound firstHeapCell (s .args .ws .now) (s .args .top) × (s .args .a < firstHeapCell)
   asks v = (s .pre .0, a v)
 
   takes : useD (opAt k) ≡ 1 → useA (opAt k) ≡ 1
-      → Sound firstCell (s .args .ws .now) (s .args .top) × (s .args .d < firstCell) × (s .args .a < firstCell)
+      → Sound firstHeapCell (s .args .ws .now) (s .args .top) × (s .args .d < firstHeapCell) × (s .args .a < firstHeapCell)
   takes u v = (s .pre .0, d u, a v)
 
 -- JOIN keeps d where it is an operand register
@@ -50,15 +50,15 @@ join-requires c κs =
 
 -- what is left of the match is COLLECT
 last : tie.Need-returns-12
-unfolding opAt ops planOf carry perform
+unfolding opAt ops planOf carryOut perform
 last c =
     let rest = c .before .before .before .before in
     let s = rest .before .before in
-    let kept = live-kept firstCell (s .args .ws .now) (s .args .top) firstCell-pos (s .pre .0) in
-    rw (collects (s .args .o) (rest .match .rest), kept) (c .before .before .gather .ensures)
+    let kept = live-kept firstHeapCell (s .args .ws .now) (s .args .top) firstHeapCell-pos (s .pre .0) in
+    rw (collects (s .args .o) (rest .match .rest), kept) (c .before .before .collect-store .ensures)
 
 pub perform-spec : {M : Type 1} → statement M
-unfolding uses opAt ops planOf carry perform
+unfolding uses opAt ops planOf carryOut perform
 perform-spec =
     tie.close
     (tie.spec

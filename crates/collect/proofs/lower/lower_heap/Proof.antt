@@ -2,14 +2,14 @@
 use borrow.Author.Needs.{needs}
 use Prim.Native.Nat.{_-_}
 use native.Mathlib.Omega.{arith}
-use Rattle.meaning.specs.Limits.{firstCell}
+use Rattle.meaning.specs.Limits.{firstHeapCell}
 use Rattle.meaning.proofs.sound.Cells.{limit-fits}
 use Rattle.collect.proofs.lower.Lowering.{Lowering, lowering-start, lowering-lay, lowering-again, heap-lowered}
 use Rattle.collect.proofs.lower.lower_heap.Statement.{statement}
 use Rattle.collect.proofs.lower.lower_heap.Tie as tie
 
 abbrev Inv-loop : tie.InvT-loop
-Inv-loop ws₀ top d i₀ ws i = Lowering d firstCell d top ws₀ ws i
+Inv-loop ws₀ top d i₀ ws i = Lowering d firstHeapCell d top ws₀ ws i
 
 abbrev μ-loop : tie.MeasureT-loop
 μ-loop ws₀ top d i₀ ws i = top - i

@@ -2,17 +2,17 @@
 use borrow.Author.Needs.{needs}
 use Prim.Native.Nat.{_-_}
 use native.Mathlib.Omega.{arith}
-use Rattle.meaning.specs.Limits.{firstCell}
+use Rattle.meaning.specs.Limits.{firstHeapCell}
 use Rattle.collect.proofs.lower.Lowering.{Lowering, lowering-start, lowering-lay, lowering-again}
 use Rattle.collect.proofs.lower.Lowering.{registers-lowered}
 use Rattle.collect.proofs.lower.lower_registers.Statement.{statement}
 use Rattle.collect.proofs.lower.lower_registers.Tie as tie
 
 abbrev Inv-loop : tie.InvT-loop
-Inv-loop ws₀ d r₀ ws r = Lowering d 0 0 firstCell ws₀ ws r
+Inv-loop ws₀ d r₀ ws r = Lowering d 0 0 firstHeapCell ws₀ ws r
 
 abbrev μ-loop : tie.MeasureT-loop
-μ-loop ws₀ d r₀ ws r = firstCell - r
+μ-loop ws₀ d r₀ ws r = firstHeapCell - r
 
 loop-holds : tie.Need-loop-holds Inv-loop μ-loop
 loop-holds c = lowering-start (omega arith)

@@ -2,7 +2,7 @@
 use borrow.Author.Needs.{needs}
 use Prim.Native.Nat.{_-_}
 use native.Mathlib.Omega.{arith}
-use Rattle.meaning.specs.Limits.{firstCell}
+use Rattle.meaning.specs.Limits.{firstHeapCell}
 use Rattle.collect.proofs.sweep.Standing.{Registers, registers-start, registers-room, registers-stand}
 use Rattle.collect.proofs.sweep.Standing.{registers-again, registers-end}
 use Rattle.collect.proofs.sweep.hold_registers.Statement.{statement}
@@ -12,7 +12,7 @@ abbrev Inv-loop : tie.InvT-loop
 Inv-loop ws₀ r₀ ws r = Registers ws₀ ws r
 
 abbrev μ-loop : tie.MeasureT-loop
-μ-loop ws₀ r₀ ws r = firstCell - r
+μ-loop ws₀ r₀ ws r = firstHeapCell - r
 
 first-word-requires : tie.Need-first-word-requires Inv-loop μ-loop
 first-word-requires c κs =

@@ -1,5 +1,5 @@
 -- `serve::running::run_fresh` meets its contract. Assumes nothing.
-use Rattle.serve.proofs.Batched.{run-served}
+use Rattle.serve.proofs.Batched.{run-output}
 use borrow.Author.Needs.{needs}
 use Rattle.serve.proofs.running.run_fresh.Statement.{statement}
 use Rattle.serve.proofs.running.run_fresh.Tie as tie
@@ -10,7 +10,7 @@ returns c =
     let made = run .before .before .before in
     let fresh = made .before .before .before in
     let s = fresh .before .before .before .before .before in
-    run-served (s .args .ws .now) (s .args .calls .now) (s .args .answers .now) (s .pre) (fresh .fresh .result)
+    run-output (s .args .ws .now) (s .args .calls .now) (s .args .answers .now) (s .pre) (fresh .fresh .result)
     (fresh .fresh .last .0) (fresh .fresh .ensures) (run .run .result) (run .run .last .0)
     (run .run .last .1 .1 .1 .0) (made .top-made .result) (c .top-ran .result) (made .top-made .ensures)
     (run .run .ensures) (c .top-ran .ensures)

@@ -4,11 +4,11 @@ use mathlib.Core.List.{List}
 use Prim.Native.Nat.{ℕ, _/_}
 use native.Mathlib.Omega.{arith}
 use lib.ListN.{length}
-use Rattle.meaning.specs.Limits.{firstCell, programBytes}
-use Rattle.meaning.specs.Program.{served}
+use Rattle.meaning.specs.Limits.{firstHeapCell, programBytes}
+use Rattle.meaning.specs.Program.{output}
 use Rattle.serve.specs.Front.{Front}
-use Rattle.serve.specs.Lent.{Served}
-use Rattle.serve.proofs.Inputs.{calls-end, calls-part, calls-served}
+use Rattle.serve.specs.Needs.{CallsFit}
+use Rattle.serve.proofs.Inputs.{calls-end, calls-part, calls-lent}
 use borrow.Author.Needs.{needs}
 use Rattle.serve.proofs.running.serve_calls.Statement.{statement}
 use Rattle.serve.proofs.running.serve_calls.Tie as tie
@@ -31,9 +31,9 @@ serve-words-requires c κs =
     let pre = c .before .before .before .before .before .before .before .before .pre in
     let fill-words = c .before .before .before .before .fill-words in
     subst
-    (λ (l : List ℕ). Served (args .cells) l (length (args .out .now)))
+    (λ (l : List ℕ). CallsFit (args .cells) l (length (args .out .now)))
     (sym (calls-part (args .input .now) _ programWords (omega (arith, pre .most)) (fill-words .ensures) (pre .some)))
-    (calls-served (args .cells) (args .input .now) _ pre)
+    (calls-lent (args .cells) (args .input .now) _ pre)
 
 returns : tie.Need-returns
 unfolding programBytes
@@ -43,7 +43,7 @@ returns c =
     let fill-words = c .before .before .before .before .before .before .before .fill-words in
     let serve-words = c .before .before .serve-words in
     subst
-    (λ (l : List ℕ). Front (args .out .now) (served firstCell (args .cells) l) (serve-words .last .1 .1 .0)
+    (λ (l : List ℕ). Front (args .out .now) (output firstHeapCell (args .cells) l) (serve-words .last .1 .1 .0)
     (serve-words .result))
     (calls-part (args .input .now) _ programWords (omega (arith, pre .most)) (fill-words .ensures) (pre .some))
     (serve-words .ensures)

@@ -3,10 +3,10 @@ use mathlib.Core.Path.{subst}
 use Prim.Native.Nat.{ℕ, _*_, _/_}
 use native.Mathlib.Omega.{arith}
 use lib.ListN.{length}
-use Rattle.meaning.specs.Limits.{firstCell, programCells, programBytes}
-use Rattle.meaning.specs.Program.{served}
+use Rattle.meaning.specs.Limits.{firstHeapCell, programCells, programBytes}
+use Rattle.meaning.specs.Program.{output}
 use Rattle.serve.specs.Front.{Front}
-use Rattle.serve.specs.Lent.{programAnswers}
+use Rattle.serve.specs.Needs.{programAnswers}
 use Rattle.serve.proofs.Batched.{cells-fit, calls-fit, lent-parts, part-length, part-capacity}
 use borrow.Author.Needs.{needs}
 use Rattle.serve.proofs.running.serve_words.Statement.{statement}
@@ -55,7 +55,7 @@ returns c =
     let pre = c .before .before .before .before .before .before .before .before .before .before .pre in
     let report-fresh = c .before .before .before .before .report-fresh in
     subst
-    (λ (n : ℕ). Front (args .out .now) (served firstCell n (args .calls .now)) (report-fresh .last .1 .1 .1 .0)
+    (λ (n : ℕ). Front (args .out .now) (output firstHeapCell n (args .calls .now)) (report-fresh .last .1 .1 .1 .0)
     (report-fresh .result))
     (part-capacity (args .cells) (2 * programCells) (cells-fit (args .cells) (pre .high)))
     (report-fresh .ensures)

@@ -2,7 +2,7 @@
 use mathlib.Core.Bool.{false≢true}
 use borrow.Author.Needs.{needs}
 use borrow.Author.Tests.{not-false}
-use Rattle.meaning.specs.Limits.{firstCell}
+use Rattle.meaning.specs.Limits.{firstHeapCell}
 use Rattle.store.proofs.Damage.{all-keep}
 use Rattle.store.proofs.passes.all_ok.Statement.{statement}
 use Rattle.store.proofs.passes.all_ok.Tie as tie
@@ -18,7 +18,7 @@ returns-3 c =
     let heap = c .before in
     let registers = heap .before .before in
     let a = registers .before .before .before .args in
-    all-keep firstCell (a .ws .now) (a .top) (not-false _ (registers .if1 .left)) (not-false _ (heap .if2 .left))
+    all-keep firstHeapCell (a .ws .now) (a .top) (not-false _ (registers .if1 .left)) (not-false _ (heap .if2 .left))
     (registers .before .registers-ok .ensures) (heap .before .heap-ok .ensures) (c .free-ok .ensures)
 
 pub all-ok-spec : {M : Type 1} → statement M

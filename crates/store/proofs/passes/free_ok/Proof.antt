@@ -5,7 +5,7 @@ use Prim.Native.Nat.{_-_, _*_, _≤_}
 use native.Mathlib.Omega.{arith}
 use lib.ListN.{length, getD}
 use borrow.Author.Tests.{eqb-true}
-use Rattle.meaning.specs.Limits.{firstCell}
+use Rattle.meaning.specs.Limits.{firstHeapCell}
 use Rattle.store.proofs.Damage.{Clear, clear-none, clear-more, free-keep}
 use Rattle.store.proofs.passes.free_ok.Statement.{statement}
 use Rattle.store.proofs.passes.free_ok.Tie as tie
@@ -30,7 +30,7 @@ returns c e =
     let at-loop = c .before in
     let a = at-loop .before .args in
     let zeros = at-loop .loop .inv .1 (eqb-true _ 0 e) in
-    free-keep firstCell (a .ws .now) (a .top) (omega arith) (λ x l h. zeros x l (omega arith))
+    free-keep firstHeapCell (a .ws .now) (a .top) (omega arith) (λ x l h. zeros x l (omega arith))
 
 pub free-ok-spec : {M : Type 1} → statement M
 free-ok-spec =

@@ -4,14 +4,14 @@ use Prim.Native.Nat.{_-_, _≤_}
 use native.Mathlib.Omega.{arith}
 use borrow.Author.Needs.{needs}
 use borrow.Author.Tests.{eqb-true}
-use Rattle.meaning.specs.Limits.{firstCell}
+use Rattle.meaning.specs.Limits.{firstHeapCell}
 use Rattle.store.specs.Passing.{Keeps}
 use Rattle.store.proofs.Damage.{Clear, clear-none, clear-more, heap-keeps}
 use Rattle.store.proofs.passes.heap_ok.Statement.{statement}
 use Rattle.store.proofs.passes.heap_ok.Tie as tie
 
 abbrev Inv-loop : tie.InvT-loop
-Inv-loop ws top damage₀ c₀ damage c = (firstCell ≤ c) × Clear (Keeps firstCell ws top) firstCell damage c
+Inv-loop ws top damage₀ c₀ damage c = (firstHeapCell ≤ c) × Clear (Keeps firstHeapCell ws top) firstHeapCell damage c
 
 abbrev μ-loop : tie.MeasureT-loop
 μ-loop ws top damage₀ c₀ damage c = top - c
@@ -23,9 +23,9 @@ loop-again : tie.Need-loop-again Inv-loop μ-loop
 loop-again c =
     let at-loop = c .before .before .before .before in
     let a = at-loop .before .before .args in
-    let keeps = heap-keeps firstCell (a .ws .now) (a .top) (at-loop .loop .c) (omega arith) (omega arith)
+    let keeps = heap-keeps firstHeapCell (a .ws .now) (a .top) (at-loop .loop .c) (omega arith) (omega arith)
     (c .before .before .first-word .ensures) (c .before .second-word .ensures) (c .term-ok .ensures) in
-    (omega arith, clear-more (Keeps firstCell (a .ws .now) (a .top)) firstCell (at-loop .loop .inv .1) keeps)
+    (omega arith, clear-more (Keeps firstHeapCell (a .ws .now) (a .top)) firstHeapCell (at-loop .loop .inv .1) keeps)
 
 returns : tie.Need-returns Inv-loop μ-loop
 returns c e x l h = c .before .loop .inv .1 (eqb-true _ 0 e) x l (omega arith)

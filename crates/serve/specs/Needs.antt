@@ -3,7 +3,7 @@ use mathlib.Core.Path.{_≡_}
 use mathlib.Core.List.{List}
 use Prim.Native.Nat.{ℕ, _+_, _-_, _*_, _/_, _%_, _≤_}
 use lib.ListN.{length}
-use Rattle.meaning.specs.Limits.{firstCell, limit, callsLimit, programCells, programBytes}
+use Rattle.meaning.specs.Limits.{firstHeapCell, limit, callsLimit, programCells, programBytes}
 
 -- the answers to the longest input, two a call
 abbrev pub programAnswers : ℕ
@@ -14,25 +14,25 @@ abbrev pub outputRoom : ℕ
 outputRoom = 11 * programAnswers + 25
 
 -- neither the store nor the batch is refused, and the answers fill their space
-pub record Lent (ws calls answers : List ℕ) : Type 0 where
+pub record BatchFits (ws calls answers : List ℕ) : Type 0 where
   pub even : length ws % 2 ≡ 0
-  pub low : 2 * firstCell ≤ length ws
+  pub low : 2 * firstHeapCell ≤ length ws
   pub high : length ws ≤ 2 * limit
   pub short : length calls ≤ callsLimit
   pub whole : length calls % 4 ≡ 0
   pub space : length answers ≡ 2 * (length calls / 4)
 
 -- a capacity, a call list and room for the output
-pub record Served (cells : ℕ) (calls : List ℕ) (room : ℕ) : Type 0 where
-  pub low : firstCell ≤ cells
+pub record CallsFit (cells : ℕ) (calls : List ℕ) (room : ℕ) : Type 0 where
+  pub low : firstHeapCell ≤ cells
   pub high : cells ≤ programCells
   pub short : length calls ≤ callsLimit
   pub whole : length calls % 4 ≡ 0
   pub fits : outputRoom ≤ room
 
 -- a capacity, the length of an input of whole calls, and room for the output
-pub record Whole (cells bytes room : ℕ) : Type 0 where
-  pub low : firstCell ≤ cells
+pub record InputFits (cells bytes room : ℕ) : Type 0 where
+  pub low : firstHeapCell ≤ cells
   pub high : cells ≤ programCells
   pub some : 4 ≤ bytes
   pub most : bytes ≤ programBytes

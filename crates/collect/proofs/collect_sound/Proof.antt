@@ -1,19 +1,19 @@
--- `gather` collects a sound store. Assumes nothing.
+-- `collect_sound` collects a sound store. Assumes nothing.
 use borrow.Author.Needs.{needs}
 use mathlib.Core.Bool.{true}
 use mathlib.Core.Path.{refl, _∙_}
 use native.Mathlib.Omega.{arith}
-use Rattle.meaning.specs.Limits.{firstCell}
+use Rattle.meaning.specs.Limits.{firstHeapCell}
 use Rattle.meaning.proofs.sound.Cells.{limit-fits}
 use Rattle.collect.proofs.Heaps.{begun}
 use Rattle.collect.proofs.Compacted.{gone, top-is, lowerable, settleable, compacted, not-lowered}
-use Rattle.collect.proofs.gather.Statement.{statement}
-use Rattle.collect.proofs.gather.Tie as tie
+use Rattle.collect.proofs.collect_sound.Statement.{statement}
+use Rattle.collect.proofs.collect_sound.Tie as tie
 
 sweep-requires : tie.Need-sweep-requires
 sweep-requires c κs =
     let a = c .before .before in
-    (_, begun firstCell (a .args .ws .now) (a .args .top) true (omega arith) (a .pre) refl)
+    (_, begun firstHeapCell (a .args .ws .now) (a .args .top) true (omega arith) (a .pre) refl)
 
 returns : tie.Need-returns
 returns c =
@@ -83,8 +83,8 @@ returns-2 c =
       top-is _ _ (a .pre) _ _ (w .sweep .ensures),
     )
 
-pub gather-spec : {M : Type 1} → statement M
-gather-spec =
+pub collect-sound-spec : {M : Type 1} → statement M
+collect-sound-spec =
     tie.close
     (tie.spec
     sweep-requires (λ c. search needs) returns lower-heap-requires cast-lower-registers lower-registers-requires
