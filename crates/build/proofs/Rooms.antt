@@ -8,11 +8,11 @@ use lib.Dec.{ltb}
 use borrow.Author.Tests.{lt-ltb, le-ltb}
 use Rattle.meaning.specs.Limits.{firstHeapCell, limit}
 use Rattle.meaning.specs.Expr.{terms}
-use Rattle.meaning.specs.Sound.{Sound, capacity, at}
+use Rattle.meaning.specs.Sound.{Sound, capacity, at, size}
 use Rattle.meaning.specs.Meaning.{meaning}
 use Rattle.meaning.specs.Reach.{live}
 use Rattle.meaning.specs.Collected.{collected, collectedTop}
-use Rattle.meaning.specs.Check.{Done, refused, only, size}
+use Rattle.meaning.specs.Verdicts.{Done, refused, only}
 use Rattle.meaning.specs.Call.{withRoom}
 use Rattle.meaning.proofs.reach.Reaching.{live-le}
 use Rattle.meaning.proofs.collected.Collecting.{collected-sound, length-collected, meaning-kept}

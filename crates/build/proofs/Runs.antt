@@ -3,9 +3,9 @@ use mathlib.Core.Path.{_≡_, refl}
 use mathlib.Core.List.{List}
 use Prim.Native.Nat.{ℕ, _+_, _-_}
 use native.Mathlib.Nat.{add-assoc}
-use Rattle.meaning.specs.Sound.{at, ends}
-use Rattle.meaning.specs.Check.{done, start, size}
-use Rattle.meaning.specs.Call.{put, copies, newRun, newRunOf}
+use Rattle.meaning.specs.Sound.{at, ends, start, size}
+use Rattle.meaning.specs.Verdicts.{done}
+use Rattle.meaning.specs.Actions.{put, copies, newRun, newRunOf}
 use Rattle.store.specs.Holds.{RunIs}
 use Rattle.store.specs.declared.Run.{Run}
 

@@ -8,7 +8,7 @@ use lib.ListN.{length}
 use Rattle.meaning.specs.Limits.{firstHeapCell}
 use Rattle.meaning.specs.Sound.{Sound, capacity}
 use Rattle.meaning.specs.Meaning.{meaning}
-use Rattle.meaning.specs.Check.{Done, refused, only}
+use Rattle.meaning.specs.Verdicts.{Done, refused, only}
 use Rattle.meaning.specs.Call.{withRoom}
 use Rattle.build.specs.declared.room.Room.{Room}
 use Rattle.build.specs.declared.room.Room.the-variants.{Ready, Lacking}

@@ -4,7 +4,7 @@ ghost use Prim.Native.Nat.{_+_, _*_, _≤_, _<_};
 ghost use lib.ListN.{length};
 ghost use Rattle.meaning.specs.Limits.{limit};
 ghost use Rattle.meaning.specs.Sound.{code, empty, ends};
-ghost use Rattle.meaning.specs.Call.{put, copy, copies};
+ghost use Rattle.meaning.specs.Actions.{put, copy, copies};
 
 // Cell c becomes a symbol, an empty bracket, or a bracket with the ends l and r.
 pub fn put_symbol(ws: &mut [u32], c: usize, a: u32)

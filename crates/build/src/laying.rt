@@ -6,9 +6,9 @@ use crate::cells::put_symbol;
 ghost use mathlib.Core.Path.{_≡_};
 ghost use Prim.Native.Nat.{_+_, _<_};
 ghost use Rattle.meaning.specs.Limits.{firstHeapCell};
-ghost use Rattle.meaning.specs.Sound.{at};
-ghost use Rattle.meaning.specs.Check.{size, done};
-ghost use Rattle.meaning.specs.Call.{newSymbol, newBracket, newRun};
+ghost use Rattle.meaning.specs.Sound.{at, size};
+ghost use Rattle.meaning.specs.Verdicts.{done};
+ghost use Rattle.meaning.specs.Actions.{newSymbol, newBracket, newRun};
 ghost use Rattle.build.specs.Room.{Roomy};
 
 // Register d becomes one new symbol.

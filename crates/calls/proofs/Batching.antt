@@ -10,7 +10,8 @@ use lib.Seq.{length-take-le}
 use borrow.Author.Tests.{le-leb, lt-leb, eqb-true}
 use Rattle.meaning.specs.Limits.{firstHeapCell, callsLimit}
 use Rattle.meaning.specs.Sound.{Sound}
-use Rattle.meaning.specs.Check.{Verdict, only, check}
+use Rattle.meaning.specs.Verdicts.{Verdict, only}
+use Rattle.meaning.specs.Check.{check}
 use Rattle.meaning.specs.Batch.{runs, asLent, ended, callsTest, batchOf, batch}
 use Rattle.meaning.proofs.check.Checking.{sound-check}
 use Rattle.store.specs.Answers.{refusalOf, verdictOf}

@@ -10,8 +10,8 @@ use lib.ListN.{length}
 use borrow.Author.Tests.{lt-ltb, le-ltb}
 use Rattle.meaning.specs.Limits.{firstHeapCell}
 use Rattle.meaning.specs.Sound.{empty, ends, at, Sound}
-use Rattle.meaning.specs.Check.{Done, done, refused, only}
-use Rattle.meaning.specs.Call.{onEnds, put, copy, rest, openTerm, openFirst, codeTerm, codeFirst}
+use Rattle.meaning.specs.Verdicts.{Done, done, refused, only}
+use Rattle.meaning.specs.Actions.{onEnds, put, copy, rest, openTerm, openFirst, codeTerm, codeFirst}
 use Rattle.store.specs.Holds.{RunIs, Termed, termIs}
 use Rattle.store.specs.declared.Run.{Run}
 use Rattle.store.specs.declared.Term.{Term}

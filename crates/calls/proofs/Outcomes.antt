@@ -2,7 +2,7 @@
 use mathlib.Core.Path.{_≡_, refl, sym, ap, _∙_}
 use mathlib.Core.List.{List}
 use Prim.Native.Nat.{ℕ, zero, suc, _-_}
-use Rattle.meaning.specs.Check.{onZero}
+use Rattle.meaning.specs.Verdicts.{onZero}
 use Rattle.meaning.specs.Batch.{Outcome}
 use Rattle.store.specs.Answers.{refusalOf}
 use Rattle.store.specs.declared.Unsound.{Unsound}

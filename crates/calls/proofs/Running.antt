@@ -8,7 +8,7 @@ use lib.ListN.{length, take, set, getD, length-set}
 use lib.Seq.{take-suc-set, take-all, length-take-le}
 use Rattle.meaning.specs.Limits.{firstHeapCell}
 use Rattle.meaning.specs.Sound.{Sound}
-use Rattle.meaning.specs.Check.{Done}
+use Rattle.meaning.specs.Verdicts.{Done}
 use Rattle.meaning.specs.Batch.{Ran, runs}
 use Rattle.meaning.proofs.effect.Steps.{step-meets}
 use Rattle.meaning.proofs.batch.Batches.{fours, runs-cut}

@@ -4,7 +4,7 @@
 use mathlib.Core.Path.{_≡_}
 use mathlib.Core.List.{List}
 use Prim.Native.Nat.{ℕ}
-use Rattle.meaning.specs.Check.{Done, done, refused, only}
+use Rattle.meaning.specs.Verdicts.{Done, done, refused, only}
 use Rattle.meaning.specs.Batch.{Outcome, asLent}
 use Rattle.store.specs.Answers.{refusalOf}
 use Rattle.calls.specs.declared.answer.Stepped.{Stepped}

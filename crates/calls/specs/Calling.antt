@@ -5,7 +5,7 @@ use mathlib.Core.List.{List}
 use Prim.Native.Nat.{ℕ, _+_, _*_}
 use lib.ListN.{getD, set}
 use Rattle.meaning.specs.Limits.{firstHeapCell}
-use Rattle.meaning.specs.Check.{Done}
+use Rattle.meaning.specs.Verdicts.{Done}
 use Rattle.meaning.specs.Call.{step}
 use Rattle.meaning.specs.Batch.{Ran}
 

@@ -5,10 +5,10 @@ use crate::answer::refused;
 ghost use mathlib.Core.Path.{_≡_};
 ghost use Prim.Native.Nat.{_<_};
 ghost use Rattle.meaning.specs.Limits.{firstHeapCell};
-ghost use Rattle.meaning.specs.Sound.{Sound, at};
+ghost use Rattle.meaning.specs.Sound.{Sound, at, size};
 ghost use Rattle.meaning.specs.Reach.{live};
-ghost use Rattle.meaning.specs.Check.{done, size};
-ghost use Rattle.meaning.specs.Call.{codeFirst};
+ghost use Rattle.meaning.specs.Verdicts.{done};
+ghost use Rattle.meaning.specs.Actions.{codeFirst};
 ghost use Rattle.calls.specs.Answers.{steppedIn};
 
 // The number of top-level terms of register a.

@@ -6,7 +6,7 @@ ghost use Rattle.meaning.specs.Limits.{firstHeapCell};
 ghost use Rattle.meaning.specs.Sound.{Sound};
 ghost use Rattle.meaning.specs.Reach.{live};
 ghost use Rattle.meaning.specs.Collected.{collected, collectedTop};
-ghost use Rattle.meaning.specs.Check.{done};
+ghost use Rattle.meaning.specs.Verdicts.{done};
 ghost use Rattle.calls.specs.Answers.{steppedIn};
 
 // Its value is live: the heap cells that are left.

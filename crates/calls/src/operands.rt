@@ -3,7 +3,7 @@ ghost use mathlib.Core.Path.{_≡_};
 ghost use mathlib.Core.Bool.{_||_};
 ghost use Prim.Native.Nat.{_<_};
 ghost use Rattle.meaning.specs.Limits.{firstHeapCell};
-ghost use Rattle.meaning.specs.Call.{opAt, names, isOperand, wrong11, wrong12, wrong13, fault};
+ghost use Rattle.meaning.specs.Operands.{opAt, names, isOperand, wrong11, wrong12, wrong13, fault};
 
 // How each operation uses d, a and b: 0 not at all, 1 as a register, 2 as a code.
 const USES: [[u32; 3]; 12] = [

@@ -10,8 +10,8 @@ ghost use mathlib.Core.Path.{_≡_};
 ghost use Prim.Native.Nat.{_<_};
 ghost use Rattle.meaning.specs.Limits.{firstHeapCell};
 ghost use Rattle.meaning.specs.Sound.{Sound, empty, at};
-ghost use Rattle.meaning.specs.Check.{done};
-ghost use Rattle.meaning.specs.Call.{put, share, head, rest, openFirst};
+ghost use Rattle.meaning.specs.Verdicts.{done};
+ghost use Rattle.meaning.specs.Actions.{put, share, head, rest, openFirst};
 ghost use Rattle.calls.specs.Answers.{steppedIn};
 
 // Register d becomes empty.

@@ -18,7 +18,8 @@ use crate::sharing::share;
 ghost use mathlib.Core.Path.{_≡_};
 ghost use Rattle.meaning.specs.Limits.{firstHeapCell};
 ghost use Rattle.meaning.specs.Sound.{Sound};
-ghost use Rattle.meaning.specs.Call.{fault, opAt, perform, step};
+ghost use Rattle.meaning.specs.Operands.{fault, opAt};
+ghost use Rattle.meaning.specs.Call.{perform, step};
 ghost use Rattle.calls.specs.Answers.{steppedIn};
 
 // A call whose own words are right.

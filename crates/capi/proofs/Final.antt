@@ -3,7 +3,8 @@
 use mathlib.Core.Path.{_≡_, sym, ap, _∙_}
 use mathlib.Core.List.{List}
 use Prim.Native.Nat.{ℕ}
-use Rattle.meaning.specs.Check.{Done, Span}
+use Rattle.meaning.specs.Verdicts.{Done}
+use Rattle.meaning.specs.Look.{Span}
 use Rattle.meaning.specs.Batch.{Outcome}
 use Rattle.capi.specs.Answers.{answer, verdictIs, doneIs, outcomeIs}
 use Rattle.capi.specs.Unique.{OneCheck, OneFresh, OneCollect, OneRun, OneLook}

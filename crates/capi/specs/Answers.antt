@@ -2,7 +2,7 @@
 -- Assumes nothing.
 use mathlib.Core.List.{List}
 use Prim.Native.Nat.{ℕ}
-use Rattle.meaning.specs.Check.{Verdict, Done}
+use Rattle.meaning.specs.Verdicts.{Verdict, Done}
 use Rattle.meaning.specs.Batch.{Outcome}
 use Rattle.capi.specs.declared.Answer.{Answer}
 

@@ -5,7 +5,9 @@ use mathlib.Core.Path.{_≡_}
 use mathlib.Core.List.{List}
 use Prim.Native.Nat.{ℕ}
 use Rattle.meaning.specs.Limits.{firstHeapCell}
-use Rattle.meaning.specs.Check.{check, freshIn, collectIn, lookSpan}
+use Rattle.meaning.specs.Check.{check, collectIn}
+use Rattle.meaning.specs.Fresh.{freshIn}
+use Rattle.meaning.specs.Look.{lookSpan}
 use Rattle.meaning.specs.Batch.{batch}
 use Rattle.store.specs.Answers.{spanIn}
 use Rattle.store.specs.declared.Span as span

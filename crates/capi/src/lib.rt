@@ -4,13 +4,15 @@
 use calls::Ran;
 use collect::Collected;
 use store::Checked;
-use store::Span;
 use store::Made;
+use store::Span;
 use store::Unsound;
 ghost use mathlib.Core.Path.{_≡_};
 ghost use Prim.Native.Nat.{_≤_};
 ghost use Rattle.meaning.specs.Limits.{firstHeapCell, limit};
-ghost use Rattle.meaning.specs.Check.{check, freshIn, collectIn, lookSpan};
+ghost use Rattle.meaning.specs.Check.{check, collectIn};
+ghost use Rattle.meaning.specs.Fresh.{freshIn};
+ghost use Rattle.meaning.specs.Look.{lookSpan};
 ghost use Rattle.meaning.specs.Batch.{batch};
 ghost use Rattle.store.specs.Answers.{refusalOf, spanIn};
 ghost use Rattle.capi.specs.Answers.{answer, verdictIs, doneIs, outcomeIs};

@@ -2,7 +2,7 @@
 use mathlib.Core.Path.{_≡_, refl, sym, ap, _∙_}
 use mathlib.Core.List.{List}
 use Prim.Native.Nat.{ℕ}
-use Rattle.meaning.specs.Check.{Done, ifSound}
+use Rattle.meaning.specs.Verdicts.{Done, ifSound}
 use Rattle.store.proofs.Refusals.{unsoundOf, unsoundOf-back, ifSound-refusal}
 use Rattle.collect.specs.Answers.{collectedIn}
 use Rattle.collect.specs.Unique.{OneCollect}

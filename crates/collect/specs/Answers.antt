@@ -2,7 +2,7 @@
 -- Assumes nothing.
 use mathlib.Core.List.{List}
 use Prim.Native.Nat.{ℕ}
-use Rattle.meaning.specs.Check.{Done, done, refused}
+use Rattle.meaning.specs.Verdicts.{Done, done, refused}
 use Rattle.store.specs.Answers.{refusalOf}
 use Rattle.collect.specs.declared.Collected.{Collected}
 use Rattle.collect.specs.declared.Collected.the-variants as collected

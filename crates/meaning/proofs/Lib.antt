@@ -6,8 +6,12 @@
 --   meaning    the meaning of cells, along a map of addresses
 --   reach      the computed list has exactly the reached cells, in ascending order
 --   collected  the collected store: its words, soundness, meaning, what determines it
---   check      the check, a fresh store, the look
---   call       registers and cells written, the table of operand words, plans and the rule for room
+--   check      the check answers 0 exactly for a sound store, 3 with the lowest cell that breaks its rule
+--   fresh      a fresh store is sound and empty
+--   look       the look
+--   operands   the table of operand words
+--   actions    registers and cells written, new cells laid
+--   call       one call, plans and the rule for room
 --   effect     each call does to expressions what its row says
 --   batch      a batch, call by call; the values that come back
 --   program    the program's tests
@@ -21,6 +25,10 @@ pub mod meaning
 pub mod reach
 pub mod collected
 pub mod check
+pub mod fresh
+pub mod look
+pub mod operands
+pub mod actions
 pub mod call
 pub mod effect
 pub mod batch

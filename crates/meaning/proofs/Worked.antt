@@ -5,10 +5,11 @@ use Rattle.meaning.specs.Limits.{firstHeapCell, limit, codeTest, program
 use Rattle.meaning.specs.Sound.{at}
 use Rattle.meaning.specs.Reach.{reached, live}
 use Rattle.meaning.specs.Collected.{newAddress, collectedOf, collected, collectedTop}
-use Rattle.meaning.specs.Check.{bracketTest, termTest, cellTest, lengthTest, topTest, verdictAt, check, fresh}
-use Rattle.meaning.specs.Check.{collectIn}
-use Rattle.meaning.specs.Call.{ops, opAt, uses, wrong11, wrong12, wrong13, fault, put, copy, share, head, rest}
-use Rattle.meaning.specs.Call.{openTerm, openFirst, codeTerm, codeFirst, newSymbol, newBracket, newRunOf, newRun}
+use Rattle.meaning.specs.Check.{bracketTest, termTest, cellTest, lengthTest, topTest, verdictAt, check, collectIn}
+use Rattle.meaning.specs.Fresh.{fresh}
+use Rattle.meaning.specs.Operands.{ops, opAt, uses, wrong11, wrong12, wrong13, fault}
+use Rattle.meaning.specs.Actions.{put, copy, share, head, rest, openTerm, openFirst, codeTerm, codeFirst}
+use Rattle.meaning.specs.Actions.{newSymbol, newBracket, newRunOf, newRun}
 use Rattle.meaning.specs.Call.{sought, planOf, lacks, roomWords, roomTop, withRoom, carryOut, perform, stepAfter}
 use Rattle.meaning.specs.Call.{step}
 use Rattle.meaning.specs.Program.{written, refusal, output, program}

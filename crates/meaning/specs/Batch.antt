@@ -6,7 +6,8 @@ use Prim.Native.Nat.{ℕ, _-_, _*_, _/_, _%_}
 use lib.Dec.{leb, eqb}
 use lib.ListN.{length, replicate}
 use Rattle.meaning.specs.Limits.{callsLimit}
-use Rattle.meaning.specs.Check.{Verdict, only, check, ifSound, Done}
+use Rattle.meaning.specs.Verdicts.{Verdict, only, ifSound, Done}
+use Rattle.meaning.specs.Check.{check}
 use Rattle.meaning.specs.Call.{step}
 
 -- the calls one after the other, later ones after a refused one too: the store and `top` after the last, and all

@@ -1,42 +1,17 @@
--- Verdicts, and the public functions that work on a store alone: the check, a fresh store, collecting, the look
--- ("Numbers that come back"). The tests are chains of `cond` in the order in which the code makes them.
--- Assumes nothing.
+-- The check, and collecting alone, which refuses what it refuses ("Numbers that come back"). The tests are chains of
+-- `cond` in the order in which the code makes them. Assumes nothing.
 use mathlib.Core.Bool.{Bool, true, false, cond}
-use mathlib.Core.List.{List, [], _∷_, _++_}
-use Prim.Native.Nat.{ℕ, zero, suc, _+_, _-_, _*_, _%_}
+use mathlib.Core.List.{List}
+use Prim.Native.Nat.{ℕ, zero, suc, _-_, _*_, _%_}
 use lib.Dec.{ltb, leb, eqb}
-use lib.ListN.{length, replicate, take, drop}
+use lib.ListN.{length}
 use Rattle.words.specs.Cell.{firstWord, secondWord}
 use Rattle.words.specs.Second.{bracketTo}
 use Rattle.meaning.specs.Limits.{limit, codeTest}
-use Rattle.meaning.specs.Sound.{Cell, code, empty, ends, at, capacity}
+use Rattle.meaning.specs.Sound.{capacity}
 use Rattle.meaning.specs.Reach.{live}
 use Rattle.meaning.specs.Collected.{collected, collectedTop}
-
--- the numbers that come back
-pub record Verdict : Type 0 where
-  pub status : ℕ
-  pub value : ℕ
-
--- a status with value 0
-abbrev pub only : ℕ → Verdict
-only s = record { status = s; value = 0 }
-
--- a verdict with the store and `top` as they are left
-pub record Done : Type 0 where
-  pub verdict : Verdict
-  pub words : List ℕ
-  pub top : ℕ
-
--- done, with a value
-abbrev pub done : List ℕ → ℕ → ℕ → Done
-done ws top v = record { verdict = record { status = 0; value = v }; words = ws; top = top }
-
--- refused, with the store and `top` that stay
-abbrev pub refused : List ℕ → ℕ → Verdict → Done
-refused ws top v = record { verdict = v; words = ws; top = top }
-
--- ---- the check
+use Rattle.meaning.specs.Verdicts.{Verdict, only, Done, done, refused, ifSound}
 
 -- the words a and b are those of a bracket: empty, or with ends from F on and below `lim`
 unfoldable pub bracketTest : ℕ → ℕ → ℕ → ℕ → Bool
@@ -79,61 +54,9 @@ check F ws top =
     (cond (topTest F (capacity ws) top) (verdictAt ws (damaged F ws top 0 (capacity ws))) (only 2))
     (only 1)
 
--- x where a verdict's status is 0, else y
-abbrev pub onZero {ℓ} : {A : Type ℓ} → ℕ → A → A → A
-onZero zero x y = x
-onZero (suc s) x y = y
-
-abbrev pub ifSound {ℓ} : {A : Type ℓ} → Verdict → A → A → A
-ifSound v x y = onZero (v .status) x y
-
--- ---- a fresh store
-
--- n empty registers
-abbrev pub emptyRegisters : ℕ → List ℕ
-emptyRegisters zero = []
-emptyRegisters (suc n) = 0 ∷ bracketTo 0 ∷ emptyRegisters n
-
--- the words of a fresh store of n cells
-unfoldable pub fresh : ℕ → ℕ → List ℕ
-fresh F n = emptyRegisters F ++ replicate (2 * (n - F)) 0
-
--- written into a slice: 0 with `top` F, or 1 with `top` 0 and the slice unchanged
-unfoldable pub freshIn : ℕ → List ℕ → Done
-freshIn F ws = cond (lengthTest F (length ws)) (done (fresh F (capacity ws)) F 0) (refused ws 0 (only 1))
-
--- ---- collecting alone: 1 to 3 with everything as it came, or 0 with live and the new `top`
-
+-- Collecting alone: 1 to 3 with everything as it came, or 0 with live and the new `top`.
 unfoldable pub collectIn : ℕ → List ℕ → ℕ → Done
 collectIn F ws top =
     ifSound (check F ws top)
     (done (collected F ws top) (collectedTop F ws top) (live F ws top))
     (refused ws top (check F ws top))
-
--- ---- the look: the part of the lent store that holds a register's cells
-
--- the number of terms in a bracket, and its first cell
-abbrev pub size : Cell → ℕ
-size (code a) = 0
-size empty = 0
-size (ends l r) = suc r - l
-
-abbrev pub start : Cell → ℕ
-start (code a) = 0
-start empty = 0
-start (ends l r) = l
-
--- a part of a list, as two word numbers: from the one up to but not including the other
-pub record Span : Type 0 where
-  pub from : ℕ
-  pub to : ℕ
-
-unfoldable pub spanOf : Cell → Span
-spanOf b = record { from = 2 * start b; to = 2 * start b + 2 * size b }
-
--- empty for an empty register, a register that is none, or an unsound store
-unfoldable pub lookSpan : ℕ → List ℕ → ℕ → ℕ → Span
-lookSpan F ws top i = ifSound (check F ws top) (cond (ltb i F) (spanOf (at ws i)) (spanOf empty)) (spanOf empty)
-
-unfoldable pub look : ℕ → List ℕ → ℕ → ℕ → List ℕ
-look F ws top i = let s = lookSpan F ws top i in take (s .to - s .from) (drop (s .from) ws)

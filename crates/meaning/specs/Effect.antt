@@ -6,11 +6,11 @@ use Prim.Native.Nat.{ℕ, zero, suc}
 use lib.Dec.{eqb}
 use Rattle.meaning.specs.Expr.{Expr, nothing, symbol, parens, append, terms, firstTerm, lessFirst, opened}
 use Rattle.meaning.specs.Expr.{firstCode}
-use Rattle.meaning.specs.Call.{Op, CLEAR, COPY, SYMBOL, WRAP, JOIN, HEAD, REST, OPEN, LENGTH, FIRST, LIVE}
-use Rattle.meaning.specs.Call.{COLLECT}
-use Rattle.meaning.specs.Call.{opAt, joinNeed, soughtBy}
 use Rattle.meaning.specs.Meaning.{meaning}
 use Rattle.meaning.specs.Reach.{live}
+use Rattle.meaning.specs.Operands.{Op, CLEAR, COPY, SYMBOL, WRAP, JOIN, HEAD, REST, OPEN, LENGTH, FIRST, LIVE}
+use Rattle.meaning.specs.Operands.{COLLECT, opAt}
+use Rattle.meaning.specs.Call.{joinNeed, soughtBy}
 
 -- what a call may depend on beside the expressions: live
 pub record Facts : Type 0 where

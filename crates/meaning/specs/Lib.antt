@@ -5,8 +5,13 @@
 --   Meaning    what a register denotes
 --   Reach      which heap cells are reached; live
 --   Collected  the store that collecting leaves, word for word
---   Check      verdicts; the check, a fresh store, collecting alone, the look
---   Call       one call: the table of operand words, what it does to the words, the rule for room
+--   Verdicts   the numbers that come back
+--   Check      the check; collecting alone
+--   Fresh      a fresh store
+--   Look       the look
+--   Operands   the twelve operations, the table of their operand words, statuses 10 to 13
+--   Actions    what each operation does to the words
+--   Call       one call: plans and the rule for room
 --   Effect     one call: what it does to expressions
 --   Batch      a batch as it is lent
 --   Program    what the program writes for what it reads
@@ -21,7 +26,12 @@ pub mod Sound
 pub mod Meaning
 pub mod Reach
 pub mod Collected
+pub mod Verdicts
 pub mod Check
+pub mod Fresh
+pub mod Look
+pub mod Operands
+pub mod Actions
 pub mod Call
 pub mod Effect
 pub mod Batch

@@ -8,7 +8,7 @@ use lib.ListN.{length, getD, drop}
 use Rattle.bytes.specs.Little.{wordsOf}
 use Rattle.bytes.specs.Decimal.{decimal}
 use Rattle.meaning.specs.Limits.{programCells, programBytes}
-use Rattle.meaning.specs.Check.{fresh}
+use Rattle.meaning.specs.Fresh.{fresh}
 use Rattle.meaning.specs.Batch.{Ran, runs}
 
 -- a line `status value` for each two answers

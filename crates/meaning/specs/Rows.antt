@@ -7,7 +7,9 @@ use lib.Dec.{eqb, T}
 use Rattle.words.specs.Second.{bracketTo}
 use Rattle.bytes.specs.Little.{bytesOf}
 use Rattle.bytes.specs.Decimal.{decimal}
-use Rattle.meaning.specs.Check.{Verdict, check, Done, fresh, emptyRegisters, collectIn}
+use Rattle.meaning.specs.Verdicts.{Verdict, Done}
+use Rattle.meaning.specs.Check.{check, collectIn}
+use Rattle.meaning.specs.Fresh.{fresh, emptyRegisters}
 use Rattle.meaning.specs.Batch.{Ran, runs}
 use Rattle.meaning.specs.Program.{program}
 

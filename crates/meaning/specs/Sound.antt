@@ -40,6 +40,17 @@ cellOf false a b = bracketOf a (b - bracketTo 0)
 unfoldable pub at : List ℕ → ℕ → Cell
 at ws c = cellOf (ltb (secondWord ws c) (bracketTo 0)) (firstWord ws c) (secondWord ws c)
 
+-- the number of terms in a bracket, and its first cell
+abbrev pub size : Cell → ℕ
+size (code a) = 0
+size empty = 0
+size (ends l r) = suc r - l
+
+abbrev pub start : Cell → ℕ
+start (code a) = 0
+start empty = 0
+start (ends l r) = l
+
 -- the two words of a bracket: empty, or with ends from F on and below `lim`
 pub data IsBracket (F lim : ℕ) : ℕ → ℕ → Type 0 where
   isEmpty : IsBracket F lim 0 (bracketTo 0)

@@ -10,7 +10,8 @@ use lib.Dec.{eqb}
 use lib.ListN.{length, getD, take}
 use Rattle.meaning.specs.Sound.{Cell, code, empty, ends, at, Sound, capacity}
 use Rattle.meaning.specs.Reach.{reached, live}
-use Rattle.meaning.specs.Check.{Verdict, collectIn}
+use Rattle.meaning.specs.Verdicts.{Verdict}
+use Rattle.meaning.specs.Check.{collectIn}
 use Rattle.meaning.specs.Batch.{batch}
 use Rattle.promises.specs.Requests.{Request, call, requests, verdicts}
 

@@ -14,8 +14,9 @@ use Rattle.meaning.specs.Sound.{capacity, Sound}
 use Rattle.meaning.specs.Meaning.{meaning}
 use Rattle.meaning.specs.Reach.{live}
 use Rattle.meaning.specs.Collected.{collected}
-use Rattle.meaning.specs.Check.{Verdict, Done, done}
-use Rattle.meaning.specs.Call.{opAt, fault, soughtBy, step}
+use Rattle.meaning.specs.Verdicts.{Verdict, Done, done}
+use Rattle.meaning.specs.Operands.{opAt, fault}
+use Rattle.meaning.specs.Call.{soughtBy, step}
 use Rattle.meaning.specs.Effect.{effect, liveForRoom, callStatus, after, answer}
 use Rattle.meaning.specs.Batch.{Outcome, batch}
 use Rattle.promises.specs.Requests.{Request, call, requested, requests, inWords}

@@ -2,7 +2,7 @@
 -- Assumes nothing.
 use mathlib.Core.List.{List, [], _∷_}
 use Prim.Native.Nat.{ℕ}
-use Rattle.meaning.specs.Check.{Verdict, Done}
+use Rattle.meaning.specs.Verdicts.{Verdict, Done}
 use Rattle.meaning.specs.Call.{step}
 
 -- a call: operation, d, a, b

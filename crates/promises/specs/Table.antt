@@ -13,7 +13,10 @@ use Rattle.meaning.specs.Sound.{empty, ends, at, IsBracket, IsTerm, capacity, S
 use Rattle.meaning.specs.Meaning.{meaning}
 use Rattle.meaning.specs.Reach.{live}
 use Rattle.meaning.specs.Collected.{collected}
-use Rattle.meaning.specs.Check.{Verdict, only, Done, check, fresh, freshIn, collectIn, look}
+use Rattle.meaning.specs.Verdicts.{Verdict, only, Done}
+use Rattle.meaning.specs.Check.{check, collectIn}
+use Rattle.meaning.specs.Fresh.{fresh, freshIn}
+use Rattle.meaning.specs.Look.{look}
 use Rattle.meaning.specs.Call.{step}
 use Rattle.meaning.specs.Batch.{Outcome, asLent, batch}
 

@@ -6,7 +6,7 @@ use mathlib.Core.List.{List}
 use Prim.Native.Nat.{ℕ, _<_}
 use Rattle.meaning.specs.Sound.{Sound}
 use Rattle.meaning.specs.Collected.{collected}
-use Rattle.meaning.specs.Check.{Verdict, Done}
+use Rattle.meaning.specs.Verdicts.{Verdict, Done}
 use Rattle.meaning.specs.Batch.{Outcome}
 use Rattle.promises.specs.Table.{CheckTable, FreshTable, CollectTable, LookTable, BatchTable}
 use Rattle.promises.specs.Calls.{BatchRun}

@@ -9,11 +9,13 @@ use lib.Seq.{length-take-le}
 use borrow.Author.Tests.{le-ltb, le-leb}
 use Rattle.meaning.specs.Limits.{firstHeapCell, limit, callsLimit, programCells, programBytes}
 use Rattle.meaning.specs.Sound.{Sound, capacity}
-use Rattle.meaning.specs.Check.{Done, done, lengthTest, fresh, freshIn}
-use Rattle.meaning.specs.Batch.{Ran, runs, Outcome, ended, callsTest, batchOf, batch}
+use Rattle.meaning.specs.Verdicts.{Done, done}
+use Rattle.meaning.specs.Check.{lengthTest}
+use Rattle.meaning.specs.Fresh.{fresh, freshIn}
 use Rattle.meaning.specs.Call.{step}
+use Rattle.meaning.specs.Batch.{Ran, runs, Outcome, ended, callsTest, batchOf, batch}
 use Rattle.meaning.specs.Program.{linesOf, written, output}
-use Rattle.meaning.proofs.check.Fresh.{fresh-sound}
+use Rattle.meaning.proofs.fresh.Fresh.{fresh-sound}
 use Rattle.meaning.proofs.check.Checking.{sound-check}
 use Rattle.serve.specs.Lines.{topLine}
 use Rattle.serve.specs.Needs.{BatchFits, CallsFit, programAnswers}

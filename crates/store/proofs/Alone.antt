@@ -6,7 +6,8 @@ use native.Mathlib.Omega.{arith}
 use Rattle.meaning.specs.Sound.{Sound}
 use Rattle.meaning.specs.Reach.{live}
 use Rattle.meaning.specs.Collected.{collected, collectedTop}
-use Rattle.meaning.specs.Check.{done, refused, check, collectIn}
+use Rattle.meaning.specs.Verdicts.{done, refused}
+use Rattle.meaning.specs.Check.{check, collectIn}
 use Rattle.meaning.proofs.check.Checking.{sound-check}
 use Rattle.store.specs.Answers.{refusalOf, verdictOf}
 use Rattle.store.specs.declared.Unsound.{Unsound}

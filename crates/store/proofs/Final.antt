@@ -5,7 +5,8 @@ use mathlib.Core.Path.{_≡_, refl, sym, ap, _∙_}
 use mathlib.Core.List.{List}
 use Prim.Native.Nat.{ℕ, _-_}
 use lib.ListN.{take, drop}
-use Rattle.meaning.specs.Check.{Verdict, Done, Span, onZero, ifSound, look}
+use Rattle.meaning.specs.Verdicts.{Verdict, Done, onZero, ifSound}
+use Rattle.meaning.specs.Look.{Span, look}
 use Rattle.store.specs.Answers.{verdictOf, madeIn}
 use Rattle.store.specs.Unique.{VerdictsDiffer, OneCheck, OneFresh, OneSpan, OneLook, LookAtSpan}
 use Rattle.store.specs.declared.Checked.{Checked}

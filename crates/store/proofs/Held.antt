@@ -11,7 +11,7 @@ use Rattle.words.specs.Second.{Second, decode}
 use Rattle.words.proofs.Plain.{decode-zero, decode-bracket}
 use Rattle.meaning.specs.Limits.{limit}
 use Rattle.meaning.specs.Sound.{Cell, code, empty, ends, at, IsBracket, isEmpty, isFull, IsTerm, isSymbol, isBracket}
-use Rattle.meaning.specs.Check.{start, size}
+use Rattle.meaning.specs.Sound.{start, size}
 use Rattle.meaning.proofs.sound.Cells.{limit-fits, read, read-ends}
 use Rattle.store.specs.Holds.{RunIs, isCode, termIs}
 use Rattle.store.specs.declared.Run.{Run}

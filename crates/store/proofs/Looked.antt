@@ -7,10 +7,11 @@ use Prim.Native.Nat.{ℕ, _+_, _*_, _≤_, _<_}
 use native.Mathlib.Omega.{arith}
 use lib.Dec.{eqb}
 use lib.ListN.{length}
-use Rattle.meaning.specs.Sound.{at, Sound}
-use Rattle.meaning.specs.Check.{start, size, check, spanOf, lookSpan}
-use Rattle.meaning.proofs.check.Looking.{span-register, run-fits}
-use Rattle.meaning.proofs.check.Looking as looking
+use Rattle.meaning.specs.Sound.{at, Sound, start, size}
+use Rattle.meaning.specs.Check.{check}
+use Rattle.meaning.specs.Look.{spanOf, lookSpan}
+use Rattle.meaning.proofs.look.Looking.{span-register, run-fits}
+use Rattle.meaning.proofs.look.Looking as looking
 use Rattle.store.specs.Answers.{verdictOf}
 use Rattle.store.specs.declared.Checked.{Checked}
 use Rattle.store.proofs.Sounds.{ifSound-no}

@@ -6,8 +6,7 @@ use Prim.Native.Nat.{ℕ, suc, _+_, _-_, _*_, _≤_, _<_}
 use native.Mathlib.Omega.{arith}
 use lib.ListN.{length}
 use Rattle.meaning.specs.Limits.{firstHeapCell}
-use Rattle.meaning.specs.Sound.{Cell, code, empty, ends, at, Sound}
-use Rattle.meaning.specs.Check.{start, size}
+use Rattle.meaning.specs.Sound.{Cell, code, empty, ends, at, Sound, start, size}
 use Rattle.meaning.proofs.sound.Cells.{BracketIn, good}
 use Rattle.store.specs.Holds.{Bracketed, RunIs}
 use Rattle.store.specs.declared.Run.{Run}

@@ -11,11 +11,12 @@ use lib.ListN.{length}
 use borrow.Author.Tests.{lt-ltb, le-ltb, ltb-false, leb-true}
 use Rattle.words.specs.Cell.{firstWord, secondWord}
 use Rattle.meaning.specs.Sound.{capacity}
-use Rattle.meaning.specs.Check.{only, cellTest, damaged, lengthTest, topTest, verdictAt, check}
+use Rattle.meaning.specs.Verdicts.{only}
+use Rattle.meaning.specs.Check.{cellTest, damaged, lengthTest, topTest, verdictAt, check}
 use Rattle.meaning.proofs.sound.Cells.{limit-fits}
 use Rattle.meaning.proofs.check.Checking.{tests-sound, sound-check}
 use Rattle.store.specs.Passing.{Keeps}
-use Rattle.meaning.proofs.check.Making.{length-yes}
+use Rattle.meaning.proofs.fresh.Making.{length-yes}
 
 -- the test of a cell's words, from the test of what was read
 pub tested : (F top c : ℕ) {x y a b : ℕ} {r t : Bool} → x ≡ a → y ≡ b → r ≡ cellTest F top c x y → r ≡ t

@@ -11,7 +11,8 @@ use lib.ListN.{length}
 use borrow.Author.Tests.{eqb-true, eqb-false, eq-eqb}
 use Rattle.meaning.specs.Limits.{firstHeapCell, limit}
 use Rattle.meaning.specs.Sound.{Sound}
-use Rattle.meaning.specs.Check.{Verdict, check, onZero, ifSound}
+use Rattle.meaning.specs.Verdicts.{Verdict, onZero, ifSound}
+use Rattle.meaning.specs.Check.{check}
 use Rattle.meaning.proofs.check.Checking.{sound-check, check-sound}
 use Rattle.store.specs.Answers.{refusalOf, verdictOf}
 use Rattle.store.specs.Holds.{Bracketed, Termed}

@@ -5,7 +5,8 @@ use mathlib.Core.List.{List}
 use Prim.Native.Nat.{ℕ, _+_, _*_, _≤_}
 use lib.ListN.{length}
 use denote.Ref.{RefT}
-use Rattle.meaning.specs.Check.{Verdict, only, Done, done, refused, Span, lookSpan}
+use Rattle.meaning.specs.Verdicts.{Verdict, only, Done, done, refused}
+use Rattle.meaning.specs.Look.{Span, lookSpan}
 use Rattle.store.specs.declared.Unsound.{Unsound}
 use Rattle.store.specs.declared.Unsound.the-variants as unsound
 use Rattle.store.specs.declared.Checked.{Checked}

@@ -7,8 +7,7 @@ use mathlib.Core.List.{List}
 use Prim.Native.Nat.{ℕ, _≤_}
 use Rattle.words.specs.Cell.{firstWord, secondWord}
 use Rattle.meaning.specs.Limits.{firstHeapCell, limit}
-use Rattle.meaning.specs.Sound.{Cell, code, empty, ends, IsBracket, IsTerm}
-use Rattle.meaning.specs.Check.{start, size}
+use Rattle.meaning.specs.Sound.{Cell, code, empty, ends, IsBracket, IsTerm, start, size}
 use Rattle.store.specs.declared.Run.{Run}
 use Rattle.store.specs.declared.Term.{Term}
 use Rattle.store.specs.declared.Term.the-variants.{Symbol, Bracket}

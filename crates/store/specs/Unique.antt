@@ -7,7 +7,9 @@ use Prim.Native.Nat.{ℕ, _-_}
 use lib.ListN.{take, drop}
 use denote.Ref.{RefT}
 use Rattle.meaning.specs.Limits.{firstHeapCell}
-use Rattle.meaning.specs.Check.{check, freshIn, lookSpan, look}
+use Rattle.meaning.specs.Check.{check}
+use Rattle.meaning.specs.Fresh.{freshIn}
+use Rattle.meaning.specs.Look.{lookSpan, look}
 use Rattle.store.specs.Answers.{verdictOf, madeIn, Placed, PartAt}
 use Rattle.store.specs.declared.Checked.{Checked}
 use Rattle.store.specs.declared.Made.{Made}

@@ -6,7 +6,9 @@ ghost use lib.Dec.{eqb};
 ghost use lib.ListN.{length, take};
 ghost use Rattle.meaning.specs.Limits.{firstHeapCell};
 ghost use Rattle.meaning.specs.Sound.{at};
-ghost use Rattle.meaning.specs.Check.{lengthTest, topTest, check, emptyRegisters, freshIn, lookSpan, look};
+ghost use Rattle.meaning.specs.Check.{lengthTest, topTest, check};
+ghost use Rattle.meaning.specs.Fresh.{emptyRegisters, freshIn};
+ghost use Rattle.meaning.specs.Look.{lookSpan, look};
 ghost use Rattle.store.specs.Answers.{verdictOf, madeIn, Placed, PartAt};
 ghost use Rattle.store.specs.Holds.{Bracketed, Termed, RunIs, termIs};
 

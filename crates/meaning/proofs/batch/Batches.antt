@@ -11,7 +11,8 @@ use lib.ListN.{length}
 use borrow.Author.Tests.{eqb-true}
 use Rattle.meaning.specs.Limits.{callsLimit}
 use Rattle.meaning.specs.Sound.{Sound}
-use Rattle.meaning.specs.Check.{only, check, onZero}
+use Rattle.meaning.specs.Verdicts.{only, onZero}
+use Rattle.meaning.specs.Check.{check}
 use Rattle.meaning.specs.Call.{step}
 use Rattle.meaning.specs.Batch.{Ran, then, runs, asLent, ended, callsTest, batchOf, batch}
 use Rattle.meaning.proofs.effect.Steps.{Batch, called, WholeCalls, none, four}

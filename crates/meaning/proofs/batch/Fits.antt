@@ -9,11 +9,12 @@ use lib.Dec.{leb}
 use lib.ListN.{length}
 use Rattle.meaning.specs.Limits.{limit}
 use Rattle.meaning.specs.Sound.{Sound}
-use Rattle.meaning.specs.Check.{Verdict, only, Done, check, onZero, ifSound, collectIn}
+use Rattle.meaning.specs.Verdicts.{Verdict, only, Done, onZero, ifSound}
+use Rattle.meaning.specs.Check.{check, collectIn}
 use Rattle.meaning.specs.Batch.{Outcome, callsTest, ended, runs, asLent, batchOf, batch}
 use Rattle.meaning.proofs.check.Checking.{Checks, length-bad, top-bad, cell-bad, sound, checks, check-sound}
 use Rattle.meaning.proofs.reach.Reaching.{live-le}
-use Rattle.meaning.proofs.check.Making.{length-yes}
+use Rattle.meaning.proofs.fresh.Making.{length-yes}
 
 module _ (F : ℕ) (ws : List ℕ) (top : ℕ) where
   check-most : check F ws top .value ≤ limit

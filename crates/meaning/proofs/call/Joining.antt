@@ -3,7 +3,8 @@ use mathlib.Core.Path.{_≡_, refl}
 use mathlib.Core.Logic.{_≢_}
 use mathlib.Core.List.{List}
 use Prim.Native.Nat.{ℕ, zero, suc, _+_}
-use Rattle.meaning.specs.Call.{share, newRun, withRoom, joinPlan, carryOut}
+use Rattle.meaning.specs.Actions.{share, newRun}
+use Rattle.meaning.specs.Call.{withRoom, joinPlan, carryOut}
 
 module _ (F : ℕ) (v ws : List ℕ) (top d a b : ℕ) where
   pub join-first-empty : (n m : ℕ) → n ≡ 0 → carryOut F (joinPlan n m v d a b) ws top ≡ share d b ws top

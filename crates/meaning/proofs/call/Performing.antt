@@ -6,10 +6,11 @@ use Prim.Native.Nat.{ℕ, zero, suc, _≤_, _<_}
 use native.Mathlib.Omega.{arith}
 use lib.ListN.{length, getD}
 use Rattle.meaning.specs.Limits.{firstHeapCell}
-use Rattle.meaning.specs.Check.{refused, only}
-use Rattle.meaning.specs.Call.{Op, CLEAR, COPY, SYMBOL, WRAP, JOIN, HEAD, REST, OPEN, LENGTH, FIRST, LIVE, COLLECT}
-use Rattle.meaning.specs.Call.{ops, opAt, useD, useA, useB, fault, perform, stepAfter, step}
-use Rattle.meaning.proofs.call.Uses.{WordsRight, right, is-register}
+use Rattle.meaning.specs.Verdicts.{refused, only}
+use Rattle.meaning.specs.Operands.{Op, CLEAR, COPY, SYMBOL, WRAP, JOIN, HEAD, REST, OPEN, LENGTH, FIRST, LIVE}
+use Rattle.meaning.specs.Operands.{COLLECT, ops, opAt, useD, useA, useB, fault}
+use Rattle.meaning.specs.Call.{perform, stepAfter, step}
+use Rattle.meaning.proofs.operands.Uses.{WordsRight, right, is-register}
 
 module _ (o d a b : ℕ) (q : fault firstHeapCell o d a b ≡ 0) {k : ℕ} (e : o ≡ k) where
   uses-right : WordsRight firstHeapCell (opAt k) d a b

@@ -15,8 +15,9 @@ use Rattle.meaning.specs.Sound.{at, Sound, capacity}
 use Rattle.meaning.specs.Meaning.{meaning}
 use Rattle.meaning.specs.Reach.{live}
 use Rattle.meaning.specs.Collected.{collected, collectedTop}
-use Rattle.meaning.specs.Check.{Done, only, refused}
-use Rattle.meaning.specs.Call.{Plan, plain, inCollected, laying, sought, lacks, roomWords, roomTop, withRoom, carryOut}
+use Rattle.meaning.specs.Verdicts.{Done, only, refused}
+use Rattle.meaning.specs.Call.{Plan, plain, inCollected, laying, sought, lacks, roomWords, roomTop, withRoom}
+use Rattle.meaning.specs.Call.{carryOut}
 use Rattle.meaning.specs.Effect.{Effect, orElse, after, answer}
 use Rattle.meaning.proofs.reach.Reaching.{live-le}
 use Rattle.meaning.proofs.collected.Collecting.{collected-sound, length-collected, meaning-kept}

@@ -13,8 +13,8 @@ use borrow.Author.Tests.{leb-true, le-leb, ltb-true, ltb-false, lt-ltb, le-ltb, 
 use Rattle.meaning.specs.Limits.{codeTest, limit}
 use Rattle.meaning.specs.Sound.{at, Sound, IsBracket, isEmpty, isFull, IsTerm, isSymbol, isBracket, capacity}
 use Rattle.words.specs.Second.{bracketTo}
-use Rattle.meaning.specs.Check.{topTest, Verdict, only, bracketTest, termTest, cellTest, damaged, lengthTest}
-use Rattle.meaning.specs.Check.{verdictAt, check}
+use Rattle.meaning.specs.Verdicts.{Verdict, only}
+use Rattle.meaning.specs.Check.{topTest, bracketTest, termTest, cellTest, damaged, lengthTest, verdictAt, check}
 use Rattle.meaning.proofs.Lists.{lt-or-ge}
 
 -- ---- one cell

@@ -22,7 +22,7 @@ use Rattle.meaning.proofs.sound.Cells.{good, TermIn}
 use Rattle.meaning.proofs.meaning.Terms.{run-ext}
 use Rattle.meaning.proofs.reach.Reaching.{listed-iff, reached-asc, reached-below}
 use Rattle.meaning.proofs.collected.Collecting.{reg-one, reg-two, heap-one, heap-two, length-collected, free-after}
-use Rattle.meaning.proofs.call.Writing.{term-law}
+use Rattle.meaning.proofs.actions.Writing.{term-law}
 
 even-or-odd : (i : ℕ) → (i ≡ 2 * (i / 2)) ⊎ (i ≡ 2 * (i / 2) + 1)
 even-or-odd i = go (lt-or-ge (2 * (i / 2)) i)

@@ -7,16 +7,16 @@ use native.Mathlib.Nat.{le-refl, le-trans, not-suc-le-zero, add-assoc}
 use native.Mathlib.Omega.{arith}
 use lib.ListN.{length}
 use Rattle.meaning.specs.Expr.{Expr, nothing, symbol, parens, append, terms}
-use Rattle.meaning.specs.Sound.{IsCode, Cell, code, empty, ends, at, Sound}
+use Rattle.meaning.specs.Sound.{IsCode, Cell, code, empty, ends, at, Sound, size}
 use Rattle.meaning.specs.Meaning.{run, inside, termOf, term, meaning}
-use Rattle.meaning.specs.Check.{size}
-use Rattle.meaning.specs.Call.{SYMBOL, WRAP, JOIN, put, copies, newSymbol, newBracket, newRunOf, newRun, share}
+use Rattle.meaning.specs.Operands.{SYMBOL, WRAP, JOIN}
+use Rattle.meaning.specs.Actions.{put, copies, newSymbol, newBracket, newRunOf, newRun, share}
 use Rattle.meaning.specs.Call.{joinNeed}
 use Rattle.meaning.specs.Effect.{Facts, does}
 use Rattle.meaning.proofs.sound.Cells.{TermIn, BracketIn, term-of-bracket, good}
 use Rattle.meaning.proofs.meaning.Terms.{append-nothing, run-ext, run-split}
-use Rattle.meaning.proofs.call.Writing.{at-put, copy-put, term-law}
-use Rattle.meaning.proofs.call.Laying.{extends-put, extends-term, extends-inside, twin, Both, both}
+use Rattle.meaning.proofs.actions.Writing.{at-put, copy-put, term-law}
+use Rattle.meaning.proofs.actions.Laying.{extends-put, extends-term, extends-inside, twin, Both, both}
 use Rattle.meaning.proofs.effect.Effects.{Others, Acts, meaning-at, new-acts, set-acts}
 use Rattle.meaning.proofs.effect.Stepping.{wrapped, size-terms}
 

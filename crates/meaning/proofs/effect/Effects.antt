@@ -13,12 +13,12 @@ use borrow.Author.Tests.{eqb-true, eqb-false}
 use Rattle.meaning.specs.Expr.{Expr}
 use Rattle.meaning.specs.Sound.{Cell, at, Sound}
 use Rattle.meaning.specs.Meaning.{inside, term, meaning}
-use Rattle.meaning.specs.Check.{Done, done, refused, only}
-use Rattle.meaning.specs.Call.{put}
+use Rattle.meaning.specs.Verdicts.{Done, done, refused, only}
+use Rattle.meaning.specs.Actions.{put}
 use Rattle.meaning.specs.Effect.{Effect, becomes, sets, tells, after, answer}
 use Rattle.meaning.proofs.sound.Cells.{BracketIn}
-use Rattle.meaning.proofs.call.Writing.{length-put, sound-register, meaning-set, meaning-other}
-use Rattle.meaning.proofs.call.Laying.{Extends, extends-self, extends-meaning}
+use Rattle.meaning.proofs.actions.Writing.{length-put, sound-register, meaning-set, meaning-other}
+use Rattle.meaning.proofs.actions.Laying.{Extends, extends-self, extends-meaning}
 
 -- the registers of a store denote e
 abbrev pub Denote : ℕ → List ℕ → (ℕ → Expr) → Type 0

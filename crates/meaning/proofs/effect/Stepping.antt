@@ -11,15 +11,16 @@ use lib.ListN.{length}
 use borrow.Author.Tests.{ltb-true, ltb-false}
 use Rattle.meaning.specs.Expr.{Expr, nothing, symbol, parens, append, terms, firstTerm, lessFirst, opened}
 use Rattle.meaning.specs.Expr.{firstCode}
-use Rattle.meaning.specs.Sound.{Cell, code, empty, ends, at, Sound}
+use Rattle.meaning.specs.Sound.{Cell, code, empty, ends, at, Sound, size}
 use Rattle.meaning.specs.Meaning.{run, inside, termOf, term, meaning}
-use Rattle.meaning.specs.Check.{done, refused, size, only}
-use Rattle.meaning.specs.Call.{Op, CLEAR, COPY, SYMBOL, WRAP, JOIN, HEAD, REST, OPEN, LENGTH, FIRST, LIVE}
-use Rattle.meaning.specs.Call.{COLLECT, put, head, rest, openTerm, openFirst, codeTerm, codeFirst, share}
+use Rattle.meaning.specs.Verdicts.{done, refused, only}
+use Rattle.meaning.specs.Operands.{Op, CLEAR, COPY, SYMBOL, WRAP, JOIN, HEAD, REST, OPEN, LENGTH, FIRST, LIVE}
+use Rattle.meaning.specs.Operands.{COLLECT}
+use Rattle.meaning.specs.Actions.{put, head, rest, openTerm, openFirst, codeTerm, codeFirst, share}
 use Rattle.meaning.specs.Effect.{Facts, Effect, sets, tells, does, onEmpty, onOpen, onFirst}
 use Rattle.meaning.proofs.sound.Cells.{TermIn, BracketIn, good}
 use Rattle.meaning.proofs.meaning.Terms.{append-nothing, terms-append}
-use Rattle.meaning.proofs.call.Writing.{copy-put, term-law}
+use Rattle.meaning.proofs.actions.Writing.{copy-put, term-law}
 use Rattle.meaning.proofs.effect.Effects.{Denote, Acts, meaning-at, set-acts, refuse-acts, tell-acts}
 
 -- ---- one term in front

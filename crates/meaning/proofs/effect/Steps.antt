@@ -9,14 +9,14 @@ use lib.Dec.{ltb, eqb}
 use lib.ListN.{length}
 use borrow.Author.Tests.{ne-eqb, le-ltb}
 use Rattle.meaning.specs.Expr.{Expr, terms}
-use Rattle.meaning.specs.Sound.{at, Sound, capacity}
+use Rattle.meaning.specs.Sound.{at, Sound, capacity, size}
 use Rattle.meaning.specs.Meaning.{meaning}
 use Rattle.meaning.specs.Reach.{live}
 use Rattle.meaning.specs.Collected.{collected, collectedTop}
-use Rattle.meaning.specs.Check.{Done, size}
-use Rattle.meaning.specs.Call.{useA, useB, uses, Op, CLEAR, COPY, SYMBOL, WRAP, JOIN, HEAD, REST, OPEN, LENGTH}
-use Rattle.meaning.specs.Call.{FIRST, LIVE, COLLECT, fault, joinNeed, joinPlan, keeps, soughtBy, lacks, planOf}
-use Rattle.meaning.specs.Call.{perform, stepAfter, step, opAt}
+use Rattle.meaning.specs.Verdicts.{Done}
+use Rattle.meaning.specs.Operands.{useA, useB, uses, Op, CLEAR, COPY, SYMBOL, WRAP, JOIN, HEAD, REST, OPEN}
+use Rattle.meaning.specs.Operands.{LENGTH, FIRST, LIVE, COLLECT, fault, opAt}
+use Rattle.meaning.specs.Call.{joinNeed, joinPlan, keeps, soughtBy, lacks, planOf, perform, stepAfter, step}
 use Rattle.meaning.specs.Effect.{Facts, facts, does, effect, liveForRoom, after, answer, callStatus}
 use Rattle.meaning.specs.Batch.{runs}
 use Rattle.meaning.proofs.sound.Cells.{good}
@@ -27,8 +27,8 @@ use Rattle.meaning.proofs.effect.Effects.{Denote, Others, meaning-at}
 use Rattle.meaning.proofs.effect.Stepping.{clear-acts, copy-acts, head-at, rest-at, open-at, code-at, length-acts}
 use Rattle.meaning.proofs.effect.Stepping.{live-acts, collect-acts, size-terms, unfit-small}
 use Rattle.meaning.proofs.effect.Building.{symbol-acts, wrap-acts, join-left-acts, join-right-acts, join-both-acts}
-use Rattle.meaning.proofs.call.Uses.{keeps-a, keeps-b, unkept-register, WordsRight, right, is-register, is-code}
-use Rattle.meaning.proofs.call.Uses.{fault-small}
+use Rattle.meaning.proofs.operands.Uses.{keeps-a, keeps-b, unkept-register, WordsRight, right, is-register, is-code}
+use Rattle.meaning.proofs.operands.Uses.{fault-small}
 use Rattle.meaning.proofs.call.Plans.{sought-sound, sought-length, sought-meaning, planLacks, planTop, topAfter}
 use Rattle.meaning.proofs.call.Plans.{WordsAfter, PlanMeets, PlanDoes, carry-meets}
 

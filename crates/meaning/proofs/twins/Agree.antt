@@ -8,17 +8,17 @@ use native.Mathlib.Nat.{le-refl, le-trans}
 use native.Mathlib.Omega.{arith}
 use lib.Dec.{ltb}
 use borrow.Author.Tests.{ltb-true, ltb-false, lt-ltb, le-ltb}
-use Rattle.meaning.specs.Sound.{Cell, code, empty, ends, at, Sound}
+use Rattle.meaning.specs.Sound.{Cell, code, empty, ends, at, Sound, size}
 use Rattle.meaning.specs.Reach.{reached, live}
 use Rattle.meaning.specs.Collected.{mapEnds, newAddress, collected, collectedTop}
-use Rattle.meaning.specs.Check.{Verdict, Done, done, refused, only, size}
-use Rattle.meaning.specs.Call.{put, share, head, rest, openTerm, openFirst, codeTerm, codeFirst}
+use Rattle.meaning.specs.Verdicts.{Verdict, Done, done, refused, only}
+use Rattle.meaning.specs.Actions.{put, share, head, rest, openTerm, openFirst, codeTerm, codeFirst}
 use Rattle.meaning.proofs.Lists.{In}
 use Rattle.meaning.proofs.sound.Cells.{good, TermIn, BracketIn, term-of-bracket}
 use Rattle.meaning.proofs.meaning.Terms.{Along}
 use Rattle.meaning.proofs.collected.Collecting.{at-register, at-new}
 use Rattle.meaning.proofs.collected.Again.{live-kept}
-use Rattle.meaning.proofs.call.Writing.{copy-put}
+use Rattle.meaning.proofs.actions.Writing.{copy-put}
 use Rattle.meaning.proofs.twins.Canons.{canon}
 use Rattle.meaning.proofs.twins.Pairs.{sound′, new-low, new-high, along-register, along-heap, canon-collected}
 use Rattle.meaning.proofs.twins.Pairs.{set-both}

@@ -8,18 +8,18 @@ use Prim.Native.Nat.{ℕ, suc, _+_, _-_, _*_, _≤_, _<_}
 use native.Mathlib.Nat.{le-trans, not-suc-le-zero}
 use native.Mathlib.Omega.{arith}
 use lib.ListN.{length}
-use Rattle.meaning.specs.Sound.{IsCode, Cell, code, empty, ends, at, Sound}
+use Rattle.meaning.specs.Sound.{IsCode, Cell, code, empty, ends, at, Sound, size}
 use Rattle.meaning.specs.Reach.{reached}
 use Rattle.meaning.specs.Collected.{mapEnds, newAddress, collected, collectedTop}
-use Rattle.meaning.specs.Check.{done, size}
-use Rattle.meaning.specs.Call.{put, copies, newSymbol, newBracket, newRunOf, newRun}
+use Rattle.meaning.specs.Verdicts.{done}
+use Rattle.meaning.specs.Actions.{put, copies, newSymbol, newBracket, newRunOf, newRun}
 use Rattle.meaning.proofs.Lists.{lt-or-ge, In, asc-in}
 use Rattle.meaning.proofs.sound.Cells.{good, TermIn, BracketIn, term-of-bracket}
 use Rattle.meaning.proofs.meaning.Terms.{Along}
 use Rattle.meaning.proofs.reach.Reaching.{live-le, reached-asc, reached-below}
 use Rattle.meaning.proofs.collected.Collecting.{at-register, at-new, length-collected}
-use Rattle.meaning.proofs.call.Writing.{copy-put, at-put}
-use Rattle.meaning.proofs.call.Laying.{Extends, extends-put, Both, both}
+use Rattle.meaning.proofs.actions.Writing.{copy-put, at-put}
+use Rattle.meaning.proofs.actions.Laying.{Extends, extends-put, Both, both}
 use Rattle.meaning.proofs.twins.Canons.{canon}
 use Rattle.meaning.proofs.twins.Pairs.{sound′, along-register, along-heap, Kept, far, old-along, new-both}
 use Rattle.meaning.proofs.twins.Agree.{Agree, size-moved, moved-in}

@@ -5,13 +5,14 @@ use mathlib.Core.List.{List}
 use Prim.Native.Nat.{ℕ, zero, suc, _+_, _*_, _≤_, _<_}
 use native.Mathlib.Omega.{arith}
 use lib.ListN.{length}
-use Rattle.meaning.specs.Sound.{empty, at, Sound}
+use Rattle.meaning.specs.Sound.{empty, at, Sound, size}
 use Rattle.meaning.specs.Reach.{live}
-use Rattle.meaning.specs.Check.{Done, done, size}
-use Rattle.meaning.specs.Call.{Op, CLEAR, COPY, SYMBOL, WRAP, JOIN, HEAD, REST, OPEN, LENGTH, FIRST, LIVE, COLLECT}
-use Rattle.meaning.specs.Call.{uses, fault, put, share, newSymbol, newBracket, newRun, head, rest, openFirst, codeFirst}
-use Rattle.meaning.specs.Call.{keeps, soughtBy, joinPlan, withRoom, planOf, carryOut, perform, stepAfter, step, opAt}
-use Rattle.meaning.proofs.call.Uses.{WordsRight, right, is-register, is-code, unkept-register}
+use Rattle.meaning.specs.Verdicts.{Done, done}
+use Rattle.meaning.specs.Operands.{Op, CLEAR, COPY, SYMBOL, WRAP, JOIN, HEAD, REST, OPEN, LENGTH, FIRST, LIVE}
+use Rattle.meaning.specs.Operands.{COLLECT, uses, fault, opAt}
+use Rattle.meaning.specs.Actions.{put, share, newSymbol, newBracket, newRun, head, rest, openFirst, codeFirst}
+use Rattle.meaning.specs.Call.{keeps, soughtBy, joinPlan, withRoom, planOf, carryOut, perform, stepAfter, step}
+use Rattle.meaning.proofs.operands.Uses.{WordsRight, right, is-register, is-code, unkept-register}
 use Rattle.meaning.proofs.effect.Steps.{size-a, size-b}
 use Rattle.meaning.proofs.twins.Agree.{Agree, clear-same, share-same, head-same, rest-same, open-same, length-same}
 use Rattle.meaning.proofs.twins.Agree.{first-same, live-same}

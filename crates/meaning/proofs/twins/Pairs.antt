@@ -12,14 +12,14 @@ use borrow.Author.Tests.{lt-ltb, le-ltb}
 use Rattle.meaning.specs.Sound.{Cell, code, empty, ends, at, Sound}
 use Rattle.meaning.specs.Reach.{reached, live}
 use Rattle.meaning.specs.Collected.{mapEnds, newAddress, collected, collectedTop}
-use Rattle.meaning.specs.Call.{put}
+use Rattle.meaning.specs.Actions.{put}
 use Rattle.meaning.proofs.Lists.{lt-or-ge, In, Asc, asc-in, place, below-mono, below-suc}
 use Rattle.meaning.proofs.sound.Cells.{good, TermIn, BracketIn, term-of-bracket}
 use Rattle.meaning.proofs.meaning.Terms.{Along}
 use Rattle.meaning.proofs.reach.Reaching.{reached-asc, reached-below}
 use Rattle.meaning.proofs.collected.Collecting.{collected-sound, along, held-register, held-heap, at-register, at-new}
-use Rattle.meaning.proofs.call.Writing.{at-put, at-put-other, sound-register}
-use Rattle.meaning.proofs.call.Laying.{Extends}
+use Rattle.meaning.proofs.actions.Writing.{at-put, at-put-other, sound-register}
+use Rattle.meaning.proofs.actions.Laying.{Extends}
 use Rattle.meaning.proofs.twins.Canons.{canon}
 use Rattle.meaning.proofs.twins.Follow.{Follows, follow-canon}
 

@@ -8,11 +8,11 @@ use Prim.Native.Nat.{ℕ, _+_, _*_, _≤_, _<_}
 use native.Mathlib.Omega.{arith}
 use lib.Dec.{ltb}
 use lib.ListN.{length}
-use Rattle.meaning.specs.Sound.{at, Sound, capacity}
+use Rattle.meaning.specs.Sound.{at, Sound, capacity, size}
 use Rattle.meaning.specs.Meaning.{meaning}
 use Rattle.meaning.specs.Reach.{live}
 use Rattle.meaning.specs.Collected.{collected, collectedTop}
-use Rattle.meaning.specs.Check.{Done, refused, only, size}
+use Rattle.meaning.specs.Verdicts.{Done, refused, only}
 use Rattle.meaning.specs.Call.{sought, lacks, roomWords, roomTop, withRoom}
 use Rattle.meaning.proofs.collected.Collecting.{collected-sound, length-collected}
 use Rattle.meaning.proofs.effect.Effects.{Denote}

@@ -11,7 +11,8 @@ use lib.Seq.{take-at}
 use Rattle.meaning.specs.Sound.{Cell, code, empty, ends, fst, snd, at, Sound, capacity}
 use Rattle.meaning.specs.Reach.{Between, reached, live}
 use Rattle.meaning.specs.Collected.{below, mapEnds, upFrom, newAddress, collected, collectedTop}
-use Rattle.meaning.specs.Check.{Done, done, collectIn}
+use Rattle.meaning.specs.Verdicts.{Done, done}
+use Rattle.meaning.specs.Check.{collectIn}
 use Rattle.meaning.proofs.Lists.{lt-or-ge, In, asc-in, in-getD, place, below-getD}
 use Rattle.meaning.proofs.sound.Cells.{good, TermIn, term-of-bracket, read, read-words}
 use Rattle.meaning.proofs.reach.Reaching.{reached-asc, reached-below}

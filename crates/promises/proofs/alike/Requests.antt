@@ -5,7 +5,7 @@ use mathlib.Core.List.{List, [], _∷_, _++_}
 use Prim.Native.Nat.{ℕ, suc, _*_}
 use native.Mathlib.Omega.{arith}
 use lib.ListN.{length}
-use Rattle.meaning.specs.Check.{Verdict}
+use Rattle.meaning.specs.Verdicts.{Verdict}
 use Rattle.meaning.specs.Call.{step}
 use Rattle.meaning.specs.Batch.{Ran, then, runs}
 use Rattle.meaning.proofs.effect.Steps.{WholeCalls, none, four}

@@ -10,8 +10,9 @@ use lib.ListN.{length, replicate}
 use lib.Seq.{take-at}
 use borrow.Author.Tests.{eqb-true}
 use Rattle.meaning.specs.Sound.{Sound}
-use Rattle.meaning.specs.Check.{Verdict, Done}
-use Rattle.meaning.specs.Call.{ops, opAt, fault, planOf, carryOut, perform, stepAfter, step}
+use Rattle.meaning.specs.Verdicts.{Verdict, Done}
+use Rattle.meaning.specs.Operands.{ops, opAt, fault}
+use Rattle.meaning.specs.Call.{planOf, carryOut, perform, stepAfter, step}
 use Rattle.meaning.specs.Batch.{ended}
 use Rattle.meaning.proofs.effect.Steps.{step-meets}
 use Rattle.meaning.proofs.batch.Batches.{batch-runs}

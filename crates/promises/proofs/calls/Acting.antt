@@ -9,19 +9,20 @@ use native.Mathlib.Nat.{add-zero}
 use native.Mathlib.Omega.{arith}
 use lib.Dec.{ltb}
 use borrow.Author.Tests.{ltb-false, le-ltb}
-use Rattle.meaning.specs.Sound.{empty, at, capacity, Sound}
+use Rattle.meaning.specs.Sound.{empty, at, capacity, Sound, size}
 use Rattle.meaning.specs.Meaning.{meaning}
 use Rattle.meaning.specs.Reach.{live}
 use Rattle.meaning.specs.Collected.{collected, collectedTop}
-use Rattle.meaning.specs.Check.{Done, done, refused, only, size}
-use Rattle.meaning.specs.Call.{Op, CLEAR, COPY, SYMBOL, WRAP, JOIN, HEAD, REST, OPEN, LENGTH, FIRST, LIVE, COLLECT, ops}
-use Rattle.meaning.specs.Call.{uses, opAt, fault, put, share, head, rest, openFirst, codeFirst, newRun, newSymbol}
-use Rattle.meaning.specs.Call.{newBracket, keeps, soughtBy, joinNeed, joinPlan, lacks, roomWords, roomTop, withRoom}
-use Rattle.meaning.specs.Call.{planOf, carryOut, perform}
+use Rattle.meaning.specs.Verdicts.{Done, done, refused, only}
+use Rattle.meaning.specs.Operands.{Op, CLEAR, COPY, SYMBOL, WRAP, JOIN, HEAD, REST, OPEN, LENGTH, FIRST, LIVE, COLLECT}
+use Rattle.meaning.specs.Operands.{ops, uses, opAt, fault}
+use Rattle.meaning.specs.Actions.{put, share, head, rest, openFirst, codeFirst, newRun, newSymbol, newBracket}
+use Rattle.meaning.specs.Call.{keeps, soughtBy, joinNeed, joinPlan, lacks, roomWords, roomTop, withRoom, planOf}
+use Rattle.meaning.specs.Call.{carryOut, perform}
 use Rattle.meaning.specs.Effect.{Effect, facts, does, orElse}
 use Rattle.meaning.proofs.effect.Effects.{Denote}
 use Rattle.meaning.proofs.effect.Stepping.{size-terms}
-use Rattle.meaning.proofs.call.Uses.{WordsRight, is-register}
+use Rattle.meaning.proofs.operands.Uses.{WordsRight, is-register}
 use Rattle.meaning.proofs.call.Plans.{sought-other, planTop, room-sound, room-denote}
 use Rattle.meaning.proofs.effect.Steps.{sound-by, length-by, size-a, size-b}
 use Rattle.promises.specs.Calls.{OnlyThere}

@@ -12,11 +12,12 @@ use borrow.Author.Tests.{ltb-true, lt-ltb, lt-leb, ne-eqb}
 use Rattle.meaning.specs.Sound.{at, capacity, Sound}
 use Rattle.meaning.specs.Reach.{live}
 use Rattle.meaning.specs.Collected.{collected, collectedTop}
-use Rattle.meaning.specs.Check.{Done, done, refused}
-use Rattle.meaning.specs.Call.{ops, opAt, uses, wrong11, wrong12, wrong13, fault, planOf, perform, stepAfter, step}
+use Rattle.meaning.specs.Verdicts.{Done, done, refused}
+use Rattle.meaning.specs.Operands.{ops, opAt, uses, wrong11, wrong12, wrong13, fault}
+use Rattle.meaning.specs.Call.{planOf, perform, stepAfter, step}
 use Rattle.meaning.specs.Effect.{effect, liveForRoom, callStatus}
 use Rattle.meaning.specs.Batch.{ended}
-use Rattle.meaning.proofs.call.Uses.{right}
+use Rattle.meaning.proofs.operands.Uses.{right}
 use Rattle.meaning.proofs.call.Plans.{planTop, topAfter, WordsAfter}
 use Rattle.meaning.proofs.effect.Steps.{Steps, step-meets, no-need}
 use Rattle.meaning.proofs.batch.Batches.{batch-runs}

@@ -8,9 +8,10 @@ use native.Mathlib.Omega.{arith}
 use Rattle.words.proofs.Cells.{firstWord-other, secondWord-other}
 use Rattle.meaning.specs.Sound.{Cell, code, empty, ends, fst, snd, at}
 use Rattle.words.specs.Cell.{firstWord, secondWord}
-use Rattle.meaning.specs.Check.{Done, done, size, start}
-use Rattle.meaning.specs.Call.{put, copy, copies, share, newSymbol, newBracket, newRunOf, newRun, head, rest, openTerm}
-use Rattle.meaning.specs.Call.{openFirst, codeTerm, codeFirst}
+use Rattle.meaning.specs.Sound.{size, start}
+use Rattle.meaning.specs.Verdicts.{Done, done}
+use Rattle.meaning.specs.Actions.{put, copy, copies, share, newSymbol, newBracket, newRunOf, newRun, head, rest}
+use Rattle.meaning.specs.Actions.{openTerm, openFirst, codeTerm, codeFirst}
 use Rattle.promises.specs.Calls.{OnlyThere}
 
 module _ (d t n : ℕ) where

@@ -8,8 +8,8 @@ use Prim.Native.Nat.{ℕ, _+_, _*_}
 use lib.Dec.{ltb}
 use lib.ListN.{getD}
 use Rattle.meaning.specs.Expr.{Expr, nothing, symbol, parens}
-use Rattle.meaning.specs.Call.{Op, CLEAR, COPY, SYMBOL, WRAP, JOIN, HEAD, REST, OPEN, LENGTH, FIRST, LIVE, COLLECT}
-use Rattle.meaning.specs.Call.{uses, wrong11, wrong12, wrong13, fault}
+use Rattle.meaning.specs.Operands.{Op, CLEAR, COPY, SYMBOL, WRAP, JOIN, HEAD, REST, OPEN, LENGTH, FIRST, LIVE, COLLECT}
+use Rattle.meaning.specs.Operands.{uses, wrong11, wrong12, wrong13, fault}
 use Rattle.meaning.specs.Effect.{Facts, does, onEmpty, onOpen, onFirst, orElse}
 use Rattle.promises.specs.Table.{OneOf}
 

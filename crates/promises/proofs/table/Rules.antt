@@ -12,7 +12,8 @@ use borrow.Author.Tests.{ltb-false, lt-ltb, le-ltb, leb-true, le-leb, eqb-true}
 use Rattle.words.specs.Cell.{firstWord, secondWord}
 use Rattle.meaning.specs.Limits.{limit, callsLimit}
 use Rattle.meaning.specs.Sound.{at, capacity}
-use Rattle.meaning.specs.Check.{Verdict, cellTest, lengthTest, topTest, check}
+use Rattle.meaning.specs.Verdicts.{Verdict}
+use Rattle.meaning.specs.Check.{cellTest, lengthTest, topTest, check}
 use Rattle.meaning.specs.Batch.{callsTest}
 use Rattle.meaning.proofs.Lists.{lt-or-ge}
 use Rattle.meaning.proofs.check.Checking.{bracket-yes, yes-bracket, term-yes, yes-term, Checks, length-bad, top-bad, cell-bad}

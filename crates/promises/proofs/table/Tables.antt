@@ -15,14 +15,17 @@ use Rattle.meaning.specs.Sound.{at, capacity, Sound}
 use Rattle.meaning.specs.Meaning.{meaning}
 use Rattle.meaning.specs.Reach.{live}
 use Rattle.meaning.specs.Collected.{collected, collectedTop}
-use Rattle.meaning.specs.Check.{Verdict, only, done, refused, lengthTest, check, onZero, fresh, freshIn, collectIn}
-use Rattle.meaning.specs.Check.{look}
-use Rattle.meaning.specs.Call.{fault, opAt, step}
+use Rattle.meaning.specs.Verdicts.{Verdict, only, done, refused, onZero}
+use Rattle.meaning.specs.Check.{lengthTest, check, collectIn}
+use Rattle.meaning.specs.Fresh.{fresh, freshIn}
+use Rattle.meaning.specs.Look.{look}
+use Rattle.meaning.specs.Operands.{fault, opAt}
+use Rattle.meaning.specs.Call.{step}
 use Rattle.meaning.specs.Effect.{Effect, facts, effect, after, answer, callStatus}
 use Rattle.meaning.specs.Batch.{Outcome, asLent, ended, batchOf, callsTest, batch, runs as calling}
-use Rattle.meaning.proofs.check.Looking.{look-none, look-empty, look-size, look-word, look-unsound}
+use Rattle.meaning.proofs.look.Looking.{look-none, look-empty, look-size, look-word, look-unsound}
 use Rattle.meaning.proofs.check.Checking.{sound, check-sound, sound-check}
-use Rattle.meaning.proofs.check.Fresh.{fresh-sound, fresh-empty}
+use Rattle.meaning.proofs.fresh.Fresh.{fresh-sound, fresh-empty}
 use Rattle.promises.specs.Calls.{lacking}
 use Rattle.promises.specs.Table.{OneOf, CheckAnswers, FreshTable, FreshAnswers, CollectTable, CollectAnswers}
 use Rattle.promises.specs.Table.{LookTable, LookAnswers, Batched, unsound, badCalls, badSpace, runs, BatchAnswers}

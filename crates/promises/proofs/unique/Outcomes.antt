@@ -12,7 +12,8 @@ use Rattle.words.specs.Cell.{firstWord, secondWord}
 use Rattle.meaning.specs.Sound.{Cell, code, empty, ends, fst, snd, at, capacity, Sound}
 use Rattle.meaning.specs.Reach.{reached, live}
 use Rattle.meaning.specs.Collected.{mapEnds, newAddress, collectedTop}
-use Rattle.meaning.specs.Check.{Verdict, only, Done, lengthTest, check}
+use Rattle.meaning.specs.Verdicts.{Verdict, only, Done}
+use Rattle.meaning.specs.Check.{lengthTest, check}
 use Rattle.meaning.specs.Batch.{Outcome, asLent}
 use Rattle.meaning.proofs.Lists.{lt-or-ge}
 use Rattle.meaning.proofs.sound.Cells.{good, BracketIn, read, bracket-words, term-words, free-words}

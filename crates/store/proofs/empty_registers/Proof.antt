@@ -5,8 +5,8 @@ use Prim.Native.Nat.{ℕ, _+_, _-_, _*_, _≤_}
 use native.Mathlib.Omega.{arith}
 use lib.ListN.{length, take, length-set}
 use Rattle.meaning.specs.Limits.{firstHeapCell}
-use Rattle.meaning.specs.Check.{emptyRegisters}
-use Rattle.meaning.proofs.check.Making.{one-more}
+use Rattle.meaning.specs.Fresh.{emptyRegisters}
+use Rattle.meaning.proofs.fresh.Making.{one-more}
 use Rattle.store.proofs.empty_registers.Statement.{statement}
 use Rattle.store.proofs.empty_registers.Tie as tie
 

@@ -3,7 +3,7 @@ use mathlib.Core.Path.{refl, ap}
 use Prim.Native.Nat.{_-_}
 use native.Mathlib.Omega.{arith}
 use lib.ListN.{take, drop}
-use Rattle.meaning.specs.Check.{Span, look}
+use Rattle.meaning.specs.Look.{Span, look}
 use borrow.Author.Needs.{needs}
 use Rattle.store.proofs.look.Statement.{statement}
 use Rattle.store.proofs.look.Tie as tie

@@ -5,8 +5,7 @@ use native.Mathlib.Omega.{arith}
 use lib.ListN.{length}
 use borrow.Author.Tests.{not-true, not-false}
 use Rattle.meaning.specs.Limits.{firstHeapCell}
-use Rattle.meaning.specs.Sound.{Sound}
-use Rattle.meaning.specs.Check.{start, size}
+use Rattle.meaning.specs.Sound.{Sound, start, size}
 use Rattle.store.proofs.Sounds.{firstHeapCell-pos, sound-iff, register-bracketed, register-inside}
 use Rattle.store.proofs.Looked.{span-unsound, span-none, span-run, run-inside}
 use borrow.Author.Needs.{needs}

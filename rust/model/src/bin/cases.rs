@@ -27,10 +27,13 @@ use Rattle.meaning.specs.Limits.{firstHeapCell, limit, codeTest, callsLimit, pr
 use Rattle.meaning.specs.Sound.{at}
 use Rattle.meaning.specs.Reach.{reached, live}
 use Rattle.meaning.specs.Collected.{newAddress, collectedOf, collected, collectedTop}
-use Rattle.meaning.specs.Check.{Verdict, Done, bracketTest, termTest, cellTest, lengthTest, topTest}
-use Rattle.meaning.specs.Check.{verdictAt, check, fresh, freshIn, collectIn, Span, spanOf, lookSpan}
-use Rattle.meaning.specs.Call.{ops, opAt, uses, wrong11, wrong12, wrong13, fault, put, copy, share, head, rest}
-use Rattle.meaning.specs.Call.{openTerm, openFirst, codeTerm, codeFirst, newSymbol, newBracket, newRunOf, newRun}
+use Rattle.meaning.specs.Verdicts.{Verdict, Done}
+use Rattle.meaning.specs.Check.{bracketTest, termTest, cellTest, lengthTest, topTest, verdictAt, check, collectIn}
+use Rattle.meaning.specs.Fresh.{fresh, freshIn}
+use Rattle.meaning.specs.Look.{Span, spanOf, lookSpan}
+use Rattle.meaning.specs.Operands.{ops, opAt, uses, wrong11, wrong12, wrong13, fault}
+use Rattle.meaning.specs.Actions.{put, copy, share, head, rest, openTerm, openFirst, codeTerm, codeFirst, newSymbol}
+use Rattle.meaning.specs.Actions.{newBracket, newRunOf, newRun}
 use Rattle.meaning.specs.Call.{sought, planOf, lacks, roomWords, roomTop, withRoom, carry, perform, stepAfter, step}
 use Rattle.meaning.specs.Batch.{Outcome, ended, callsTest, batchOf, batch}
 use Rattle.meaning.specs.Program.{written, refusal, output, program}

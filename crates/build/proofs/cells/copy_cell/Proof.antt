@@ -1,6 +1,6 @@
 -- `build::cells::copy_cell` meets its contract. Assumes nothing.
 use borrow.Author.Needs.{needs}
-use Rattle.meaning.specs.Call.{copy}
+use Rattle.meaning.specs.Actions.{copy}
 use Rattle.build.proofs.cells.copy_cell.Statement.{statement}
 use Rattle.build.proofs.cells.copy_cell.Tie as tie
 

@@ -1,7 +1,7 @@
 -- `build::cells::copy_cells` meets its contract. Assumes nothing.
 use Prim.Native.Nat.{_-_}
 use native.Mathlib.Omega.{arith}
-use Rattle.meaning.proofs.call.Copying.{Copying, begin, onward, finish}
+use Rattle.meaning.proofs.actions.Copying.{Copying, begin, onward, finish}
 use Rattle.build.proofs.cells.copy_cells.Statement.{statement}
 use Rattle.build.proofs.cells.copy_cells.Tie as tie
 

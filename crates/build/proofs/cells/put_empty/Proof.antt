@@ -1,6 +1,6 @@
 -- `build::cells::put_empty` meets its contract. Assumes nothing.
 use borrow.Author.Needs.{needs}
-use Rattle.meaning.specs.Call.{put}
+use Rattle.meaning.specs.Actions.{put}
 use Rattle.build.proofs.cells.put_empty.Statement.{statement}
 use Rattle.build.proofs.cells.put_empty.Tie as tie
 

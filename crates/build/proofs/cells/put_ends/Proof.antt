@@ -1,7 +1,7 @@
 -- `build::cells::put_ends` meets its contract. Assumes nothing.
 use native.Mathlib.Omega.{arith}
 use borrow.Author.Needs.{needs}
-use Rattle.meaning.specs.Call.{put}
+use Rattle.meaning.specs.Actions.{put}
 use Rattle.meaning.proofs.sound.Cells.{limit-fits}
 use Rattle.build.proofs.cells.put_ends.Statement.{statement}
 use Rattle.build.proofs.cells.put_ends.Tie as tie

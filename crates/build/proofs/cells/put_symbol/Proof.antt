@@ -1,6 +1,6 @@
 -- `build::cells::put_symbol` meets its contract. Assumes nothing.
 use borrow.Author.Needs.{needs}
-use Rattle.meaning.specs.Call.{put}
+use Rattle.meaning.specs.Actions.{put}
 use Rattle.build.proofs.cells.put_symbol.Statement.{statement}
 use Rattle.build.proofs.cells.put_symbol.Tie as tie
 

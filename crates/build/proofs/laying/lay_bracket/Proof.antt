@@ -1,7 +1,7 @@
 -- `build::laying::lay_bracket` meets its contract. Assumes nothing.
 use native.Mathlib.Numerals.{add-one}
 use borrow.Author.Needs.{needs}
-use Rattle.meaning.specs.Call.{newBracket}
+use Rattle.meaning.specs.Actions.{newBracket}
 use Rattle.build.proofs.laying.lay_bracket.Statement.{statement}
 use Rattle.build.proofs.laying.lay_bracket.Tie as tie
 

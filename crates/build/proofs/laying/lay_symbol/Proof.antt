@@ -1,7 +1,7 @@
 -- `build::laying::lay_symbol` meets its contract. Assumes nothing.
 use native.Mathlib.Numerals.{add-one}
 use borrow.Author.Needs.{needs}
-use Rattle.meaning.specs.Call.{newSymbol}
+use Rattle.meaning.specs.Actions.{newSymbol}
 use Rattle.build.proofs.laying.lay_symbol.Statement.{statement}
 use Rattle.build.proofs.laying.lay_symbol.Tie as tie
 

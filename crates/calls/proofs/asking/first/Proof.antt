@@ -1,7 +1,7 @@
 -- `calls::asking::first` meets its contract. Assumes nothing.
 use mathlib.Core.Path.{sym, _∙_}
 use borrow.Author.Needs.{needs}
-use Rattle.meaning.specs.Call.{codeFirst}
+use Rattle.meaning.specs.Actions.{codeFirst}
 use Rattle.store.proofs.Registers.{readable}
 use Rattle.calls.proofs.Firsts.{first-readable, on-empty, code-symbol, code-bracket}
 use Rattle.calls.proofs.asking.first.Statement.{statement}

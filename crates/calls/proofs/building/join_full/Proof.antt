@@ -3,7 +3,7 @@ use mathlib.Core.Path.{sym, _∙_}
 use native.Mathlib.Omega.{arith}
 use borrow.Author.Needs.{needs}
 use Rattle.meaning.specs.Limits.{firstHeapCell}
-use Rattle.meaning.specs.Call.{newRun}
+use Rattle.meaning.specs.Actions.{newRun}
 use Rattle.meaning.proofs.call.Plans.{sought-meaning}
 use Rattle.store.proofs.Sounds.{firstHeapCell-pos}
 use Rattle.store.proofs.Registers.{run-below}

@@ -1,7 +1,7 @@
 -- `calls::building::symbol` meets its contract. Assumes nothing.
 use mathlib.Core.Path.{sym, _∙_}
 use borrow.Author.Needs.{needs}
-use Rattle.meaning.specs.Call.{newSymbol}
+use Rattle.meaning.specs.Actions.{newSymbol}
 use Rattle.build.proofs.Rooms.{room-roomy, room-does, room-refuses}
 use Rattle.calls.proofs.building.symbol.Statement.{statement}
 use Rattle.calls.proofs.building.symbol.Tie as tie

@@ -1,7 +1,7 @@
 -- `calls::building::wrap` meets its contract. Assumes nothing.
 use mathlib.Core.Path.{sym, _∙_}
 use borrow.Author.Needs.{needs}
-use Rattle.meaning.specs.Call.{newBracket}
+use Rattle.meaning.specs.Actions.{newBracket}
 use Rattle.build.proofs.Rooms.{room-roomy, room-does, room-refuses}
 use Rattle.calls.proofs.building.wrap.Statement.{statement}
 use Rattle.calls.proofs.building.wrap.Tie as tie

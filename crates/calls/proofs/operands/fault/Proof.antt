@@ -8,8 +8,8 @@ use lib.ListN.{getD}
 use borrow.Author.Tests.{lt-ltb, le-ltb}
 use borrow.Author.Needs.{needs}
 use Rattle.meaning.specs.Limits.{firstHeapCell}
-use Rattle.meaning.specs.Call.{uses, wrong11, wrong12, wrong13, fault}
-use Rattle.meaning.proofs.call.Table.{rows, three, three-read}
+use Rattle.meaning.specs.Operands.{uses, wrong11, wrong12, wrong13, fault}
+use Rattle.meaning.proofs.operands.Table.{rows, three, three-read}
 use Rattle.calls.proofs.operands.fault.Statement.{statement}
 use Rattle.calls.proofs.operands.fault.Tie as tie
 

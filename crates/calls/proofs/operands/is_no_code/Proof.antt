@@ -4,7 +4,7 @@ use mathlib.Core.Bool.{Bool, true, false, cond, not}
 use borrow.Author.Needs.{needs}
 use borrow.Author.Tests.{eq-eqb, ne-eqb}
 use Rattle.meaning.specs.Limits.{codeTest}
-use Rattle.meaning.specs.Call.{wrong13}
+use Rattle.meaning.specs.Operands.{wrong13}
 use Rattle.calls.proofs.operands.is_no_code.Statement.{statement}
 use Rattle.calls.proofs.operands.is_no_code.Tie as tie
 

@@ -1,6 +1,6 @@
 -- `calls::operands::is_no_register` meets its contract. Assumes nothing.
 use borrow.Author.Tests.{eq-eqb, ne-eqb}
-use Rattle.meaning.specs.Call.{wrong11}
+use Rattle.meaning.specs.Operands.{wrong11}
 use Rattle.calls.proofs.operands.is_no_register.Statement.{statement}
 use Rattle.calls.proofs.operands.is_no_register.Tie as tie
 

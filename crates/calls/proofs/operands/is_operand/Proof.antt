@@ -2,8 +2,8 @@
 use mathlib.Core.Path.{sym, _∙_}
 use native.Mathlib.Omega.{arith}
 use borrow.Author.Needs.{needs}
-use Rattle.meaning.specs.Call.{uses}
-use Rattle.meaning.proofs.call.Table.{by-first, by-second}
+use Rattle.meaning.specs.Operands.{uses}
+use Rattle.meaning.proofs.operands.Table.{by-first, by-second}
 use Rattle.calls.proofs.operands.is_operand.Statement.{statement}
 use Rattle.calls.proofs.operands.is_operand.Tie as tie
 

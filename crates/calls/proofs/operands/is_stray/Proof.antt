@@ -1,6 +1,6 @@
 -- `calls::operands::is_stray` meets its contract. Assumes nothing.
 use borrow.Author.Tests.{eq-eqb, ne-eqb}
-use Rattle.meaning.specs.Call.{wrong12}
+use Rattle.meaning.specs.Operands.{wrong12}
 use Rattle.calls.proofs.operands.is_stray.Statement.{statement}
 use Rattle.calls.proofs.operands.is_stray.Tie as tie
 

@@ -1,6 +1,6 @@
 -- `calls::operands::names` meets its contract. Assumes nothing.
 use borrow.Author.Tests.{eq-eqb, ne-eqb}
-use Rattle.meaning.specs.Call.{names}
+use Rattle.meaning.specs.Operands.{names}
 use Rattle.calls.proofs.operands.names.Statement.{statement}
 use Rattle.calls.proofs.operands.names.Tie as tie
 

@@ -2,7 +2,7 @@
 use mathlib.Core.Path.{sym, _∙_}
 use native.Mathlib.Omega.{arith}
 use borrow.Author.Needs.{needs}
-use Rattle.meaning.specs.Call.{head}
+use Rattle.meaning.specs.Actions.{head}
 use Rattle.store.proofs.Registers.{readable, first-in}
 use Rattle.calls.proofs.Firsts.{on-empty, on-full}
 use Rattle.calls.proofs.sharing.head.Statement.{statement}

@@ -2,7 +2,7 @@
 use mathlib.Core.Path.{sym, _∙_}
 use native.Mathlib.Omega.{arith}
 use borrow.Author.Needs.{needs}
-use Rattle.meaning.specs.Call.{openFirst}
+use Rattle.meaning.specs.Actions.{openFirst}
 use Rattle.store.proofs.Registers.{readable, first-in}
 use Rattle.calls.proofs.Firsts.{first-readable, on-empty, open-symbol, open-bracket}
 use Rattle.calls.proofs.sharing.open_first.Statement.{statement}

@@ -2,7 +2,7 @@
 use mathlib.Core.Path.{sym, _∙_}
 use native.Mathlib.Omega.{arith}
 use borrow.Author.Needs.{needs}
-use Rattle.meaning.specs.Call.{rest}
+use Rattle.meaning.specs.Actions.{rest}
 use Rattle.store.proofs.Registers.{readable, run-below}
 use Rattle.calls.proofs.Firsts.{on-empty, rest-one, rest-more}
 use Rattle.calls.proofs.sharing.rest.Statement.{statement}

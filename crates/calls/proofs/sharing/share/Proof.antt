@@ -1,6 +1,6 @@
 -- `calls::sharing::share` meets its contract. Assumes nothing.
 use borrow.Author.Needs.{needs}
-use Rattle.meaning.specs.Call.{share}
+use Rattle.meaning.specs.Actions.{share}
 use Rattle.calls.proofs.sharing.share.Statement.{statement}
 use Rattle.calls.proofs.sharing.share.Tie as tie
 

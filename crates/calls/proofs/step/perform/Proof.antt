@@ -5,9 +5,10 @@ use Prim.Native.Nat.{ℕ, _<_}
 use borrow.Author.Needs.{needs}
 use Rattle.meaning.specs.Limits.{firstHeapCell}
 use Rattle.meaning.specs.Sound.{Sound}
-use Rattle.meaning.specs.Call.{SYMBOL, WRAP, JOIN, uses, useD, useA, useB, opAt, ops, planOf, carryOut, perform}
+use Rattle.meaning.specs.Operands.{SYMBOL, WRAP, JOIN, uses, useD, useA, useB, opAt, ops}
+use Rattle.meaning.specs.Call.{planOf, carryOut, perform}
 use Rattle.meaning.proofs.collected.Again.{live-kept}
-use Rattle.meaning.proofs.call.Uses.{keeps-operand, keeps-a, keeps-b}
+use Rattle.meaning.proofs.operands.Uses.{keeps-operand, keeps-a, keeps-b}
 use Rattle.store.proofs.Sounds.{firstHeapCell-pos}
 use Rattle.meaning.proofs.call.Performing.{d-register, a-register, b-register, collects}
 use Rattle.calls.proofs.step.perform.Statement.{statement}

@@ -9,9 +9,10 @@ use lib.ListN.{length, getD, length-take, length-drop}
 use lib.Seq.{getD-take, getD-drop}
 use borrow.Author.Tests.{lt-ltb, le-ltb}
 use Rattle.meaning.specs.Expr.{terms}
-use Rattle.meaning.specs.Sound.{Cell, code, empty, ends, at, Sound}
+use Rattle.meaning.specs.Sound.{Cell, code, empty, ends, at, Sound, size, start}
 use Rattle.meaning.specs.Meaning.{meaning}
-use Rattle.meaning.specs.Check.{check, size, start, spanOf, lookSpan, look}
+use Rattle.meaning.specs.Check.{check}
+use Rattle.meaning.specs.Look.{spanOf, lookSpan, look}
 use Rattle.meaning.proofs.sound.Cells.{BracketIn, good}
 use Rattle.meaning.proofs.Lists.{lt-or-ge}
 use Rattle.meaning.proofs.check.Checking.{sound-check}

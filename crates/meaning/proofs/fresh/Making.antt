@@ -14,7 +14,9 @@ use Rattle.words.specs.Cell.{putCell}
 use Rattle.words.specs.Second.{bracketTo}
 use Rattle.meaning.specs.Limits.{limit}
 use Rattle.meaning.specs.Sound.{capacity}
-use Rattle.meaning.specs.Check.{done, refused, only, lengthTest, emptyRegisters, fresh, freshIn}
+use Rattle.meaning.specs.Verdicts.{done, refused, only}
+use Rattle.meaning.specs.Check.{lengthTest}
+use Rattle.meaning.specs.Fresh.{emptyRegisters, fresh, freshIn}
 
 -- what an allowed length is
 pub record Allowed (F n : ℕ) : Type 0 where

@@ -7,7 +7,7 @@ use native.Mathlib.Omega.{arith}
 use lib.ListN.{length}
 use Rattle.words.specs.Cell.{firstWord, secondWord}
 use Rattle.words.proofs.Cells.{putCell-length}
-use Rattle.meaning.specs.Call.{copy, copies}
+use Rattle.meaning.specs.Actions.{copy, copies}
 
 pub copy-length : (ws : List ℕ) (c x : ℕ) → length (copy ws c x) ≡ length ws
 unfolding copy

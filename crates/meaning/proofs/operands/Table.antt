@@ -7,8 +7,8 @@ use Prim.Native.Nat.{ℕ, zero, suc, _+_, _*_, _<_}
 use native.Mathlib.Nat.{add-zero}
 use native.Mathlib.Omega.{arith}
 use lib.ListN.{length, getD}
-use Rattle.meaning.specs.Call.{uses, opAt, names, isOperand}
-use Rattle.meaning.proofs.call.Uses.{index-opAt}
+use Rattle.meaning.specs.Operands.{uses, opAt, names, isOperand}
+use Rattle.meaning.proofs.operands.Uses.{index-opAt}
 
 abbrev pub rows : List ℕ → List (List ℕ)
 rows [] = []

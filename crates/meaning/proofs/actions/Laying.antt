@@ -9,10 +9,10 @@ use native.Mathlib.Omega.{arith}
 use lib.ListN.{length}
 use Rattle.meaning.specs.Sound.{Cell, at, Sound}
 use Rattle.meaning.specs.Meaning.{inside, termOf, term, meaning}
-use Rattle.meaning.specs.Call.{put, copies}
+use Rattle.meaning.specs.Actions.{put, copies}
 use Rattle.meaning.proofs.sound.Cells.{TermIn, BracketIn, good}
-use Rattle.meaning.proofs.call.Writing.{length-put, at-put, at-put-other, copy-put, sound-top, termIn-wider}
-use Rattle.meaning.proofs.call.Writing.{term-same, inside-same, term-law}
+use Rattle.meaning.proofs.actions.Writing.{length-put, at-put, at-put-other, copy-put, sound-top, termIn-wider}
+use Rattle.meaning.proofs.actions.Writing.{term-same, inside-same, term-law}
 
 pub record Extends (F : ℕ) (ws : List ℕ) (top : ℕ) (ws′ : List ℕ) (top′ : ℕ) : Type 0 where
   pub len : length ws′ ≡ length ws

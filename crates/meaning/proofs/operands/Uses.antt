@@ -11,8 +11,9 @@ use native.Mathlib.Nat.{eq-or-lt-of-le, le-of-suc-le-suc}
 use borrow.Author.Tests.{leb-false, ltb-false, eqb-true, eq-eqb}
 use Rattle.meaning.specs.Limits.{codeTest}
 use Rattle.meaning.specs.Sound.{IsCode}
-use Rattle.meaning.specs.Call.{Op, ops, opAt, uses, index, useD, useA, useB, names, isOperand, wrong11, wrong12}
-use Rattle.meaning.specs.Call.{wrong13, fault, keeps}
+use Rattle.meaning.specs.Operands.{Op, ops, opAt, uses, index, useD, useA, useB, names, isOperand, wrong11}
+use Rattle.meaning.specs.Operands.{wrong12, wrong13, fault}
+use Rattle.meaning.specs.Call.{keeps}
 
 -- ---- the table's row of an operation
 

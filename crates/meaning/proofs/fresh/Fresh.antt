@@ -10,7 +10,7 @@ use Rattle.meaning.specs.Limits.{limit}
 use Rattle.meaning.specs.Expr.{nothing}
 use Rattle.meaning.specs.Sound.{at, Sound, isEmpty}
 use Rattle.meaning.specs.Meaning.{meaning}
-use Rattle.meaning.specs.Check.{emptyRegisters, fresh}
+use Rattle.meaning.specs.Fresh.{emptyRegisters, fresh}
 use Rattle.meaning.proofs.collected.Laid.{zeros-after}
 
 hollows-length : (n : ℕ) → length (emptyRegisters n) ≡ 2 * n

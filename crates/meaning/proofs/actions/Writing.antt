@@ -11,7 +11,7 @@ use lib.Seq.{getD-set-same, getD-set-other}
 use Rattle.meaning.specs.Expr.{Expr}
 use Rattle.meaning.specs.Sound.{Cell, code, empty, ends, fst, snd, at, Sound, IsBracket, isEmpty, isFull, IsTerm}
 use Rattle.meaning.specs.Meaning.{inside, termOf, term, meaning}
-use Rattle.meaning.specs.Call.{put, copy}
+use Rattle.meaning.specs.Actions.{put, copy}
 use Rattle.meaning.proofs.Lists.{lt-or-ge}
 use Rattle.meaning.proofs.sound.Cells.{SoundCells, TermIn, BracketIn, term-of-bracket, good, read, read-words, is-bracket}
 use Rattle.meaning.proofs.sound.Cells.{is-term, bracket-words, term-words}

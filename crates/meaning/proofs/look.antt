@@ -1,0 +1,2 @@
+-- The laws of Look. Assumes nothing.
+pub mod Looking

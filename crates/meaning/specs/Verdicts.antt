@@ -1,0 +1,35 @@
+-- Verdicts: the numbers that come back, alone and with the store as it is left ("Numbers that come back").
+-- Assumes nothing.
+use mathlib.Core.List.{List}
+use Prim.Native.Nat.{ℕ, zero, suc}
+
+-- the numbers that come back
+pub record Verdict : Type 0 where
+  pub status : ℕ
+  pub value : ℕ
+
+-- a status with value 0
+abbrev pub only : ℕ → Verdict
+only s = record { status = s; value = 0 }
+
+-- a verdict with the store and `top` as they are left
+pub record Done : Type 0 where
+  pub verdict : Verdict
+  pub words : List ℕ
+  pub top : ℕ
+
+-- done, with a value
+abbrev pub done : List ℕ → ℕ → ℕ → Done
+done ws top v = record { verdict = record { status = 0; value = v }; words = ws; top = top }
+
+-- refused, with the store and `top` that stay
+abbrev pub refused : List ℕ → ℕ → Verdict → Done
+refused ws top v = record { verdict = v; words = ws; top = top }
+
+-- x where a verdict's status is 0, else y
+abbrev pub onZero {ℓ} : {A : Type ℓ} → ℕ → A → A → A
+onZero zero x y = x
+onZero (suc s) x y = y
+
+abbrev pub ifSound {ℓ} : {A : Type ℓ} → Verdict → A → A → A
+ifSound v x y = onZero (v .status) x y
