@@ -30,7 +30,7 @@ module _ (ws : List ℕ) (top : ℕ) (s : Sound firstHeapCell ws top) where
   low-live = refl
 
   pub live-small : firstHeapCell + live firstHeapCell ws top ≤ limit
-  live-small = omega (arith, live-le firstHeapCell ws top firstHeapCell-pos s, s .high, s .small)
+  live-small = omega (arith, live-le firstHeapCell ws top firstHeapCell-pos s, s .high, s .allowed .small)
 
 -- ---- room for n cells, sought in v: above `top`, or once v is collected, or nowhere
 

@@ -20,7 +20,7 @@ use Rattle.meaning.specs.Limits.{firstHeapCell}
 use Rattle.meaning.specs.Sound as S
 use Rattle.meaning.specs.Reach.{reached, live}
 use Rattle.meaning.specs.Collected.{mapEnds, newAddress, collected, collectedTop}
-use Rattle.meaning.proofs.sound.Cells.{words-of-cells}
+use Rattle.meaning.proofs.sound.Cells.{words-of-cells, free-rule}
 use Rattle.meaning.proofs.collected.Determined.{new-last, is-collected}
 use Rattle.collect.specs.Cells.{ChainCell, cell, val, mk}
 use Rattle.collect.specs.Chain.{Heap, full, holder, Proper, place, placedCell}
@@ -171,7 +171,7 @@ module _ (ws : List ℕ) (top : ℕ) (s : S.Sound firstHeapCell ws top) where
     -- a cell from `top` on, which no pass touches
     free-cell : (c : ℕ) → top ≤ c → c < length ws / 2 → cell s₁ c ≡ mk false false (val 0) (val 0)
     free-cell c q lt =
-        let z = s .free c q lt in
+        let z = free-rule s c q lt in
         let e = ap decode (z .1) ∙ decode-zero in
         swept-free h P (cell s₁) (swept .at) c q ∙ (λ i. mk (e i .br) false (val (z .0 i)) (val (e i .ri)))
 
@@ -189,7 +189,7 @@ module _ (ws : List ℕ) (top : ℕ) (s : S.Sound firstHeapCell ws top) where
         final-words v c (new c) (kept-live c l) (fits (2 * new c + 1)) (heap c l))
         (λ i low lt.
         words-of-cells (λ j. getD v j 0 ≡ 0) (new top) (length ws / 2) free i
-        (omega (arith, new-last firstHeapCell ws top p s)) (omega (arith, s .even)))
+        (omega (arith, new-last firstHeapCell ws top p s)) (omega (arith, s .allowed .even)))
 
     pub compacted : (s₂ s₃ s₄ : List ℕ) → Lowers s₁ s₂ top dead → Settles s₂ s₃ dead → Cleared s₃ s₄ (top - dead) top
         → length s₄ ≡ length ws → ((i : ℕ) → getD s₄ i 0 < 2 ^ 32) → s₄ ≡ collected firstHeapCell ws top

@@ -139,7 +139,7 @@ module _ (F : ℕ) (ws : List ℕ) (top : ℕ) (packs : Bool) (p : 0 < F) (s : S
       go : (x : S.Cell) → S.at ws c ≡ x → Fields x (firstWord ws c) (decode (secondWord ws c)) → firstWord ws c < 2 ^ 28
       go (S.code a) e f = omega (arith, f .0, f .2)
       go S.empty e f = omega (arith, f .0)
-      go (S.ends l r) e f = omega (arith, f .0, ends-in F ws top p s c e, s .high, s .small, limit-fits)
+      go (S.ends l r) e f = omega (arith, f .0, ends-in F ws top p s c e, s .high, s .allowed .small, limit-fits)
 
   pub old-cell : (c : ℕ) → cell ws c ≡ oldCell g c
   old-cell c = let e = cell-plain F ws top p s c in rw (e)
@@ -163,7 +163,7 @@ module _ (F : ℕ) (ws : List ℕ) (top : ℕ) (packs : Bool) (p : 0 < F) (s : S
         proper = proper;
         first = first;
         room = omega (arith, s .high);
-        len = omega (arith, s .small);
+        len = omega (arith, s .allowed .small);
         small = first-small;
       };
       at = before;

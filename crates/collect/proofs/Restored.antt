@@ -50,7 +50,7 @@ module _ (ws : List ℕ) (top : ℕ) (s : S.Sound firstHeapCell ws top) (s₁ : 
 
   pub restored : length s₁ ≡ length ws → ((i : ℕ) → getD s₁ i 0 < 2 ^ 32) → s₁ ≡ ws
   restored len fits =
-      words-ext s₁ ws len (omega (arith, s .even)) (λ c lt. ap (λ (x : ChainCell). x .l .num) (same c))
+      words-ext s₁ ws len (omega (arith, s .allowed .even)) (λ c lt. ap (λ (x : ChainCell). x .l .num) (same c))
       (λ c lt. decode-inj (secondWord s₁ c) (secondWord ws c) (fits (2 * c + 1)) (second-lt firstHeapCell ws top some s c)
       (ap fieldsOf (same c)))
     where

@@ -1,6 +1,8 @@
 -- The laws of Batch. In order:
---   Batches  a batch that is not refused; a list cut anywhere
+--   Batches  calls one after the other, and a list of them cut anywhere
+--   Cases    a batch by its tests
 --   Fits     the values that come back are at most the limit
 -- Assumes nothing.
 pub mod Batches
+pub mod Cases
 pub mod Fits

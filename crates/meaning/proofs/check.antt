@@ -1,2 +1,6 @@
--- The laws of Check. Assumes nothing.
+-- The laws of Check. In order:
+--   Checking  the check answers 0 exactly for a sound store, 3 with the lowest cell that breaks its rule
+--   Scanning  the check by its tests, and its scan of the cells a step at a time
+-- Assumes nothing.
 pub mod Checking
+pub mod Scanning

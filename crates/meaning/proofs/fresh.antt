@@ -1,5 +1,5 @@
 -- The laws of Fresh. In order:
---   Making  an allowed length, and the words of a fresh store
+--   Making  the words of a fresh store
 --   Fresh   a fresh store is sound and empty
 -- Assumes nothing.
 pub mod Making

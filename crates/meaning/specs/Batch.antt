@@ -1,8 +1,9 @@
 -- A batch of calls as it is lent: the store, `top`, the call list and the answer space ("Numbers that come back").
 -- Assumes nothing.
+use mathlib.Core.Path.{_≡_}
 use mathlib.Core.Bool.{Bool, false, cond}
 use mathlib.Core.List.{List, [], _∷_, _++_}
-use Prim.Native.Nat.{ℕ, _-_, _*_, _/_, _%_}
+use Prim.Native.Nat.{ℕ, _-_, _*_, _/_, _%_, _≤_}
 use lib.Dec.{leb, eqb}
 use lib.ListN.{length, replicate}
 use Rattle.meaning.specs.Limits.{callsLimit}
@@ -50,7 +51,11 @@ ended r out = record {
   answers = r .answers ++ replicate (length out - length (r .answers)) 0;
 }
 
--- a call list of n words may be
+-- how many words a call list may have: whole calls, no more than the limit
+pub record AllowedCalls (n : ℕ) : Type 0 where
+  pub short : n ≤ callsLimit
+  pub whole : n % 4 ≡ 0
+
 unfoldable pub callsTest : ℕ → Bool
 callsTest n = cond (leb n callsLimit) (eqb (n % 4) 0) false
 

@@ -68,12 +68,20 @@ pub data IsTerm (F c : ℕ) : ℕ → ℕ → Type 0 where
 abbrev pub capacity : List ℕ → ℕ
 capacity ws = length ws / 2
 
+-- how many words a store may have: whole cells, no fewer than the registers and no more than the limit
+pub record Allowed (F n : ℕ) : Type 0 where
+  pub even : n % 2 ≡ 0
+  pub large : 2 * F ≤ n
+  pub small : n ≤ 2 * limit
+
+-- the rule of cell c: a register is a bracket, an occupied heap cell a term, and a cell from `top` on two zero words
+pub record CellRule (F : ℕ) (ws : List ℕ) (top c : ℕ) : Type 0 where
+  pub register : c < F → IsBracket F top (firstWord ws c) (secondWord ws c)
+  pub occupied : F ≤ c → c < top → IsTerm F c (firstWord ws c) (secondWord ws c)
+  pub free : top ≤ c → (firstWord ws c ≡ 0) × (secondWord ws c ≡ 0)
+
 pub record Sound (F : ℕ) (ws : List ℕ) (top : ℕ) : Type 0 where
-  pub even : length ws % 2 ≡ 0
-  pub large : 2 * F ≤ length ws
-  pub small : length ws ≤ 2 * limit
+  pub allowed : Allowed F (length ws)
   pub low : F ≤ top
   pub high : top ≤ capacity ws
-  pub registers : (i : ℕ) → i < F → IsBracket F top (firstWord ws i) (secondWord ws i)
-  pub heap : (c : ℕ) → F ≤ c → c < top → IsTerm F c (firstWord ws c) (secondWord ws c)
-  pub free : (c : ℕ) → top ≤ c → c < capacity ws → (firstWord ws c ≡ 0) × (secondWord ws c ≡ 0)
+  pub cells : (c : ℕ) → c < capacity ws → CellRule F ws top c

@@ -7,7 +7,7 @@ use Rattle.promises.specs.Calls.{CallsDo, CallsAnswer, BatchesRun}
 use Rattle.promises.specs.Alike.{AlikeIsCollected, CollectionsNeverShow}
 use Rattle.promises.specs.Unique.{OneAnswer, OneCheck, OneFresh, OneCollected, OneLook, OneCollect, OneBatch}
 use Rattle.promises.proofs.table.Tables as tables
-use Rattle.promises.proofs.collecting.Keeping as gathering
+use Rattle.promises.proofs.collecting.Keeping as keeping
 use Rattle.promises.proofs.calls.Calling as calling
 use Rattle.promises.proofs.alike.Alikes as alikes
 use Rattle.promises.proofs.alike.Striking as struck
@@ -36,10 +36,10 @@ call-answers = tables.call-answers
 -- ---- demand 2
 
 pub live-counts : LiveCounts
-live-counts = gathering.live-counts
+live-counts = keeping.live-counts
 
-pub collecting-gathers : CollectingKeeps
-collecting-gathers = gathering.collecting-gathers
+pub collecting-keeps : CollectingKeeps
+collecting-keeps = keeping.collecting-keeps
 
 pub calls-do : CallsDo
 calls-do = calling.calls-do

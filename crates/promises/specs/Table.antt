@@ -4,12 +4,10 @@
 use mathlib.Core.Path.{_≡_}
 use mathlib.Core.Logic.{_⊎_, _≢_}
 use mathlib.Core.List.{List, [], _∷_}
-use Prim.Native.Nat.{ℕ, suc, _+_, _-_, _*_, _/_, _%_, _≤_, _<_}
+use Prim.Native.Nat.{ℕ, suc, _+_, _-_, _*_, _/_, _≤_, _<_}
 use lib.ListN.{length, getD}
-use Rattle.words.specs.Cell.{firstWord, secondWord}
-use Rattle.meaning.specs.Limits.{limit, callsLimit}
 use Rattle.meaning.specs.Expr.{nothing}
-use Rattle.meaning.specs.Sound.{empty, ends, at, IsBracket, IsTerm, capacity, Sound}
+use Rattle.meaning.specs.Sound.{empty, ends, at, capacity, Allowed, CellRule, Sound}
 use Rattle.meaning.specs.Meaning.{meaning}
 use Rattle.meaning.specs.Reach.{live}
 use Rattle.meaning.specs.Collected.{collected}
@@ -18,7 +16,7 @@ use Rattle.meaning.specs.Check.{check, collectIn}
 use Rattle.meaning.specs.Fresh.{fresh, freshIn}
 use Rattle.meaning.specs.Look.{look}
 use Rattle.meaning.specs.Call.{step}
-use Rattle.meaning.specs.Batch.{Outcome, asLent, batch}
+use Rattle.meaning.specs.Batch.{Outcome, asLent, AllowedCalls, batch}
 
 -- n is one of these numbers
 abbrev pub OneOf : ℕ → List ℕ → Type 0
@@ -28,26 +26,16 @@ OneOf n (m ∷ ms) = (n ≡ m) ⊎ OneOf n ms
 abbrev pub Not : Type 0 → Type 0
 Not A = A → ⊥
 
--- ---- the rules of a sound store, one by one
-
-abbrev pub LengthRule : ℕ → List ℕ → Type 0
-LengthRule F ws = (length ws % 2 ≡ 0) × (2 * F ≤ length ws) × (length ws ≤ 2 * limit)
-
+-- `top` lies between the registers and the end
 abbrev pub TopRule : ℕ → List ℕ → ℕ → Type 0
 TopRule F ws top = (F ≤ top) × (top ≤ capacity ws)
-
--- a register is a bracket, an occupied heap cell a term, and a cell from `top` on two zero words
-pub record CellRule (F : ℕ) (ws : List ℕ) (top c : ℕ) : Type 0 where
-  pub register : c < F → IsBracket F top (firstWord ws c) (secondWord ws c)
-  pub occupied : F ≤ c → c < top → IsTerm F c (firstWord ws c) (secondWord ws c)
-  pub free : top ≤ c → (firstWord ws c ≡ 0) × (secondWord ws c ≡ 0)
 
 -- ---- the check: 0 exactly for a sound store, 3 with the lowest cell that breaks its rule
 
 pub data Judged (F : ℕ) (ws : List ℕ) (top : ℕ) : Verdict → Type 0 where
-  badLength : Not (LengthRule F ws) → Judged F ws top (only 1)
-  badTop : LengthRule F ws → Not (TopRule F ws top) → Judged F ws top (only 2)
-  badCell : (c : ℕ) → LengthRule F ws → TopRule F ws top → c < capacity ws → Not (CellRule F ws top c)
+  badLength : Not (Allowed F (length ws)) → Judged F ws top (only 1)
+  badTop : Allowed F (length ws) → Not (TopRule F ws top) → Judged F ws top (only 2)
+  badCell : (c : ℕ) → Allowed F (length ws) → TopRule F ws top → c < capacity ws → Not (CellRule F ws top c)
       → ((x : ℕ) → x < c → CellRule F ws top x) → Judged F ws top (record { status = 3; value = c })
   isSound : Sound F ws top → Judged F ws top (only 0)
 
@@ -65,9 +53,9 @@ CheckAnswers = (F : ℕ) (ws : List ℕ) (top : ℕ) → CheckTable F ws top (ch
 pub record FreshTable (F : ℕ) (ws : List ℕ) (r : Done) : Type 0 where
   pub number : OneOf (r .verdict .status) (0 ∷ 1 ∷ [])
   pub value : r .verdict .value ≡ 0
-  pub made : LengthRule F ws → (r .verdict .status ≡ 0) × (r .words ≡ fresh F (capacity ws)) × (r .top ≡ F)
-  pub sound : LengthRule F ws → Sound F (r .words) (r .top) × ((i : ℕ) → i < F → meaning (r .words) i ≡ nothing)
-  pub refused : Not (LengthRule F ws) → (r .verdict .status ≡ 1) × (r .words ≡ ws) × (r .top ≡ 0)
+  pub made : Allowed F (length ws) → (r .verdict .status ≡ 0) × (r .words ≡ fresh F (capacity ws)) × (r .top ≡ F)
+  pub sound : Allowed F (length ws) → Sound F (r .words) (r .top) × ((i : ℕ) → i < F → meaning (r .words) i ≡ nothing)
+  pub refused : Not (Allowed F (length ws)) → (r .verdict .status ≡ 1) × (r .words ≡ ws) × (r .top ≡ 0)
 
 abbrev pub FreshAnswers : Type 0
 FreshAnswers = (F : ℕ) (ws : List ℕ) → FreshTable F ws (freshIn F ws)
@@ -100,19 +88,16 @@ LookAnswers = (F : ℕ) → 0 < F → (ws : List ℕ) (top i : ℕ) → LookTabl
 
 -- ---- a batch: 1 to 5 leave the store and the answers as lent and give `top` back as it came
 
-abbrev pub CallsRule : List ℕ → Type 0
-CallsRule calls = (length calls ≤ callsLimit) × (length calls % 4 ≡ 0)
-
 -- two words a call
 abbrev pub SpaceRule : List ℕ → List ℕ → Type 0
 SpaceRule calls out = 2 * (length calls / 4) ≤ length out
 
 pub data Batched (F : ℕ) (ws : List ℕ) (top : ℕ) (calls out : List ℕ) : Outcome → Type 0 where
   unsound : (v : Verdict) → Judged F ws top v → v .status ≢ 0 → Batched F ws top calls out (asLent v ws top out)
-  badCalls : Sound F ws top → Not (CallsRule calls) → Batched F ws top calls out (asLent (only 4) ws top out)
-  badSpace : Sound F ws top → CallsRule calls → Not (SpaceRule calls out)
+  badCalls : Sound F ws top → Not (AllowedCalls (length calls)) → Batched F ws top calls out (asLent (only 4) ws top out)
+  badSpace : Sound F ws top → AllowedCalls (length calls) → Not (SpaceRule calls out)
       → Batched F ws top calls out (asLent (only 5) ws top out)
-  runs : (r : Outcome) → Sound F ws top → CallsRule calls → SpaceRule calls out → r .verdict ≡ only 0
+  runs : (r : Outcome) → Sound F ws top → AllowedCalls (length calls) → SpaceRule calls out → r .verdict ≡ only 0
       → Batched F ws top calls out r
 
 pub record BatchTable (F : ℕ) (ws : List ℕ) (top : ℕ) (calls out : List ℕ) (r : Outcome) : Type 0 where

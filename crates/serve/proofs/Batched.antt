@@ -6,17 +6,16 @@ use Prim.Native.Nat.{ℕ, _+_, _-_, _*_, _/_, _%_, _≤_}
 use native.Mathlib.Omega.{arith}
 use lib.ListN.{length, take, replicate, length-replicate}
 use lib.Seq.{length-take-le}
-use borrow.Author.Tests.{le-ltb, le-leb}
 use Rattle.meaning.specs.Limits.{firstHeapCell, limit, callsLimit, programCells, programBytes}
 use Rattle.meaning.specs.Sound.{Sound, capacity}
 use Rattle.meaning.specs.Verdicts.{Done, done}
-use Rattle.meaning.specs.Check.{lengthTest}
 use Rattle.meaning.specs.Fresh.{fresh, freshIn}
-use Rattle.meaning.specs.Call.{step}
-use Rattle.meaning.specs.Batch.{Ran, runs, Outcome, ended, callsTest, batchOf, batch}
+use Rattle.meaning.specs.Batch.{Ran, runs, Outcome, ended, AllowedCalls, batch}
 use Rattle.meaning.specs.Program.{linesOf, written, output}
 use Rattle.meaning.proofs.fresh.Fresh.{fresh-sound}
-use Rattle.meaning.proofs.check.Checking.{sound-check}
+use Rattle.meaning.proofs.check.Checking.{yes-length}
+use Rattle.meaning.proofs.batch.Batches.{runs-length}
+use Rattle.meaning.proofs.batch.Cases.{batch-run}
 use Rattle.serve.specs.Lines.{topLine}
 use Rattle.serve.specs.Needs.{BatchFits, CallsFit, programAnswers}
 use Rattle.store.specs.Answers.{madeIn}
@@ -49,16 +48,7 @@ ran-answers (Refused u) ws top answers = refl
 ran-answers BadCalls ws top answers = refl
 ran-answers ShortAnswers ws top answers = refl
 
--- ---- two answers a call
-
-runs-length : (F : ℕ) (ws : List ℕ) (top : ℕ) (cs : List ℕ) → length (runs F ws top cs .answers) ≡ 2 * (length cs / 4)
-runs-length F ws top [] = refl
-runs-length F ws top (o ∷ []) = refl
-runs-length F ws top (o ∷ d ∷ []) = refl
-runs-length F ws top (o ∷ d ∷ a ∷ []) = refl
-runs-length F ws top (o ∷ d ∷ a ∷ b ∷ cs) =
-    let c = step F ws top o d a b in
-    omega (arith, runs-length F (c .words) (c .top) cs)
+-- ---- a batch that is run
 
 -- the answers of a batch that has just room for them
 ended-answers : (r : Ran) (out : List ℕ) → length out ≡ length (r .answers) → ended r out .answers ≡ r .answers
@@ -67,34 +57,23 @@ ended-answers r out e =
     let z : length out - length (r .answers) ≡ 0 = omega arith in
     rw z (append-nil (r .answers))
 
-module _ (F : ℕ) (ws : List ℕ) (top : ℕ) (cs out : List ℕ) (s : Sound F ws top) (short : length cs ≤ callsLimit)
-    (whole : length cs % 4 ≡ 0) (space : length out ≡ 2 * (length cs / 4)) where
-  batch-ended : batch F ws top cs out ≡ ended (runs F ws top cs) out
-  unfolding batch batchOf callsTest
-  batch-ended =
-      rw (
-        sound-check F ws top s,
-        le-leb (length cs) callsLimit short,
-        whole,
-        le-leb (2 * (length cs / 4)) (length out) (omega arith),
-      )
-
+module _ (F : ℕ) (ws : List ℕ) (top : ℕ) (cs out : List ℕ) (s : Sound F ws top) (list : AllowedCalls (length cs))
+    (space : length out ≡ 2 * (length cs / 4)) where
   batch-answers : batch F ws top cs out .answers ≡ runs F ws top cs .answers
   batch-answers =
-      ap (λ (o : Outcome). o .answers) batch-ended
+      ap (λ (o : Outcome). o .answers) (batch-run F ws top cs out s list (omega arith))
       ∙ ended-answers (runs F ws top cs) out (space ∙ sym (runs-length F ws top cs))
 
   batch-top : batch F ws top cs out .top ≡ runs F ws top cs .top
   unfolding ended
-  batch-top = ap (λ (o : Outcome). o .top) batch-ended
+  batch-top = ap (λ (o : Outcome). o .top) (batch-run F ws top cs out s list (omega arith))
 
 -- ---- the whole
 
 module _ (ws cs out : List ℕ) (l : BatchFits ws cs out) where
   fresh-done : freshIn firstHeapCell ws ≡ done (fresh firstHeapCell (capacity ws)) firstHeapCell 0
-  unfolding freshIn lengthTest
-  fresh-done =
-      rw (l .even, le-ltb (length ws) (2 * firstHeapCell) (l .low), le-leb (length ws) (2 * limit) (l .high))
+  unfolding freshIn
+  fresh-done = rw (yes-length firstHeapCell (length ws) (l .store))
 
   module _ (m : Made) (ws′ : List ℕ) (e : madeIn m ws′ ≡ freshIn firstHeapCell ws) where
     fresh-words : ws′ ≡ fresh firstHeapCell (capacity ws)
@@ -110,15 +89,15 @@ module _ (ws cs out : List ℕ) (l : BatchFits ws cs out) where
     unfolding output written
     run-output r ws″ out′ t t′ p q u =
         let s : Sound firstHeapCell (fresh firstHeapCell (capacity ws)) firstHeapCell =
-        fresh-sound firstHeapCell (capacity ws) (omega arith) (omega arith) in
+        fresh-sound firstHeapCell (capacity ws) (omega (arith, l .store .large)) (omega (arith, l .store .small)) in
         let b : batch firstHeapCell ws′ t cs out ≡ batch firstHeapCell (fresh firstHeapCell (capacity ws)) firstHeapCell cs out =
         ap₂ (λ (w : List ℕ) (n : ℕ). batch firstHeapCell w n cs out) fresh-words (p ∙ fresh-top) in
         let a : out′ ≡ runs firstHeapCell (fresh firstHeapCell (capacity ws)) firstHeapCell cs .answers =
         sym (ran-answers r ws″ t out′) ∙ ap (λ (o : Outcome). o .answers) (q ∙ b)
-        ∙ batch-answers firstHeapCell (fresh firstHeapCell (capacity ws)) firstHeapCell cs out s (l .short) (l .whole) (l .space) in
+        ∙ batch-answers firstHeapCell (fresh firstHeapCell (capacity ws)) firstHeapCell cs out s (l .list) (l .space) in
         let n : t′ ≡ runs firstHeapCell (fresh firstHeapCell (capacity ws)) firstHeapCell cs .top =
         u ∙ sym (ran-top r ws″ t out′) ∙ ap (λ (o : Outcome). o .top) (q ∙ b)
-        ∙ batch-top firstHeapCell (fresh firstHeapCell (capacity ws)) firstHeapCell cs out s (l .short) (l .whole) (l .space) in
+        ∙ batch-top firstHeapCell (fresh firstHeapCell (capacity ws)) firstHeapCell cs out s (l .list) (l .space) in
         rw (a, n)
 
 -- ---- what the program lends
@@ -137,11 +116,8 @@ calls-fit n h = omega arith
 lends : (cells : ℕ) (cs : List ℕ) (room : ℕ) → CallsFit cells cs room → (ws out : List ℕ) → length ws ≡ 2 * cells
     → length out ≡ length cs / 4 * 2 → BatchFits ws cs out
 lends cells cs room s ws out e f = record {
-  even = omega arith;
-  low = omega arith;
-  high = omega (arith, program-cells);
-  short = s .short;
-  whole = s .whole;
+  store = record { even = omega arith; large = omega (arith, s .low); small = omega (arith, s .high, program-cells) };
+  list = s .list;
   space = omega arith;
 }
 
@@ -161,5 +137,5 @@ pub lent-parts : (cells : ℕ) (cs : List ℕ) (room : ℕ) → CallsFit cells c
     × (11 * length (part (length cs / 4 * 2) programAnswers) + 25 ≤ room)
 lent-parts cells cs room s =
     let a = part-length (2 * cells) (2 * programCells) (cells-fit cells (s .high)) in
-    let b = part-length (length cs / 4 * 2) programAnswers (calls-fit (length cs) (s .short)) in
-    (lends cells cs room s _ _ (sym a) (sym b), omega (arith, calls-fit (length cs) (s .short)))
+    let b = part-length (length cs / 4 * 2) programAnswers (calls-fit (length cs) (s .list .short)) in
+    (lends cells cs room s _ _ (sym a) (sym b), omega (arith, calls-fit (length cs) (s .list .short)))

@@ -41,7 +41,6 @@ calls-lent cells bs room w =
     record {
       low = w .low;
       high = w .high;
-      short = omega (arith, w .most);
-      whole = omega (arith, w .whole, w .some);
+      list = record { short = omega (arith, w .most); whole = omega (arith, w .whole, w .some) };
       fits = w .fits;
     }

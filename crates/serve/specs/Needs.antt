@@ -3,7 +3,9 @@ use mathlib.Core.Path.{_≡_}
 use mathlib.Core.List.{List}
 use Prim.Native.Nat.{ℕ, _+_, _-_, _*_, _/_, _%_, _≤_}
 use lib.ListN.{length}
-use Rattle.meaning.specs.Limits.{firstHeapCell, limit, callsLimit, programCells, programBytes}
+use Rattle.meaning.specs.Limits.{firstHeapCell, programCells, programBytes}
+use Rattle.meaning.specs.Sound.{Allowed}
+use Rattle.meaning.specs.Batch.{AllowedCalls}
 
 -- the answers to the longest input, two a call
 abbrev pub programAnswers : ℕ
@@ -15,19 +17,15 @@ outputRoom = 11 * programAnswers + 25
 
 -- neither the store nor the batch is refused, and the answers fill their space
 pub record BatchFits (ws calls answers : List ℕ) : Type 0 where
-  pub even : length ws % 2 ≡ 0
-  pub low : 2 * firstHeapCell ≤ length ws
-  pub high : length ws ≤ 2 * limit
-  pub short : length calls ≤ callsLimit
-  pub whole : length calls % 4 ≡ 0
+  pub store : Allowed firstHeapCell (length ws)
+  pub list : AllowedCalls (length calls)
   pub space : length answers ≡ 2 * (length calls / 4)
 
 -- a capacity, a call list and room for the output
 pub record CallsFit (cells : ℕ) (calls : List ℕ) (room : ℕ) : Type 0 where
   pub low : firstHeapCell ≤ cells
   pub high : cells ≤ programCells
-  pub short : length calls ≤ callsLimit
-  pub whole : length calls % 4 ≡ 0
+  pub list : AllowedCalls (length calls)
   pub fits : outputRoom ≤ room
 
 -- a capacity, the length of an input of whole calls, and room for the output

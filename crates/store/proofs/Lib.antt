@@ -1,7 +1,6 @@
 -- Laws that belong to no one function, for this crate's proofs and its callers'. In order:
 --   Rules     a cell's rules, tested with no branch
 --   Damage    passes that gather damage in a word
---   Scan      the check by its tests, and its scan of the cells
 --   Refusals  an unsound store's refusal and its numbers
 --   Sounds    what the answer of the check says of the store; which cells of a sound store may be read
 --   Registers the contents of a register
@@ -12,7 +11,6 @@
 -- Assumes nothing.
 mod Rules
 mod Damage
-pub mod Scan
 pub mod Refusals
 pub mod Sounds
 pub mod Registers

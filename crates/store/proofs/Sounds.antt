@@ -14,6 +14,7 @@ use Rattle.meaning.specs.Sound.{Sound}
 use Rattle.meaning.specs.Verdicts.{Verdict, onZero, ifSound}
 use Rattle.meaning.specs.Check.{check}
 use Rattle.meaning.proofs.check.Checking.{sound-check, check-sound}
+use Rattle.meaning.proofs.sound.Cells.{register-rule, heap-rule}
 use Rattle.store.specs.Answers.{refusalOf, verdictOf}
 use Rattle.store.specs.Holds.{Bracketed, Termed}
 use Rattle.store.specs.declared.Unsound.{Unsound}
@@ -63,17 +64,17 @@ module _ (F : ℕ) (ws : List ℕ) (top : ℕ) (found : Checked) (q : verdictOf 
 -- a sound store's cells may be read
 module _ (ws : List ℕ) (top : ℕ) (s : Sound firstHeapCell ws top) where
   top-limit : top ≤ limit
-  top-limit = omega (arith, s .high, s .small)
+  top-limit = omega (arith, s .high, s .allowed .small)
 
   pub register-bracketed : (i : ℕ) → i < firstHeapCell → Bracketed ws i
-  register-bracketed i h = (top, top-limit, s .registers i h)
+  register-bracketed i h = (top, top-limit, register-rule s i h)
 
   pub heap-termed : (c : ℕ) → firstHeapCell ≤ c → c < top → Termed ws c
-  heap-termed c l h = (c, omega (arith, top-limit), s .heap c l h)
+  heap-termed c l h = (c, omega (arith, top-limit), heap-rule s c l h)
 
   -- its words lie in the store
   pub register-inside : (i : ℕ) → i < firstHeapCell → 2 * i + 1 < length ws
-  register-inside i h = omega (arith, s .large)
+  register-inside i h = omega (arith, s .allowed .large)
 
   pub heap-inside : (c : ℕ) → c < top → 2 * c + 1 < length ws
   heap-inside c h = omega (arith, s .high)

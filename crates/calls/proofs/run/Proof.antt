@@ -1,10 +1,11 @@
 -- `calls::run` meets its contract. Assumes nothing.
-use mathlib.Core.Path.{_∙_}
+use mathlib.Core.Path.{sym, _∙_}
 use borrow.Author.Needs.{needs}
 use Rattle.meaning.specs.Limits.{firstHeapCell}
 use Rattle.meaning.specs.Sound.{Sound}
 use Rattle.store.proofs.Sounds.{found-sound}
-use Rattle.calls.proofs.Batching.{batch-sound, batch-refused}
+use Rattle.meaning.proofs.batch.Cases.{batch-sound}
+use Rattle.calls.proofs.Batching.{batch-refused}
 use Rattle.calls.proofs.run.Statement.{statement}
 use Rattle.calls.proofs.run.Tie as tie
 
@@ -23,7 +24,7 @@ returns : tie.Need-returns
 returns c =
     let run-sound = c .before .before .before .before in
     let enum-told = run-sound .before .before .before in
-    run-sound .run-sound .ensures ∙ batch-sound _ _ _ _ (sound enum-told)
+    run-sound .run-sound .ensures ∙ sym (batch-sound _ _ _ _ _ (sound enum-told))
 
 returns-2 : tie.Need-returns-2
 returns-2 c =

@@ -34,7 +34,7 @@ cast-lower-registers : tie.Need-cast-lower-registers
 cast-lower-registers c =
     let w = c .before .before .before .before .before .before .before .before in
     let a = w .before .before .before in
-    omega (arith, gone _ _ (a .pre) _ _ (w .sweep .ensures), a .pre .high, a .pre .small, limit-fits)
+    omega (arith, gone _ _ (a .pre) _ _ (w .sweep .ensures), a .pre .high, a .pre .allowed .small, limit-fits)
 
 lower-registers-requires : tie.Need-lower-registers-requires
 lower-registers-requires c κs =

@@ -4,45 +4,48 @@ use mathlib.Core.Path.{_≡_, refl, sym, ap, _∙_}
 use mathlib.Core.Logic.{_⊎_, inl, inr, _≢_}
 use mathlib.Core.List.{List}
 use Prim.Native.Nat.{ℕ, zero, suc, _+_, _-_, _*_, _≤_, _<_}
-use native.Mathlib.Nat.{le-trans, eq-or-lt-of-le, le-of-suc-le-suc}
+use native.Mathlib.Nat.{le-trans}
+use native.Mathlib.Decide.{ℕ-discrete}
 use native.Mathlib.Omega.{arith}
-use lib.ListN.{length, getD, set, length-set}
-use lib.Seq.{getD-set-same, getD-set-other}
+use lib.ListN.{length}
+use Rattle.words.specs.Cell.{firstWord, secondWord}
+use Rattle.words.proofs.Cells.{putCell-length, firstWord-same, secondWord-same, firstWord-other, secondWord-other}
 use Rattle.meaning.specs.Expr.{Expr}
-use Rattle.meaning.specs.Sound.{Cell, code, empty, ends, fst, snd, at, Sound, IsBracket, isEmpty, isFull, IsTerm}
+use Rattle.meaning.specs.Sound.{Cell, code, empty, ends, fst, snd, at, IsBracket, isEmpty, isFull, capacity}
+use Rattle.meaning.specs.Sound.{CellRule, Sound}
 use Rattle.meaning.specs.Meaning.{inside, termOf, term, meaning}
 use Rattle.meaning.specs.Actions.{put, copy}
 use Rattle.meaning.proofs.Lists.{lt-or-ge}
 use Rattle.meaning.proofs.sound.Cells.{SoundCells, TermIn, BracketIn, term-of-bracket, good, read, read-words, is-bracket}
-use Rattle.meaning.proofs.sound.Cells.{is-term, bracket-words, term-words}
+use Rattle.meaning.proofs.sound.Cells.{is-term, bracket-words, term-words, register-rule, heap-rule}
 use Rattle.meaning.proofs.meaning.Terms.{run-ext, term-depth}
 
--- ---- words
+-- ---- cells
 
 module _ (ws : List ℕ) (c : ℕ) (b : Cell) where
   pub length-put : length (put ws c b) ≡ length ws
   unfolding put
-  length-put = simp length-set
+  length-put = putCell-length ws c (fst b) (snd b)
 
-  pub put-other : (i : ℕ) → i ≢ 2 * c → i ≢ 2 * c + 1 → getD (put ws c b) i 0 ≡ getD ws i 0
+  put-one : 2 * c + 1 < length ws → firstWord (put ws c b) c ≡ fst b
   unfolding put
-  put-other i p q =
-      getD-set-other (set ws (2 * c) (fst b)) (2 * c + 1) i (snd b) 0 q ∙ getD-set-other ws (2 * c) i (fst b) 0 p
+  put-one = firstWord-same ws c (fst b) (snd b)
 
-  pub put-one : 2 * c + 1 < length ws → getD (put ws c b) (2 * c) 0 ≡ fst b
+  put-two : 2 * c + 1 < length ws → secondWord (put ws c b) c ≡ snd b
   unfolding put
-  put-one h = getD-set-other (set ws (2 * c) (fst b)) (2 * c + 1) (2 * c) (snd b) 0 (omega arith) ∙ getD-set-same ws
-      (2 * c) (fst b) 0 (omega arith)
+  put-two = secondWord-same ws c (fst b) (snd b)
 
-  pub put-two : 2 * c + 1 < length ws → getD (put ws c b) (2 * c + 1) 0 ≡ snd b
+  other-one : (x : ℕ) → x ≢ c → firstWord (put ws c b) x ≡ firstWord ws x
   unfolding put
-  put-two h =
-      getD-set-same (set ws (2 * c) (fst b)) (2 * c + 1) (snd b) 0 (omega (arith, length-set ws (2 * c) (fst b)))
+  other-one = firstWord-other ws c (fst b) (snd b)
+
+  other-two : (x : ℕ) → x ≢ c → secondWord (put ws c b) x ≡ secondWord ws x
+  unfolding put
+  other-two = secondWord-other ws c (fst b) (snd b)
 
   pub at-put-other : (x : ℕ) → x ≢ c → at (put ws c b) x ≡ at ws x
   unfolding at
-  at-put-other x p =
-      rw (put-other (2 * x) (omega arith) (omega arith), put-other (2 * x + 1) (omega arith) (omega arith)) refl
+  at-put-other x n = rw (other-one x n, other-two x n) refl
 
   pub at-put : (F lim : ℕ) → 0 < F → 2 * c + 1 < length ws → TermIn F lim b → at (put ws c b) c ≡ b
   unfolding at read
@@ -54,14 +57,16 @@ unfolding copy put at read
 copy-put F ws top c x p s h = go (lt-or-ge x F)
   where
     go : (x < F) ⊎ (F ≤ x) → copy ws c x ≡ put ws c (at ws x)
-    go (inl l) = let w = bracket-words F top (getD ws (2 * x) 0) (getD ws (2 * x + 1) 0) p (s .registers x l) in
+    go (inl l) =
+        let w = bracket-words F top (firstWord ws x) (secondWord ws x) p (register-rule s x l) in
         rw (w .one, w .two) refl
-    go (inr l) = let w = term-words F x (getD ws (2 * x) 0) (getD ws (2 * x + 1) 0) p (s .heap x l h) in
+    go (inr l) =
+        let w = term-words F x (firstWord ws x) (secondWord ws x) p (heap-rule s x l h) in
         rw (w .one, w .two) refl
 
 -- ---- soundness
 
-pub bracket-wider : (F : ℕ) {lim lim′ a b : ℕ} → lim ≤ lim′ → IsBracket F lim a b → IsBracket F lim′ a b
+bracket-wider : (F : ℕ) {lim lim′ a b : ℕ} → lim ≤ lim′ → IsBracket F lim a b → IsBracket F lim′ a b
 bracket-wider F h isEmpty = isEmpty
 bracket-wider F h (isFull x y z) = isFull x y (le-trans z h)
 
@@ -73,79 +78,55 @@ termIn-wider F lim lim′ (ends l r) h t = (t .0, t .1, le-trans (t .2) h)
 module _ (F : ℕ) (ws : List ℕ) (top : ℕ) (p : 0 < F) (s : Sound F ws top) where
   -- a register
   module _ (d : ℕ) (l : d < F) (b : Cell) (t : BracketIn F top b) where
-    reg-registers : (i : ℕ) → i < F → IsBracket F top (getD (put ws d b) (2 * i) 0) (getD (put ws d b) (2 * i + 1) 0)
-    reg-registers i h = go (lt-or-ge i d) (lt-or-ge d i)
-      where
-        other : i ≢ d → IsBracket F top (getD (put ws d b) (2 * i) 0) (getD (put ws d b) (2 * i + 1) 0)
-        other n = rw (
-          put-other ws d b (2 * i) (omega arith) (omega arith),
-          put-other ws d b (2 * i + 1) (omega arith) (omega arith),
-        ) (s .registers i h)
-
-        go : (i < d) ⊎ (d ≤ i) → (d < i) ⊎ (i ≤ d)
-            → IsBracket F top (getD (put ws d b) (2 * i) 0) (getD (put ws d b) (2 * i + 1) 0)
-        go (inl x) y = other (omega arith)
-        go (inr x) (inl y) = other (omega arith)
-        go (inr x) (inr y) =
-            let e : i ≡ d = omega arith in
-            let q : 2 * d + 1 < length ws = omega (arith, s .large) in
-            rw (e, put-one ws d b q, put-two ws d b q) (is-bracket F top b t)
+    register-cells : (c : ℕ) → c < capacity ws → Dec (c ≡ d) → CellRule F (put ws d b) top c
+    register-cells c h (yes e) =
+        let q : 2 * d + 1 < length ws = omega (arith, s .allowed .large) in
+        rw e record {
+          register = λ _. rw (put-one ws d b q, put-two ws d b q) (is-bracket F top b t);
+          occupied = λ f g. absurd (omega arith);
+          free = λ g. absurd (omega (arith, s .low));
+        }
+    register-cells c h (no n) =
+        let r = s .cells c h in
+        record {
+          register = rw (other-one ws d b c n, other-two ws d b c n) (r .register);
+          occupied = rw (other-one ws d b c n, other-two ws d b c n) (r .occupied);
+          free = rw (other-one ws d b c n, other-two ws d b c n) (r .free);
+        }
 
     pub sound-register : Sound F (put ws d b) top
     sound-register = record {
-      even = rw (length-put ws d b) (s .even);
-      large = rw (length-put ws d b) (s .large);
-      small = rw (length-put ws d b) (s .small);
+      allowed = rw (length-put ws d b) (s .allowed);
       low = s .low;
       high = rw (length-put ws d b) (s .high);
-      registers = reg-registers;
-      heap = λ c f h. rw (
-        put-other ws d b (2 * c) (omega arith) (omega arith),
-        put-other ws d b (2 * c + 1)
-            (omega arith) (omega arith),
-      ) (s .heap c f h);
-      free = λ c f h. rw (
-        put-other ws d b (2 * c) (omega (arith, s .low)) (omega (arith, s .low)),
-        put-other ws d b
-            (2 * c + 1) (omega (arith, s .low)) (omega (arith, s .low)),
-      ) (s .free c f (rw (length-put ws d b) at h));
+      cells = λ c h. register-cells c (rw (length-put ws d b) at h) (ℕ-discrete c d);
     }
 
   -- the first free cell
   module _ (r : 2 * suc top ≤ length ws) (b : Cell) (t : TermIn F top b) where
-    top-heap : (c : ℕ) → F ≤ c → c < suc top
-        → IsTerm F c (getD (put ws top b) (2 * c) 0) (getD (put ws top b) (2 * c + 1) 0)
-    top-heap c f h = go (eq-or-lt-of-le (le-of-suc-le-suc h))
-      where
-        go : (c ≡ top) ⊎ (c < top) → IsTerm F c (getD (put ws top b) (2 * c) 0) (getD (put ws top b) (2 * c + 1) 0)
-        go (inl e) =
-            let q : 2 * top + 1 < length ws = omega arith in
-            rw (e, put-one ws top b q, put-two ws top b q) (is-term F top b t)
-        go (inr l) = rw (
-          put-other ws top b (2 * c) (omega arith) (omega arith),
-          put-other ws top b (2 * c + 1)
-              (omega arith) (omega arith),
-        ) (s .heap c f l)
+    top-cells : (c : ℕ) → c < capacity ws → Dec (c ≡ top) → CellRule F (put ws top b) (suc top) c
+    top-cells c h (yes e) =
+        let q : 2 * top + 1 < length ws = omega arith in
+        rw e record {
+          register = λ f. absurd (omega (arith, s .low));
+          occupied = λ f g. rw (put-one ws top b q, put-two ws top b q) (is-term F top b t);
+          free = λ g. absurd (omega arith);
+        }
+    top-cells c h (no n) =
+        let k = s .cells c h in
+        record {
+          register = λ f. rw (other-one ws top b c n, other-two ws top b c n)
+              (bracket-wider F (omega arith) (k .register f));
+          occupied = λ f g. rw (other-one ws top b c n, other-two ws top b c n) (k .occupied f (omega arith));
+          free = λ g. rw (other-one ws top b c n, other-two ws top b c n) (k .free (omega arith));
+        }
 
     pub sound-top : Sound F (put ws top b) (suc top)
     sound-top = record {
-      even = rw (length-put ws top b) (s .even);
-      large = rw (length-put ws top b) (s .large);
-      small = rw (length-put ws top b) (s .small);
+      allowed = rw (length-put ws top b) (s .allowed);
       low = omega (arith, s .low);
       high = rw (length-put ws top b) (omega arith);
-      registers = λ i h. rw (
-        put-other ws top b (2 * i) (omega (arith, s .low)) (omega (arith, s .low)),
-        put-other ws
-            top b (2 * i + 1) (omega (arith, s .low)) (omega (arith, s .low)),
-      )
-          (bracket-wider F (omega arith) (s .registers i h));
-      heap = top-heap;
-      free = λ c f h. rw (
-        put-other ws top b (2 * c) (omega arith) (omega arith),
-        put-other ws top b (2 * c + 1)
-            (omega arith) (omega arith),
-      ) (s .free c (omega arith) (rw (length-put ws top b) at h));
+      cells = λ c h. top-cells c (rw (length-put ws top b) at h) (ℕ-discrete c top);
     }
 
 -- ---- meaning
@@ -185,7 +166,7 @@ module _ (F : ℕ) (ws : List ℕ) (top : ℕ) (p : 0 < F) (s : Sound F ws top) 
     pub meaning-set : meaning (put ws d b) d ≡ inside (term (at ws) (length ws)) b
     unfolding meaning
     meaning-set =
-        rw (length-put ws d b, at-put ws d b F top p (omega (arith, s .large)) (term-of-bracket F top b t))
+        rw (length-put ws d b, at-put ws d b F top p (omega (arith, s .allowed .large)) (term-of-bracket F top b t))
         (sym (inside-same F (at ws) (at (put ws d b)) top (good F ws top p s) heap-same (length ws) b t))
 
     pub meaning-other : (i : ℕ) → i < F → i ≢ d → meaning (put ws d b) i ≡ meaning ws i

@@ -1,22 +1,14 @@
--- A batch that is not refused runs in a sound store, call by call as it has to, and leaves a sound store. A list may
--- be cut anywhere.
--- Assumes nothing.
+-- Calls one after the other: a list of whole calls, which may be cut anywhere; two answers a call; a sound store stays
+-- sound. Assumes nothing.
 use mathlib.Core.Path.{_≡_, refl, ap}
-use mathlib.Core.Bool.{Bool, true, false, cond}
 use mathlib.Core.List.{List, [], _∷_, _++_}
-use Prim.Native.Nat.{ℕ, zero, suc, _+_, _-_, _*_, _/_, _%_, _<_}
+use Prim.Native.Nat.{ℕ, zero, suc, _*_, _/_, _%_}
 use native.Mathlib.Omega.{arith}
-use lib.Dec.{leb, eqb}
 use lib.ListN.{length}
-use borrow.Author.Tests.{eqb-true}
-use Rattle.meaning.specs.Limits.{callsLimit}
 use Rattle.meaning.specs.Sound.{Sound}
-use Rattle.meaning.specs.Verdicts.{only, onZero}
-use Rattle.meaning.specs.Check.{check}
 use Rattle.meaning.specs.Call.{step}
-use Rattle.meaning.specs.Batch.{Ran, then, runs, asLent, ended, callsTest, batchOf, batch}
+use Rattle.meaning.specs.Batch.{Ran, then, runs}
 use Rattle.meaning.proofs.effect.Steps.{Batch, called, WholeCalls, none, four}
-use Rattle.meaning.proofs.check.Checking.{check-sound}
 
 -- a length that is a multiple of four
 pub fours : (n : ℕ) (cs : List ℕ) → length cs ≡ 4 * n → WholeCalls cs
@@ -49,29 +41,12 @@ runs-cut F ws top ds (four {o} {d} {a} {b} {cs} c) =
     ap (λ (q : Ran). then (step F ws top o d a b) q) (runs-cut F (step F ws top o d a b .words)
     (step F ws top o d a b .top) ds c)
 
--- the whole batch
-module _ (F : ℕ) (p : 0 < F) (ws : List ℕ) (top : ℕ) (calls out : List ℕ) where
-  pub batch-runs : batch F ws top calls out .verdict .status ≡ 0
-      → Sound F ws top × WholeCalls calls × (batch F ws top calls out ≡ ended (runs F ws top calls) out)
-  unfolding batch batchOf callsTest
-  batch-runs q = one (check F ws top .status) refl q
-    where
-      two : Sound F ws top → (t u v : Bool) → leb (length calls) callsLimit ≡ t → eqb (length calls % 4) 0 ≡ u
-          → leb (2 * (length calls / 4)) (length out) ≡ v
-          → cond (cond t u false) (cond v (ended (runs F ws top calls) out) (asLent (only 5) ws top out))
-          (asLent (only 4) ws top out) .verdict .status ≡ 0
-          → Sound F ws top × WholeCalls calls
-          × (cond (cond t u false) (cond v (ended (runs F ws top calls) out) (asLent (only 5) ws top out))
-          (asLent (only 4) ws top out) ≡ ended (runs F ws top calls) out)
-      two s true true true a b c d = (s, fours-of calls (eqb-true (length calls % 4) 0 b), refl)
-      two s true true false a b c d = absurd (omega arith)
-      two s true false v a b c d = absurd (omega arith)
-      two s false u v a b c d = absurd (omega arith)
-
-      one : (n : ℕ) → check F ws top .status ≡ n
-          → onZero n (batchOf F ws top calls out) (asLent (check F ws top) ws top out) .verdict .status ≡ 0
-          → Sound F ws top × WholeCalls calls × (onZero n (batchOf F ws top calls out) (asLent (check F ws top) ws top out)
-          ≡ ended (runs F ws top calls) out)
-      one zero e r = two (check-sound F ws top e) (leb (length calls) callsLimit) (eqb (length calls % 4) 0)
-          (leb (2 * (length calls / 4)) (length out)) refl refl refl r
-      one (suc n) e r = absurd (omega arith)
+pub runs-length : (F : ℕ) (ws : List ℕ) (top : ℕ) (cs : List ℕ)
+    → length (runs F ws top cs .answers) ≡ 2 * (length cs / 4)
+runs-length F ws top [] = refl
+runs-length F ws top (o ∷ []) = refl
+runs-length F ws top (o ∷ d ∷ []) = refl
+runs-length F ws top (o ∷ d ∷ a ∷ []) = refl
+runs-length F ws top (o ∷ d ∷ a ∷ b ∷ cs) =
+    let c = step F ws top o d a b in
+    omega (arith, runs-length F (c .words) (c .top) cs)

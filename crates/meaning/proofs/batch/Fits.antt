@@ -1,20 +1,19 @@
 -- The values that come back are cells of a store or their number: at most the limit, which a word holds.
 -- Assumes nothing.
 use mathlib.Core.Path.{_≡_, refl}
-use mathlib.Core.Bool.{Bool, true, false, cond}
 use mathlib.Core.List.{List}
-use Prim.Native.Nat.{ℕ, zero, suc, _*_, _/_, _≤_, _<_}
+use Prim.Native.Nat.{ℕ, zero, suc, _≤_, _<_}
 use native.Mathlib.Omega.{arith}
-use lib.Dec.{leb}
 use lib.ListN.{length}
 use Rattle.meaning.specs.Limits.{limit}
 use Rattle.meaning.specs.Sound.{Sound}
-use Rattle.meaning.specs.Verdicts.{Verdict, only, Done, onZero, ifSound}
+use Rattle.meaning.specs.Verdicts.{Verdict, Done, onZero, ifSound}
 use Rattle.meaning.specs.Check.{check, collectIn}
-use Rattle.meaning.specs.Batch.{Outcome, callsTest, ended, runs, asLent, batchOf, batch}
+use Rattle.meaning.specs.Batch.{Outcome, ended, batch}
 use Rattle.meaning.proofs.check.Checking.{Checks, length-bad, top-bad, cell-bad, sound, checks, check-sound}
+use Rattle.meaning.proofs.check.Checking.{length-yes}
 use Rattle.meaning.proofs.reach.Reaching.{live-le}
-use Rattle.meaning.proofs.fresh.Making.{length-yes}
+use Rattle.meaning.proofs.batch.Cases.{Cases, unsound, badCalls, shortAnswers, run, cases}
 
 module _ (F : ℕ) (ws : List ℕ) (top : ℕ) where
   check-most : check F ws top .value ≤ limit
@@ -39,20 +38,17 @@ module _ (F : ℕ) (ws : List ℕ) (top : ℕ) where
   unfolding collectIn
   collect-most p =
       by-check (λ (d : Done). d .verdict .value ≤ limit) _ _
-      (λ s. omega (arith, live-le F ws top p s, s .high, s .small)) check-most
+      (λ s. omega (arith, live-le F ws top p s, s .high, s .allowed .small)) check-most
 
   batch-most : (calls out : List ℕ) → batch F ws top calls out .verdict .value ≤ limit
-  unfolding batch batchOf ended
-  batch-most calls out =
-      by-check (λ (d : Outcome). d .verdict .value ≤ limit) _ _
-      (λ s. go (callsTest (length calls)) (leb (2 * (length calls / 4)) (length out))) check-most
+  unfolding ended
+  batch-most calls out = go (batch F ws top calls out) (cases F ws top calls out)
     where
-      go : (t u : Bool)
-          → cond t (cond u (ended (runs F ws top calls) out) (asLent (only 5) ws top out)) (asLent (only 4) ws top out)
-          .verdict .value ≤ limit
-      go false u = omega arith
-      go true false = omega arith
-      go true true = omega arith
+      go : (r : Outcome) → Cases F ws top calls out r → r .verdict .value ≤ limit
+      go r (unsound n) = check-most
+      go r (badCalls s e) = omega arith
+      go r (shortAnswers s a h) = omega arith
+      go r (run s a h) = omega arith
 
   pub check-fits : {v : Verdict} → v ≡ check F ws top → v .value ≤ limit
   check-fits e = rw e check-most

@@ -10,12 +10,42 @@ use native.Mathlib.Omega.{arith}
 use lib.Dec.{ltb, leb, eqb}
 use lib.ListN.{length, getD}
 use borrow.Author.Tests.{leb-true, le-leb, ltb-true, ltb-false, lt-ltb, le-ltb, eqb-true, eq-eqb, ne-eqb}
-use Rattle.meaning.specs.Limits.{codeTest, limit}
-use Rattle.meaning.specs.Sound.{at, Sound, IsBracket, isEmpty, isFull, IsTerm, isSymbol, isBracket, capacity}
+use Rattle.words.specs.Cell.{firstWord, secondWord}
 use Rattle.words.specs.Second.{bracketTo}
+use Rattle.meaning.specs.Limits.{codeTest, limit}
+use Rattle.meaning.specs.Sound.{at, IsBracket, isEmpty, isFull, IsTerm, isSymbol, isBracket, capacity, Allowed}
+use Rattle.meaning.specs.Sound.{CellRule, Sound}
 use Rattle.meaning.specs.Verdicts.{Verdict, only}
 use Rattle.meaning.specs.Check.{topTest, bracketTest, termTest, cellTest, damaged, lengthTest, verdictAt, check}
 use Rattle.meaning.proofs.Lists.{lt-or-ge}
+
+-- ---- the length and `top`
+
+pub length-yes : (F n : ℕ) → lengthTest F n ≡ true → Allowed F n
+unfolding lengthTest
+length-yes F n q = go (eqb (n % 2) 0) (ltb n (2 * F)) refl refl q
+  where
+    go : (t u : Bool) → eqb (n % 2) 0 ≡ t → ltb n (2 * F) ≡ u
+        → cond t (cond u false (leb n (2 * limit))) false ≡ true → Allowed F n
+    go true true e f r = absurd (false≢true r)
+    go true false e f r = record { even = eqb-true _ _ e; large = ltb-false _ _ f; small = leb-true _ _ r }
+    go false u e f r = absurd (false≢true r)
+
+pub yes-length : (F n : ℕ) → Allowed F n → lengthTest F n ≡ true
+unfolding lengthTest
+yes-length F n a = rw (a .even, le-ltb n (2 * F) (a .large), le-leb n (2 * limit) (a .small)) refl
+
+pub top-yes : (F cells top : ℕ) → topTest F cells top ≡ true → (F ≤ top) × (top ≤ cells)
+unfolding topTest
+top-yes F cells top q = go (ltb top F) refl q
+  where
+    go : (t : Bool) → ltb top F ≡ t → cond t false (leb top cells) ≡ true → (F ≤ top) × (top ≤ cells)
+    go true e r = absurd (false≢true r)
+    go false e r = (ltb-false top F e, leb-true top cells r)
+
+pub yes-top : (F cells top : ℕ) → F ≤ top → top ≤ cells → topTest F cells top ≡ true
+unfolding topTest
+yes-top F cells top l m = rw (le-ltb top F l, le-leb top cells m) refl
 
 -- ---- one cell
 
@@ -81,7 +111,7 @@ two-zeros a b q = go (eqb a 0) refl q
 
 module _ (F : ℕ) (ws : List ℕ) (top : ℕ) where
   abbrev test : ℕ → Bool
-  test c = cellTest F top c (getD ws (2 * c) 0) (getD ws (2 * c + 1) 0)
+  test c = cellTest F top c (firstWord ws c) (secondWord ws c)
 
   pub damaged-low : (c n : ℕ) → c ≤ damaged F ws top c n
   damaged-low c zero = le-refl c
@@ -125,60 +155,46 @@ module _ (F : ℕ) (ws : List ℕ) (top : ℕ) where
       let r = damaged-none (suc c) n (λ x l m. h x (omega arith) (omega arith)) in
       rw (h c (le-refl c) (omega arith), damaged) (omega (arith, r))
 
+  -- a cell's test and its rule
+  pub cell-yes : F ≤ top → (c : ℕ) → test c ≡ true → CellRule F ws top c
+  unfolding cellTest
+  cell-yes low c q = record {
+    register = λ l. bracket-yes F top (firstWord ws c) (secondWord ws c) (rw (lt-ltb c F l) at q);
+    occupied = λ l m. term-yes F c (firstWord ws c) (secondWord ws c) (rw (le-ltb c F l, lt-ltb c top m) at q);
+    free = λ l. two-zeros (firstWord ws c) (secondWord ws c) (rw (le-ltb c F (omega arith), le-ltb c top l) at q);
+  }
+
+  pub yes-cell : (c : ℕ) → CellRule F ws top c → test c ≡ true
+  unfolding cellTest
+  yes-cell c r = go (lt-or-ge c F) (lt-or-ge c top)
+    where
+      go : (c < F) ⊎ (F ≤ c) → (c < top) ⊎ (top ≤ c) → cellTest F top c (firstWord ws c) (secondWord ws c) ≡ true
+      go (inl l) m = rw (lt-ltb c F l) (yes-bracket F top (r .register l))
+      go (inr l) (inl m) = rw (le-ltb c F l, lt-ltb c top m) (yes-term F c (r .occupied l m))
+      go (inr l) (inr m) = rw (le-ltb c F l, le-ltb c top m, r .free m .0, r .free m .1) refl
+
   -- the tests, all passed, are soundness
   pub tests-sound : lengthTest F (length ws) ≡ true → topTest F (capacity ws) top ≡ true
       → ((c : ℕ) → c < capacity ws → test c ≡ true) → Sound F ws top
-  unfolding lengthTest topTest cellTest
   tests-sound q r h =
-      go (eqb (length ws % 2) 0) (ltb (length ws) (2 * F)) (ltb top F) refl refl refl q r
-    where
-      go : (t u v : Bool) → eqb (length ws % 2) 0 ≡ t → ltb (length ws) (2 * F) ≡ u → ltb top F ≡ v
-          → cond t (cond u false (leb (length ws) (2 * limit))) false ≡ true
-          → cond v false (leb top (capacity ws)) ≡ true → Sound F ws top
-      go false u v a b c x y = absurd (false≢true x)
-      go true true v a b c x y = absurd (false≢true x)
-      go true false true a b c x y = absurd (false≢true y)
-      go true false false a b c x y =
-          let f = ltb-false top F c in
-          record {
-            even = eqb-true (length ws % 2) 0 a;
-            large = ltb-false (length ws) (2 * F) b;
-            small = leb-true (length ws) (2 * limit) x;
-            low = f;
-            high = leb-true top (capacity ws) y;
-            registers = λ i l. bracket-yes F top (getD ws (2 * i) 0) (getD ws (2 * i + 1) 0)
-                (rw (lt-ltb i F l) at (h i (omega (arith, ltb-false (length ws) (2 * F) b))));
-            heap = λ i k l. term-yes F i (getD ws (2 * i) 0) (getD ws (2 * i + 1) 0)
-                (rw (le-ltb i F k, lt-ltb i top l) at (h i (omega (arith, leb-true top (capacity ws) y))));
-            free = λ i l k. two-zeros (getD ws (2 * i) 0) (getD ws (2 * i + 1) 0)
-                (rw (le-ltb i F (omega arith), le-ltb i top l) at (h i k));
-          }
+      let t = top-yes F (capacity ws) top r in
+      record {
+        allowed = length-yes F (length ws) q;
+        low = t .0;
+        high = t .1;
+        cells = λ c l. cell-yes (t .0) c (h c l);
+      }
 
   -- and back
   pub sound-test : Sound F ws top → (c : ℕ) → c < capacity ws → test c ≡ true
-  unfolding cellTest
-  sound-test s c h = go (lt-or-ge c F) (lt-or-ge c top)
-    where
-      go : (c < F) ⊎ (F ≤ c) → (c < top) ⊎ (top ≤ c)
-          → cellTest F top c (getD ws (2 * c) 0) (getD ws (2 * c + 1) 0) ≡ true
-      go (inl l) m = rw (lt-ltb c F l) (yes-bracket F top (s .registers c l))
-      go (inr l) (inl m) = rw (le-ltb c F l, lt-ltb c top m) (yes-term F c (s .heap c l m))
-      go (inr l) (inr m) = rw (le-ltb c F l, le-ltb c top m, s .free c m h .0, s .free c m h .1) refl
-
-  pub sound-length : Sound F ws top → lengthTest F (length ws) ≡ true
-  unfolding lengthTest
-  sound-length s = rw (s .even, le-ltb (length ws) (2 * F) (s .large), le-leb (length ws) (2 * limit) (s .small)) refl
-
-  pub sound-top : Sound F ws top → topTest F (capacity ws) top ≡ true
-  unfolding topTest
-  sound-top s = rw (le-ltb top F (s .low), le-leb top (capacity ws) (s .high)) refl
+  sound-test s c h = yes-cell c (s .cells c h)
 
   -- a sound store passes
   pub sound-check : Sound F ws top → check F ws top ≡ only 0
   unfolding check verdictAt
   sound-check s =
       let d = damaged-none 0 (capacity ws) (λ x l m. sound-test s x (omega arith)) in
-      rw (sound-length s, sound-top s, d, le-ltb (0 + capacity ws) (capacity ws) (omega arith)) refl
+      rw (yes-length F (length ws) (s .allowed), yes-top F (capacity ws) top (s .low) (s .high), d, le-ltb (0 + capacity ws) (capacity ws) (omega arith)) refl
 
   -- the three answers of a store that is not sound, and the one of a sound store
   pub data Checks : Verdict → Type 0 where

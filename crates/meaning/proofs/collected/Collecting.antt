@@ -160,18 +160,17 @@ module _ (F : ℕ) (ws : List ℕ) (top : ℕ) (p : 0 < F) (s : Sound F ws top) 
   pub collected-sound : Sound F (collected F ws top) (collectedTop F ws top)
   unfolding collectedTop live
   collected-sound = record {
-    even = rw length-collected (s .even);
-    large = rw length-collected (s .large);
-    small = rw length-collected (s .small);
+    allowed = rw length-collected (s .allowed);
     low = omega arith;
     high = rw length-collected (omega (arith, room, s .high));
-    registers = sound-register;
-    heap = sound-heap;
-    free = λ c l h. (
-      free-after (2 * c) (omega arith) (omega (arith, length-collected)),
-      free-after (2 * c + 1)
-          (omega arith) (omega (arith, length-collected)),
-    );
+    cells = λ c h. record {
+      register = sound-register c;
+      occupied = sound-heap c;
+      free = λ l. (
+        free-after (2 * c) (omega arith) (omega (arith, length-collected)),
+        free-after (2 * c + 1) (omega arith) (omega (arith, length-collected)),
+      );
+    };
   }
 
   -- ---- each register keeps its meaning

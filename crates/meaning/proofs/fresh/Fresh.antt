@@ -13,21 +13,21 @@ use Rattle.meaning.specs.Meaning.{meaning}
 use Rattle.meaning.specs.Fresh.{emptyRegisters, fresh}
 use Rattle.meaning.proofs.collected.Laid.{zeros-after}
 
-hollows-length : (n : ℕ) → length (emptyRegisters n) ≡ 2 * n
-hollows-length zero = refl
-hollows-length (suc n) = omega (arith, hollows-length n)
+empties-length : (n : ℕ) → length (emptyRegisters n) ≡ 2 * n
+empties-length zero = refl
+empties-length (suc n) = omega (arith, empties-length n)
 
-hollows-one : (n : ℕ) (zs : List ℕ) (i : ℕ) → i < n → getD (emptyRegisters n ++ zs) (2 * i) 0 ≡ 0
-hollows-one zero zs i h = absurd (not-suc-le-zero h)
-hollows-one (suc n) zs zero h = refl
-hollows-one (suc n) zs (suc i) h =
-    let e : 2 * suc i ≡ suc (suc (2 * i)) = omega arith in rw e (hollows-one n zs i (le-of-suc-le-suc h))
+empties-one : (n : ℕ) (zs : List ℕ) (i : ℕ) → i < n → getD (emptyRegisters n ++ zs) (2 * i) 0 ≡ 0
+empties-one zero zs i h = absurd (not-suc-le-zero h)
+empties-one (suc n) zs zero h = refl
+empties-one (suc n) zs (suc i) h =
+    let e : 2 * suc i ≡ suc (suc (2 * i)) = omega arith in rw e (empties-one n zs i (le-of-suc-le-suc h))
 
-hollows-two : (n : ℕ) (zs : List ℕ) (i : ℕ) → i < n → getD (emptyRegisters n ++ zs) (2 * i + 1) 0 ≡ 2147483648
-hollows-two zero zs i h = absurd (not-suc-le-zero h)
-hollows-two (suc n) zs zero h = refl
-hollows-two (suc n) zs (suc i) h =
-    let e : 2 * suc i + 1 ≡ suc (suc (2 * i + 1)) = omega arith in rw e (hollows-two n zs i (le-of-suc-le-suc h))
+empties-two : (n : ℕ) (zs : List ℕ) (i : ℕ) → i < n → getD (emptyRegisters n ++ zs) (2 * i + 1) 0 ≡ 2147483648
+empties-two zero zs i h = absurd (not-suc-le-zero h)
+empties-two (suc n) zs zero h = refl
+empties-two (suc n) zs (suc i) h =
+    let e : 2 * suc i + 1 ≡ suc (suc (2 * i + 1)) = omega arith in rw e (empties-two n zs i (le-of-suc-le-suc h))
 
 module _ (F n : ℕ) (l : F ≤ n) (m : n ≤ limit) where
   pub fresh-length : length (fresh F n) ≡ 2 * n
@@ -35,35 +35,35 @@ module _ (F n : ℕ) (l : F ≤ n) (m : n ≤ limit) where
   fresh-length =
       let a = length-append (emptyRegisters F) (replicate (2 * (n - F)) 0) in
       let b = length-replicate {A = ℕ} (2 * (n - F)) 0 in
-      omega (arith, a, b, hollows-length F)
+      omega (arith, a, b, empties-length F)
 
   zero-at : (i : ℕ) → 2 * F ≤ i → i < 2 * n → getD (fresh F n) i 0 ≡ 0
   unfolding fresh
-  zero-at i f h = zeros-after (emptyRegisters F) (2 * (n - F)) i (omega (arith, hollows-length F))
-      (omega (arith, hollows-length F, fresh-length))
+  zero-at i f h = zeros-after (emptyRegisters F) (2 * (n - F)) i (omega (arith, empties-length F))
+      (omega (arith, empties-length F, fresh-length))
 
   pub fresh-sound : Sound F (fresh F n) F
   unfolding fresh
   fresh-sound = record {
-    even = omega (arith, fresh-length);
-    large = omega (arith, fresh-length);
-    small = omega (arith, fresh-length);
+    allowed = record {
+      even = omega (arith, fresh-length);
+      large = omega (arith, fresh-length);
+      small = omega (arith, fresh-length);
+    };
     low = le-refl F;
     high = omega (arith, fresh-length);
-    registers = λ i h. rw (
-      hollows-one F (replicate (2 * (n - F)) 0) i h,
-      hollows-two F (replicate (2 * (n - F)) 0) i
-          h,
-    ) isEmpty;
-    heap = λ c f h. absurd (omega arith);
-    free = λ c f h. (
-      zero-at (2 * c) (omega arith) (omega (arith, fresh-length)),
-      zero-at (2 * c + 1) (omega arith)
-          (omega (arith, fresh-length)),
-    );
+    cells = λ c k. record {
+      register = λ h. rw (empties-one F (replicate (2 * (n - F)) 0) c h, empties-two F (replicate (2 * (n - F)) 0) c h)
+          isEmpty;
+      occupied = λ f h. absurd (omega arith);
+      free = λ f. (
+        zero-at (2 * c) (omega arith) (omega (arith, fresh-length)),
+        zero-at (2 * c + 1) (omega arith) (omega (arith, fresh-length)),
+      );
+    };
   }
 
   pub fresh-empty : (i : ℕ) → i < F → meaning (fresh F n) i ≡ nothing
   unfolding meaning at fresh
   fresh-empty i h =
-      rw (hollows-one F (replicate (2 * (n - F)) 0) i h, hollows-two F (replicate (2 * (n - F)) 0) i h) refl
+      rw (empties-one F (replicate (2 * (n - F)) 0) i h, empties-two F (replicate (2 * (n - F)) 0) i h) refl

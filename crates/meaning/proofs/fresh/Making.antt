@@ -1,4 +1,4 @@
--- An allowed length, and the words of a fresh store: registers emptied one after the other, then zeros.
+-- The words of a fresh store: registers emptied one after the other, then zeros.
 -- Assumes nothing.
 use mathlib.Core.Path.{_≡_, refl, sym, ap, _∙_}
 use mathlib.Core.Bool.{Bool, true, false, cond, false≢true}
@@ -17,28 +17,13 @@ use Rattle.meaning.specs.Sound.{capacity}
 use Rattle.meaning.specs.Verdicts.{done, refused, only}
 use Rattle.meaning.specs.Check.{lengthTest}
 use Rattle.meaning.specs.Fresh.{emptyRegisters, fresh, freshIn}
-
--- what an allowed length is
-pub record Allowed (F n : ℕ) : Type 0 where
-  pub even : n % 2 ≡ 0
-  pub large : 2 * F ≤ n
-  pub small : n ≤ 2 * limit
-
-pub length-yes : (F n : ℕ) → lengthTest F n ≡ true → Allowed F n
-unfolding lengthTest
-length-yes F n q = go (eqb (n % 2) 0) (ltb n (2 * F)) refl refl q
-  where
-    go : (t u : Bool) → eqb (n % 2) 0 ≡ t → ltb n (2 * F) ≡ u
-        → cond t (cond u false (leb n (2 * limit))) false ≡ true → Allowed F n
-    go true true e f r = absurd (false≢true r)
-    go true false e f r = record { even = eqb-true _ _ e; large = ltb-false _ _ f; small = leb-true _ _ r }
-    go false u e f r = absurd (false≢true r)
+use Rattle.meaning.proofs.check.Checking.{length-yes}
 
 -- ---- the registers, a turn at a time
 
-hollows-more : (n : ℕ) → emptyRegisters n ++ (0 ∷ bracketTo 0 ∷ []) ≡ emptyRegisters (suc n)
-hollows-more zero = refl
-hollows-more (suc n) = ap (λ (l : List ℕ). 0 ∷ bracketTo 0 ∷ l) (hollows-more n)
+empties-more : (n : ℕ) → emptyRegisters n ++ (0 ∷ bracketTo 0 ∷ []) ≡ emptyRegisters (suc n)
+empties-more zero = refl
+empties-more (suc n) = ap (λ (l : List ℕ). 0 ∷ bracketTo 0 ∷ l) (empties-more n)
 
 module _ (ws : List ℕ) (c : ℕ) (h : 2 * c + 1 < length ws) (e : take (2 * c) ws ≡ emptyRegisters c) where
   one-word : take (2 * c + 1) (set ws (2 * c) 0) ≡ emptyRegisters c ++ (0 ∷ [])
@@ -52,7 +37,7 @@ module _ (ws : List ℕ) (c : ℕ) (h : 2 * c + 1 < length ws) (e : take (2 * c)
       let both = take-suc-set (set ws (2 * c) 0) (2 * c + 1) (bracketTo 0) (omega (arith, length-set ws (2 * c) 0)) in
       ap (λ (m : ℕ). take m (putCell ws c 0 (bracketTo 0))) n
       ∙ (both ∙ ap (λ (l : List ℕ). l ++ (bracketTo 0 ∷ [])) one-word)
-      ∙ (append-assoc (emptyRegisters c) (0 ∷ []) (bracketTo 0 ∷ []) ∙ hollows-more c ∙ ap emptyRegisters (sym (add-one c)))
+      ∙ (append-assoc (emptyRegisters c) (0 ∷ []) (bracketTo 0 ∷ []) ∙ empties-more c ∙ ap emptyRegisters (sym (add-one c)))
 
 -- ---- the whole store
 

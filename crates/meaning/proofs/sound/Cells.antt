@@ -10,9 +10,10 @@ use native.Mathlib.Omega.{arith}
 use lib.Dec.{ltb}
 use lib.ListN.{length, getD}
 use borrow.Author.Tests.{leb-true, ltb-true, ltb-false, le-ltb}
+use Rattle.words.specs.Cell.{firstWord, secondWord}
 use Rattle.meaning.specs.Limits.{codeTest, limit}
 use Rattle.meaning.specs.Sound.{IsCode, Cell, code, empty, ends, fst, snd, bracketOf, cellOf, at, IsBracket}
-use Rattle.meaning.specs.Sound.{isEmpty, isFull, IsTerm, isSymbol, isBracket, Sound}
+use Rattle.meaning.specs.Sound.{isEmpty, isFull, IsTerm, isSymbol, isBracket, capacity, Sound}
 
 -- All that the code needs to know of the limit: an address fits the 28 bits of a right end.
 pub limit-fits : limit ≤ 268435456
@@ -114,16 +115,28 @@ words-of-cells P m n h i l u = go (even-or-odd i)
     go (inl q) = subst P (sym q) (h (i / 2) (omega arith) (omega arith) .0)
     go (inr q) = subst P (sym q) (h (i / 2) (omega arith) (omega arith) .1)
 
+-- ---- a sound store's cells keep their rules
+
+module _ {F : ℕ} {ws : List ℕ} {top : ℕ} (s : Sound F ws top) where
+  pub register-rule : (i : ℕ) → i < F → IsBracket F top (firstWord ws i) (secondWord ws i)
+  register-rule i h = s .cells i (omega (arith, s .low, s .high)) .register h
+
+  pub heap-rule : (c : ℕ) → F ≤ c → c < top → IsTerm F c (firstWord ws c) (secondWord ws c)
+  heap-rule c l h = s .cells c (omega (arith, s .high)) .occupied l h
+
+  pub free-rule : (c : ℕ) → top ≤ c → c < capacity ws → (firstWord ws c ≡ 0) × (secondWord ws c ≡ 0)
+  free-rule c l h = s .cells c h .free l
+
 -- each word from `top` on is zero
 pub free-words : (F : ℕ) (ws : List ℕ) (top : ℕ) → Sound F ws top → (i : ℕ) → 2 * top ≤ i → i < length ws
     → getD ws i 0 ≡ 0
 free-words F ws top s i l h =
-    words-of-cells (λ j. getD ws j 0 ≡ 0) top (length ws / 2) (λ c f g. s .free c f g) i l (omega (arith, s .even))
+    words-of-cells (λ j. getD ws j 0 ≡ 0) top (length ws / 2) (free-rule s) i l (omega (arith, s .allowed .even))
 
 module _ (F : ℕ) (ws : List ℕ) (top : ℕ) (p : 0 < F) (s : Sound F ws top) where
   pub good : SoundCells F (at ws) top
   unfolding at read
   good = record {
-    regs = λ i h. bracket-words F top (getD ws (2 * i) 0) (getD ws (2 * i + 1) 0) p (s .registers i h) .good;
-    heap = λ c l h. term-words F c (getD ws (2 * c) 0) (getD ws (2 * c + 1) 0) p (s .heap c l h) .good;
+    regs = λ i h. bracket-words F top (getD ws (2 * i) 0) (getD ws (2 * i + 1) 0) p (register-rule s i h) .good;
+    heap = λ c l h. term-words F c (getD ws (2 * c) 0) (getD ws (2 * c + 1) 0) p (heap-rule s c l h) .good;
   }

@@ -22,7 +22,7 @@ use Rattle.words.proofs.Plain.{decode-zero, decode-bracket}
 use Rattle.meaning.specs.Sound.{Cell, code, empty, ends, fst, snd, at, Sound}
 use Rattle.meaning.proofs.Lists.{lt-or-ge}
 use Rattle.meaning.proofs.sound.Cells.{limit-fits, code-fits, TermIn, term-of-bracket, good}
-use Rattle.meaning.proofs.sound.Cells.{read, Words, bracket-words, term-words}
+use Rattle.meaning.proofs.sound.Cells.{read, Words, bracket-words, term-words, register-rule, heap-rule, free-rule}
 
 -- a bracket with contents, whatever its mark and chains
 abbrev full : Second → Bool
@@ -69,7 +69,7 @@ module _ (F : ℕ) (ws : List ℕ) (top : ℕ) (p : 0 < F) (s : Sound F ws top) 
 
   here-register : (c : ℕ) → c < F → Here c
   here-register c h =
-      let w = bracket-words F top (firstWord ws c) (secondWord ws c) p (s .registers c h) in
+      let w = bracket-words F top (firstWord ws c) (secondWord ws c) p (register-rule s c h) in
       let k : Cell = read (firstWord ws c) (secondWord ws c) in
       record {
         good = fitting F top top k (omega arith) (term-of-bracket F top k (w .good));
@@ -79,7 +79,7 @@ module _ (F : ℕ) (ws : List ℕ) (top : ℕ) (p : 0 < F) (s : Sound F ws top) 
 
   here-heap : (c : ℕ) → F ≤ c → c < top → Here c
   here-heap c l h =
-      let w = term-words F c (firstWord ws c) (secondWord ws c) p (s .heap c l h) in
+      let w = term-words F c (firstWord ws c) (secondWord ws c) p (heap-rule s c l h) in
       record {
         good = fitting F c top (read (firstWord ws c) (secondWord ws c)) (omega arith) (w .good);
         one = w .one;
@@ -92,13 +92,13 @@ module _ (F : ℕ) (ws : List ℕ) (top : ℕ) (p : 0 < F) (s : Sound F ws top) 
       go : (c < F) ⊎ (F ≤ c) → (c < top) ⊎ (top ≤ c) → (c < length ws / 2) ⊎ (length ws / 2 ≤ c) → Here c
       go (inl h) u v = here-register c h
       go (inr l) (inl h) v = here-heap c l h
-      go (inr l) (inr m) (inl h) = here-zero c (s .free c m h .0) (s .free c m h .1)
+      go (inr l) (inr m) (inl h) = here-zero c (free-rule s c m h .0) (free-rule s c m h .1)
       go (inr l) (inr m) (inr n) =
-          let e : length ws ≤ 2 * c = omega (arith, s .even) in
+          let e : length ws ≤ 2 * c = omega (arith, s .allowed .even) in
           here-zero c (List·getD-eq-default ws 0 e) (List·getD-eq-default ws 0 (omega arith))
 
   top-fits : top ≤ 2 ^ 28
-  top-fits = omega (arith, s .high, s .small, limit-fits)
+  top-fits = omega (arith, s .high, s .allowed .small, limit-fits)
 
   cell-words : (c : ℕ) → (fst (at ws c) ≡ firstWord ws c) × (snd (at ws c) ≡ secondWord ws c)
   unfolding at read

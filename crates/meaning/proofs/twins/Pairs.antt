@@ -52,9 +52,9 @@ set-follow F p ws top s ws′ top′ s′ P f low w d l b b′ t t′ a e = reco
         let z : i ≡ d = omega arith in
         rw (
           z,
-          at-put ws d b F top p (omega (arith, s .large)) (term-of-bracket F top b t),
+          at-put ws d b F top p (omega (arith, s .allowed .large)) (term-of-bracket F top b t),
           at-put ws′ d b′ F top′ p
-              (omega (arith, s′ .large)) (term-of-bracket F top′ b′ t′),
+              (omega (arith, s′ .allowed .large)) (term-of-bracket F top′ b′ t′),
         ) (a, e)
 
 module _ (F : ℕ) (ws : List ℕ) (top : ℕ) (p : 0 < F) (s : Sound F ws top) where

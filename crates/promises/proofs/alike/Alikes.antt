@@ -178,7 +178,7 @@ collect-sound F ws top s = rw (sound-check F ws top s) (refl)
 
 pub same-length : {F : ℕ} {ws : List ℕ} {top : ℕ} {ws′ : List ℕ} {top′ : ℕ} → Sound F ws top → Sound F ws′ top′
     → capacity ws ≡ capacity ws′ → length ws ≡ length ws′
-same-length s s′ e = omega (arith, s .even, s′ .even)
+same-length s s′ e = omega (arith, s .allowed .even, s′ .allowed .even)
 
 module _ (F : ℕ) (ws : List ℕ) (top : ℕ) (s : Sound F ws top) (ws′ : List ℕ) (top′ : ℕ) (s′ : Sound F ws′ top′) where
   pub canon-collects : length ws ≡ length ws′ → canon F ws top ≡ canon F ws′ top′

@@ -15,7 +15,8 @@ use Rattle.meaning.specs.Operands.{ops, opAt, fault}
 use Rattle.meaning.specs.Call.{planOf, carryOut, perform, stepAfter, step}
 use Rattle.meaning.specs.Batch.{ended}
 use Rattle.meaning.proofs.effect.Steps.{step-meets}
-use Rattle.meaning.proofs.batch.Batches.{batch-runs}
+use Rattle.meaning.proofs.batch.Batches.{fours-of}
+use Rattle.meaning.proofs.batch.Cases.{batch-runs}
 use Rattle.promises.specs.Requests.{Request, call, requested, requests, inWords}
 use Rattle.promises.specs.Alike.{calls, requestsIn, Accepted, servedBy, Lent, requestsOf, Served, served}
 use Rattle.promises.specs.Alike.{NoneRefused, isCollect, strike, strikeAnswers, CollectionsNeverShow}
@@ -135,13 +136,14 @@ lent-ran : (F : ℕ) → 0 < F → (ws : List ℕ) (top : ℕ) (b : Lent) → Ac
     → servedBy F ws top b ≡ ran F ws top (requestsIn b)
 unfolding ended
 lent-ran F p ws top (calls cs space) n =
-    let r = batch-runs F p ws top cs space n in
+    let r = batch-runs F ws top cs space n in
+    let c = fours-of cs (r .1 .whole) in
     let s = ran F ws top (requests cs) in
     let l : length (inWords (s .answers)) ≡ 2 * (length cs / 4) =
-    omega (arith, inWords-length (s .answers), ran-length F ws top (requests cs), requests-length (r .1)) in
+    omega (arith, inWords-length (s .answers), ran-length F ws top (requests cs), requests-length c) in
     let k = take-at (inWords (s .answers)) (replicate (length space - length (inWords (s .answers))) 0)
     (2 * (length cs / 4)) l in
-    rw (r .2, runs-ran F ws top (r .1), k, verdicts-inWords (s .answers)) refl
+    rw (r .2, runs-ran F ws top c, k, verdicts-inWords (s .answers)) refl
 
 served-ran : (F : ℕ) → 0 < F → (ws : List ℕ) (top : ℕ) (bs : List Lent) → NoneRefused F ws top bs
     → served F ws top bs ≡ ran F ws top (requestsOf bs)

@@ -20,7 +20,8 @@ use Rattle.meaning.specs.Batch.{ended}
 use Rattle.meaning.proofs.operands.Uses.{right}
 use Rattle.meaning.proofs.call.Plans.{planTop, topAfter, WordsAfter}
 use Rattle.meaning.proofs.effect.Steps.{Steps, step-meets, no-need}
-use Rattle.meaning.proofs.batch.Batches.{batch-runs}
+use Rattle.meaning.proofs.batch.Batches.{fours-of}
+use Rattle.meaning.proofs.batch.Cases.{batch-runs}
 use Rattle.promises.specs.Requests.{Request, call, requested, requests}
 use Rattle.promises.proofs.alike.Requests.{ran, runs-ran, ran-length, requests-length}
 use Rattle.promises.specs.Calls.{Did, actedOn, actedTop, OnlyThere, CallsDo, CallsAnswer, Answered, none, next}
@@ -177,11 +178,12 @@ answered F p ws top (q ∷ qs) s =
 pub batches-run : BatchesRun
 unfolding ended
 batches-run F p ws top calls out e =
-    let q = batch-runs F p ws top calls out e in
-    rw (q .2, runs-ran F ws top (q .1))
+    let q = batch-runs F ws top calls out e in
+    let c = fours-of calls (q .1 .whole) in
+    rw (q .2, runs-ran F ws top c)
     (record {
       said = ran F ws top (requests calls) .answers;
       answered = answered F p ws top (requests calls) (q .0);
-      many = omega (arith, ran-length F ws top (requests calls), requests-length (q .1));
+      many = omega (arith, ran-length F ws top (requests calls), requests-length c);
       answers = refl;
     })

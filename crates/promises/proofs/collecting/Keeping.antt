@@ -11,6 +11,7 @@ use Rattle.meaning.specs.Reach.{Reached, reached, live}
 use Rattle.meaning.specs.Collected.{below, newAddress, collectedTop}
 use Rattle.meaning.proofs.Lists.{In, Asc, asc-in, in-getD, place, below-getD, below-le}
 use Rattle.meaning.proofs.meaning.Terms.{Along}
+use Rattle.meaning.proofs.sound.Cells.{free-rule}
 use Rattle.meaning.proofs.reach.Reaching.{listed-iff, reached-asc}
 use Rattle.meaning.proofs.collected.Collecting.{at-register, at-new, collected-sound, length-collected, meaning-kept}
 use Rattle.meaning.proofs.collected.Again.{all-reached, live-kept, collected-again}
@@ -65,9 +66,9 @@ module _ (F : ℕ) (p : 0 < F) (ws : List ℕ) (top : ℕ) (s : Sound F ws top) 
   unfolding newAddress
   not-up c i = let a = reached-asc F ws top p s in below-le F c (reached F ws top) a (asc-in F c (reached F ws top) a i)
 
-pub collecting-gathers : CollectingKeeps
+pub collecting-keeps : CollectingKeeps
 unfolding collectedTop
-collecting-gathers F p ws top s =
+collecting-keeps F p ws top s =
     let new = newAddress F (reached F ws top) in
     let at-end = collected-sound F ws top p s in
     record {
@@ -80,7 +81,7 @@ collecting-gathers F p ws top s =
       registerRun = λ i l r c h. run-moved (P F p ws top s) new (at ws i) l r c (along-register F ws top p s i h);
       cellRun = λ b l r c q. run-moved (P F p ws top s) new (at ws b) l r c
           (along-heap F ws top p s b (listed F p ws top s q));
-      rest = λ c l h. at-end .free c l (rw (length-collected F ws top p s) h);
+      rest = λ c l h. free-rule at-end c l (rw (length-collected F ws top p s) h);
       all = all-reached F ws top p s;
       expressions = meaning-kept F ws top p s;
       sound = at-end;

@@ -4,12 +4,10 @@ use mathlib.Core.Path.{_≡_, refl, ap, _∙_}
 use mathlib.Core.Logic.{inl, inr, _≢_}
 use mathlib.Core.Bool.{Bool, true, false, cond}
 use mathlib.Core.List.{List, [], _∷_}
-use Prim.Native.Nat.{ℕ, zero, suc, _+_, _-_, _*_, _/_, _≤_}
+use Prim.Native.Nat.{ℕ, zero, suc, _+_, _≤_}
 use native.Mathlib.Omega.{arith}
-use lib.Dec.{leb}
 use lib.ListN.{length}
-use borrow.Author.Tests.{leb-true, le-leb}
-use Rattle.meaning.specs.Limits.{limit, callsLimit}
+use Rattle.meaning.specs.Limits.{limit}
 use Rattle.meaning.specs.Expr.{Expr}
 use Rattle.meaning.specs.Sound.{at, capacity, Sound}
 use Rattle.meaning.specs.Meaning.{meaning}
@@ -22,16 +20,18 @@ use Rattle.meaning.specs.Look.{look}
 use Rattle.meaning.specs.Operands.{fault, opAt}
 use Rattle.meaning.specs.Call.{step}
 use Rattle.meaning.specs.Effect.{Effect, facts, effect, after, answer, callStatus}
-use Rattle.meaning.specs.Batch.{Outcome, asLent, ended, batchOf, callsTest, batch, runs as calling}
+use Rattle.meaning.specs.Batch.{Outcome, ended, callsTest, batch}
 use Rattle.meaning.proofs.look.Looking.{look-none, look-empty, look-size, look-word, look-unsound}
-use Rattle.meaning.proofs.check.Checking.{sound, check-sound, sound-check}
+use Rattle.meaning.proofs.check.Checking.{length-yes, yes-length, check-sound, sound-check}
+use Rattle.meaning.proofs.batch.Cases.{yes-calls, Cases, unsound, badCalls, shortAnswers, run, cases, batch-run}
 use Rattle.meaning.proofs.fresh.Fresh.{fresh-sound, fresh-empty}
 use Rattle.promises.specs.Calls.{lacking}
 use Rattle.promises.specs.Table.{OneOf, CheckAnswers, FreshTable, FreshAnswers, CollectTable, CollectAnswers}
-use Rattle.promises.specs.Table.{LookTable, LookAnswers, Batched, unsound, badCalls, badSpace, runs, BatchAnswers}
+use Rattle.promises.specs.Table.{LookTable, LookAnswers, Batched, badSpace, runs, BatchAnswers}
 use Rattle.promises.specs.Table.{CallAnswers}
+use Rattle.promises.specs.Table as table
 use Rattle.promises.proofs.calls.Calling.{calls-do}
-use Rattle.promises.proofs.table.Rules.{refuted, length-rule, rule-length, calls-rule, rule-calls, judged}
+use Rattle.promises.proofs.table.Rules.{refuted, judged}
 use Rattle.promises.proofs.table.Rules.{judged-number, judged-value}
 use Rattle.promises.proofs.table.Numbers.{fault-number, unfit-number, first-of}
 
@@ -57,9 +57,9 @@ fresh-answers F ws = go (lengthTest F (length ws)) refl
     go : (t : Bool) → lengthTest F (length ws) ≡ t
         → FreshTable F ws (cond t (done (fresh F (capacity ws)) F 0) (refused ws 0 (only 1)))
     go true e =
-        let q = length-rule F ws e in
-        let l : F ≤ capacity ws = omega (arith, q .1) in
-        let m : capacity ws ≤ limit = omega (arith, q .2) in
+        let q = length-yes F (length ws) e in
+        let l : F ≤ capacity ws = omega (arith, q .large) in
+        let m : capacity ws ≤ limit = omega (arith, q .small) in
         record {
           number = inl refl;
           value = refl;
@@ -68,14 +68,13 @@ fresh-answers F ws = go (lengthTest F (length ws)) refl
           refused = λ n. absurd (n q);
         }
     go false e =
-        let n = refuted (lengthTest F (length ws)) (rule-length F ws) e in
+        let n = refuted (lengthTest F (length ws)) (yes-length F (length ws)) e in
         record {
           number = inr (inl refl);
           value = refl;
           made = λ h. absurd (n h);
           sound = λ h. absurd (n h);
-          refused =
-              λ h. (refl, refl, refl);
+          refused = λ h. (refl, refl, refl);
         }
 
 -- ---- collecting alone
@@ -91,8 +90,7 @@ collect-answers F ws top = go (check F ws top .status) refl
         record {
           number = inl refl;
           collects = λ s. (refl, refl, refl, refl);
-          refused = λ n. absurd
-              (n (check-sound F ws top e));
+          refused = λ n. absurd (n (check-sound F ws top e));
         }
     go (suc n) e = record {
       number = judged-number F ws top (check F ws top) (judged F ws top);
@@ -131,31 +129,16 @@ look-answers F p ws top i = go (check F ws top .status) refl
 -- ---- a batch
 
 module _ (F : ℕ) (ws : List ℕ) (top : ℕ) (calls out : List ℕ) where
-  batched : Batched F ws top calls out (batch F ws top calls out)
-  unfolding batch batchOf ended
-  batched = one (check F ws top .status) refl
-    where
-      two : Sound F ws top → (t u : Bool) → callsTest (length calls) ≡ t → leb (2 * (length calls / 4)) (length out) ≡ u
-          → Batched F ws top calls out
-          (cond t (cond u (ended (calling F ws top calls) out) (asLent (only 5) ws top out))
-          (asLent (only 4) ws top out))
-      two s false u e f = badCalls s (refuted (callsTest (length calls)) (rule-calls calls) e)
-      two s true false e f =
-          badSpace s (calls-rule calls e)
-          (refuted (leb (2 * (length calls / 4)) (length out)) (le-leb (2 * (length calls / 4)) (length out)) f)
-      two s true true e f =
-          runs (ended (calling F ws top calls) out) s (calls-rule calls e)
-          (leb-true (2 * (length calls / 4)) (length out) f) refl
-
-      one : (n : ℕ) → check F ws top .status ≡ n
-          → Batched F ws top calls out (onZero n (batchOf F ws top calls out) (asLent (check F ws top) ws top out))
-      one zero e =
-          two (check-sound F ws top e) (callsTest (length calls)) (leb (2 * (length calls / 4)) (length out)) refl refl
-      one (suc n) e = unsound (check F ws top) (judged F ws top) (λ z. omega arith)
+  batched : (r : Outcome) → Cases F ws top calls out r → Batched F ws top calls out r
+  unfolding ended
+  batched r (unsound n) = table.unsound (check F ws top) (judged F ws top) n
+  batched r (badCalls s e) = table.badCalls s (refuted (callsTest (length calls)) (yes-calls (length calls)) e)
+  batched r (shortAnswers s a h) = badSpace s a (λ k. omega arith)
+  batched r (run s a h) = runs _ s a h refl
 
   batched-number : (r : Outcome) → Batched F ws top calls out r
       → OneOf (r .verdict .status) (0 ∷ 1 ∷ 2 ∷ 3 ∷ 4 ∷ 5 ∷ [])
-  batched-number r (unsound v j n) = wider (v .status) (judged-number F ws top v j)
+  batched-number r (table.unsound v j n) = wider (v .status) (judged-number F ws top v j)
     where
       wider : (n : ℕ) → OneOf n (0 ∷ 1 ∷ 2 ∷ 3 ∷ []) → OneOf n (0 ∷ 1 ∷ 2 ∷ 3 ∷ 4 ∷ 5 ∷ [])
       wider n (inl e) = inl e
@@ -163,35 +146,34 @@ module _ (F : ℕ) (ws : List ℕ) (top : ℕ) (calls out : List ℕ) where
       wider n (inr (inr (inl e))) = inr (inr (inl e))
       wider n (inr (inr (inr (inl e)))) = inr (inr (inr (inl e)))
       wider n (inr (inr (inr (inr e)))) = absurd e
-  batched-number r (badCalls s n) = inr (inr (inr (inr (inl refl))))
+  batched-number r (table.badCalls s n) = inr (inr (inr (inr (inl refl))))
   batched-number r (badSpace s c n) = inr (inr (inr (inr (inr (inl refl)))))
   batched-number r (runs q s c l e) = inl (ap (λ (v : Verdict). v .status) e)
 
   batched-value : (r : Outcome) → Batched F ws top calls out r → r .verdict .status ≢ 3 → r .verdict .value ≡ 0
-  batched-value r (unsound v j n) h = judged-value F ws top v j h
-  batched-value r (badCalls s n) h = refl
+  batched-value r (table.unsound v j n) h = judged-value F ws top v j h
+  batched-value r (table.badCalls s n) h = refl
   batched-value r (badSpace s c n) h = refl
   batched-value r (runs q s c l e) h = ap (λ (v : Verdict). v .value) e
 
   batched-kept : (r : Outcome) → Batched F ws top calls out r → r .verdict .status ≢ 0
       → (r .words ≡ ws) × (r .top ≡ top) × (r .answers ≡ out)
-  batched-kept r (unsound v j n) h = (refl, refl, refl)
-  batched-kept r (badCalls s n) h = (refl, refl, refl)
+  batched-kept r (table.unsound v j n) h = (refl, refl, refl)
+  batched-kept r (table.badCalls s n) h = (refl, refl, refl)
   batched-kept r (badSpace s c n) h = (refl, refl, refl)
   batched-kept r (runs q s c l e) h = absurd (h (ap (λ (v : Verdict). v .status) e))
 
 no-calls : (F : ℕ) (ws : List ℕ) (top : ℕ) (out : List ℕ) → Sound F ws top
     → (batch F ws top [] out .verdict .status ≡ 0) × (batch F ws top [] out .words ≡ ws)
     × (batch F ws top [] out .top ≡ top)
-unfolding batch batchOf ended callsTest
+unfolding ended
 no-calls F ws top out s =
-    rw (sound-check F ws top s, batchOf, le-leb 0 callsLimit (omega arith), le-leb 0 (length out) (omega arith))
-    (refl, refl, refl)
+    rw (batch-run F ws top [] out s (record { short = omega arith; whole = refl }) (omega arith)) (refl, refl, refl)
 
 pub batch-answers : BatchAnswers
 batch-answers F ws top calls out =
     let r = batch F ws top calls out in
-    let b = batched F ws top calls out in
+    let b = batched F ws top calls out r (cases F ws top calls out) in
     record {
       number = batched-number F ws top calls out r b;
       value = batched-value F ws top calls out r b;

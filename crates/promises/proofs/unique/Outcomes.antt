@@ -9,24 +9,24 @@ use native.Mathlib.Omega.{arith}
 use lib.ListN.{length, replicate}
 use lib.Seq.{ext-getD}
 use Rattle.words.specs.Cell.{firstWord, secondWord}
-use Rattle.meaning.specs.Sound.{Cell, code, empty, ends, fst, snd, at, capacity, Sound}
+use Rattle.meaning.specs.Sound.{Cell, code, empty, ends, fst, snd, at, capacity, Allowed, CellRule, Sound}
 use Rattle.meaning.specs.Reach.{reached, live}
 use Rattle.meaning.specs.Collected.{mapEnds, newAddress, collectedTop}
 use Rattle.meaning.specs.Verdicts.{Verdict, only, Done}
 use Rattle.meaning.specs.Check.{lengthTest, check}
 use Rattle.meaning.specs.Batch.{Outcome, asLent}
 use Rattle.meaning.proofs.Lists.{lt-or-ge}
-use Rattle.meaning.proofs.sound.Cells.{good, BracketIn, read, bracket-words, term-words, free-words}
-use Rattle.meaning.proofs.check.Checking.{check-sound, sound-check}
+use Rattle.meaning.proofs.sound.Cells.{good, BracketIn, read, bracket-words, term-words, free-words, register-rule, heap-rule}
+use Rattle.meaning.proofs.check.Checking.{length-yes, yes-length, check-sound, sound-check}
 use Rattle.meaning.proofs.collected.Determined.{is-collected}
-use Rattle.promises.specs.Table.{Not, LengthRule, TopRule, CellRule, Judged, badLength, badTop, badCell, isSound}
+use Rattle.promises.specs.Table.{Not, TopRule, Judged, badLength, badTop, badCell, isSound}
 use Rattle.promises.specs.Table.{Batched, unsound, badCalls, badSpace, runs}
 use Rattle.promises.specs.Requests.{Request, inWords}
 use Rattle.promises.specs.Alike.{Served}
 use Rattle.promises.proofs.alike.Requests.{ran}
 use Rattle.promises.specs.Calls.{Answered, none, next, BatchRun}
 use Rattle.promises.specs.Unique.{OneAnswer, OneCheck, OneFresh, OneCollected, OneLook, OneCollect, OneBatch}
-use Rattle.promises.proofs.table.Rules.{refuted, length-rule, rule-length}
+use Rattle.promises.proofs.table.Rules.{refuted}
 
 pub one-answer : OneAnswer
 one-answer A B numbers inj b x y e f = inj x y (e ∙ sym f)
@@ -34,12 +34,8 @@ one-answer A B numbers inj b x y e f = inj x y (e ∙ sym f)
 -- ---- the check
 
 sound-rules : {F : ℕ} {ws : List ℕ} {top : ℕ} → Sound F ws top
-    → LengthRule F ws × TopRule F ws top × ((c : ℕ) → c < capacity ws → CellRule F ws top c)
-sound-rules s = (
-  (s .even, s .large, s .small),
-  (s .low, s .high),
-  λ c h. record { register = s .registers c; occupied = s .heap c; free = λ l. s .free c l h },
-)
+    → Allowed F (length ws) × TopRule F ws top × ((c : ℕ) → c < capacity ws → CellRule F ws top c)
+sound-rules s = (s .allowed, (s .low, s .high), s .cells)
 
 module _ (F : ℕ) (ws : List ℕ) (top : ℕ) where
   judged-once : (v w : Verdict) → Judged F ws top v → Judged F ws top w → v ≡ w
@@ -87,9 +83,9 @@ one-fresh F ws r q a b = go (lengthTest F (length ws)) refl
         (x .1 ∙ sym (y .1)) (x .2 ∙ sym (y .2))
 
     go : (t : Bool) → lengthTest F (length ws) ≡ t → r ≡ q
-    go true e = let l = length-rule F ws e in both 0 _ F (a .made l) (b .made l)
+    go true e = let l = length-yes F (length ws) e in both 0 _ F (a .made l) (b .made l)
     go false e =
-        let n = refuted (lengthTest F (length ws)) (rule-length F ws) e in both 1 ws 0 (a .refused n) (b .refused n)
+        let n = refuted (lengthTest F (length ws)) (yes-length F (length ws)) e in both 1 ws 0 (a .refused n) (b .refused n)
 
 -- ---- collecting
 
@@ -101,13 +97,13 @@ module _ (F : ℕ) (p : 0 < F) (v : List ℕ) (t : ℕ) (s : Sound F v t) where
   register-words : (i : ℕ) → i < F → (b : Cell) → at v i ≡ b → Holds i b
   unfolding at read
   register-words i h b e =
-      let w = bracket-words F t (firstWord v i) (secondWord v i) p (s .registers i h) in rw (← e)
+      let w = bracket-words F t (firstWord v i) (secondWord v i) p (register-rule s i h) in rw (← e)
       (sym (w .one), sym (w .two))
 
   heap-words : (c : ℕ) → F ≤ c → c < t → (b : Cell) → at v c ≡ b → Holds c b
   unfolding at read
   heap-words c f h b e =
-      let w = term-words F c (firstWord v c) (secondWord v c) p (s .heap c f h) in rw (← e) (sym (w .one), sym (w .two))
+      let w = term-words F c (firstWord v c) (secondWord v c) p (heap-rule s c f h) in rw (← e) (sym (w .one), sym (w .two))
 
 pub one-collected : OneCollected
 unfolding collectedTop

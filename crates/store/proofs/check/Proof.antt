@@ -11,8 +11,8 @@ use borrow.Author.Tests.{not-true, not-false}
 use Rattle.words.specs.Cell.{firstWord, secondWord}
 use Rattle.meaning.specs.Limits.{firstHeapCell}
 use Rattle.meaning.specs.Check.{lengthTest, topTest, cellTest, damaged, verdictAt, check}
-use Rattle.store.proofs.Scan.{check-length, check-top, check-cells, check-kept, placed, tested, turn, stop}
-use Rattle.store.proofs.Scan.{finish, verdict-damaged, verdict-sound}
+use Rattle.meaning.proofs.check.Scanning.{check-length, check-top, check-cells, check-kept, placed, tested, turn, stop}
+use Rattle.meaning.proofs.check.Scanning.{finish, verdict-damaged, verdict-sound}
 use Rattle.store.proofs.check.Statement.{statement}
 use Rattle.store.proofs.check.Tie as tie
 

@@ -7,7 +7,8 @@ use borrow.Author.Needs.{needs}
 use borrow.Author.Tests.{not-true, not-false}
 use Rattle.meaning.specs.Limits.{firstHeapCell}
 use Rattle.meaning.specs.Check.{lengthTest}
-use Rattle.meaning.proofs.fresh.Making.{length-yes, fresh-refused, fresh-done}
+use Rattle.meaning.proofs.check.Checking.{length-yes}
+use Rattle.meaning.proofs.fresh.Making.{fresh-refused, fresh-done}
 use Rattle.store.proofs.fresh.Statement.{statement}
 use Rattle.store.proofs.fresh.Tie as tie
 

@@ -34,7 +34,7 @@ use Rattle.meaning.specs.Look.{Span, spanOf, lookSpan}
 use Rattle.meaning.specs.Operands.{ops, opAt, uses, wrong11, wrong12, wrong13, fault}
 use Rattle.meaning.specs.Actions.{put, copy, share, head, rest, openTerm, openFirst, codeTerm, codeFirst, newSymbol}
 use Rattle.meaning.specs.Actions.{newBracket, newRunOf, newRun}
-use Rattle.meaning.specs.Call.{sought, planOf, lacks, roomWords, roomTop, withRoom, carry, perform, stepAfter, step}
+use Rattle.meaning.specs.Call.{sought, planOf, lacks, roomWords, roomTop, withRoom, carryOut, perform, stepAfter, step}
 use Rattle.meaning.specs.Batch.{Outcome, ended, callsTest, batchOf, batch}
 use Rattle.meaning.specs.Program.{written, refusal, output, program}
 use Rattle.meaning.specs.Rows.{same}
@@ -65,7 +65,7 @@ right (batches ws top calls out s v ws′ top′ answers) =
 right (collects ws top s v ws′ top′) = left (collectIn firstHeapCell ws top) s v ws′ top′
 right (makes ws s ws′ top′) = left (freshIn firstHeapCell ws) s 0 ws′ top′
 right (looks ws top i from to) = span (lookSpan firstHeapCell ws top i) from to
-right (writes input output) = same (program firstHeapCell input) output
+right (writes input said) = same (program firstHeapCell input) said
 
 every : List Case → Bool
 every [] = true
@@ -77,7 +77,7 @@ const UNFOLDING: &str = "\
 unfolding limit codeTest callsLimit programCells programBytes at reached live newAddress collectedOf collected
     collectedTop bracketTest termTest cellTest lengthTest topTest verdictAt check fresh freshIn collectIn spanOf
     lookSpan ops opAt uses wrong11 wrong12 wrong13 fault put copy share head rest openTerm openFirst codeTerm
-    codeFirst newSymbol newBracket newRunOf newRun sought planOf lacks roomWords roomTop withRoom carry perform
+    codeFirst newSymbol newBracket newRunOf newRun sought planOf lacks roomWords roomTop withRoom carryOut perform
     stepAfter step ended callsTest batchOf batch decimal written refusal output program verdict outcome left span
     right every";
 

@@ -1,22 +1,19 @@
 -- The check by its tests, and the scan of the cells a step at a time: what the loop of `check` does.
 -- Assumes nothing.
 use mathlib.Core.Path.{_≡_, refl, sym, _∙_}
-use mathlib.Core.Bool.{Bool, true, false, cond, false≢true}
+use mathlib.Core.Bool.{Bool, true, false}
 use mathlib.Core.List.{List}
 use Prim.Native.Nat.{ℕ, suc, _+_, _-_, _*_, _^_, _≤_, _<_}
 use native.Mathlib.Numerals.{add-one}
 use native.Mathlib.Omega.{arith}
-use lib.Dec.{ltb, leb}
 use lib.ListN.{length}
-use borrow.Author.Tests.{lt-ltb, le-ltb, ltb-false, leb-true}
+use borrow.Author.Tests.{lt-ltb, le-ltb}
 use Rattle.words.specs.Cell.{firstWord, secondWord}
 use Rattle.meaning.specs.Sound.{capacity}
 use Rattle.meaning.specs.Verdicts.{only}
 use Rattle.meaning.specs.Check.{cellTest, damaged, lengthTest, topTest, verdictAt, check}
 use Rattle.meaning.proofs.sound.Cells.{limit-fits}
-use Rattle.meaning.proofs.check.Checking.{tests-sound, sound-check}
-use Rattle.store.specs.Passing.{Keeps}
-use Rattle.meaning.proofs.fresh.Making.{length-yes}
+use Rattle.meaning.proofs.check.Checking.{length-yes, top-yes, tests-sound, sound-check}
 
 -- the test of a cell's words, from the test of what was read
 pub tested : (F top c : ℕ) {x y a b : ℕ} {r t : Bool} → x ≡ a → y ≡ b → r ≡ cellTest F top c x y → r ≡ t
@@ -40,19 +37,14 @@ module _ (F : ℕ) (ws : List ℕ) (top : ℕ) where
   -- the first two tests passed: where the cells are
   pub placed : lengthTest F (length ws) ≡ true → topTest F (capacity ws) top ≡ true
       → (F ≤ top) × (2 * top ≤ length ws) × (top < 2 ^ 31)
-  unfolding topTest
-  placed e f = go (ltb top F) refl f
-    where
-      go : (t : Bool) → ltb top F ≡ t → cond t false (leb top (capacity ws)) ≡ true
-          → (F ≤ top) × (2 * top ≤ length ws) × (top < 2 ^ 31)
-      go true q r = absurd (false≢true r)
-      go false q r =
-          let high : top ≤ capacity ws = leb-true top (capacity ws) r in
-          (ltb-false top F q, omega arith, omega (arith, length-yes F (length ws) e .small, limit-fits))
+  placed e f =
+      let t = top-yes F (capacity ws) top f in
+      (t .0, omega (arith, t .1), omega (arith, t .1, length-yes F (length ws) e .small, limit-fits))
 
   -- all cells keep their rules
   pub check-kept : lengthTest F (length ws) ≡ true → topTest F (capacity ws) top ≡ true
-      → ((c : ℕ) → 0 ≤ c → c < capacity ws → Keeps F ws top c) → check F ws top ≡ only 0
+      → ((c : ℕ) → 0 ≤ c → c < capacity ws → cellTest F top c (firstWord ws c) (secondWord ws c) ≡ true)
+      → check F ws top ≡ only 0
   check-kept e f h = sound-check F ws top (tests-sound F ws top e f (λ c k. h c (omega arith) k))
 
   module _ (cells c : ℕ) where

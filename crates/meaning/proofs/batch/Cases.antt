@@ -1,0 +1,99 @@
+-- A batch by its tests: each one that fails is one refusal, and past the last the calls run.
+-- Assumes nothing.
+use mathlib.Core.Path.{_≡_, refl}
+use mathlib.Core.Logic.{_≢_}
+use mathlib.Core.Bool.{Bool, true, false, cond, false≢true}
+use mathlib.Core.List.{List}
+use Prim.Native.Nat.{ℕ, zero, suc, _*_, _/_, _%_, _≤_, _<_}
+use native.Mathlib.Omega.{arith}
+use lib.Dec.{leb, eqb}
+use lib.ListN.{length}
+use borrow.Author.Tests.{leb-true, leb-false, le-leb, lt-leb, eqb-true}
+use Rattle.meaning.specs.Limits.{callsLimit}
+use Rattle.meaning.specs.Sound.{Sound}
+use Rattle.meaning.specs.Verdicts.{only, onZero}
+use Rattle.meaning.specs.Check.{check}
+use Rattle.meaning.specs.Batch.{Outcome, runs, asLent, ended, AllowedCalls, callsTest, batchOf, batch}
+use Rattle.meaning.proofs.check.Checking.{check-sound, sound-check}
+
+-- ---- the call list
+
+pub calls-yes : (n : ℕ) → callsTest n ≡ true → AllowedCalls n
+unfolding callsTest
+calls-yes n q = go (leb n callsLimit) refl q
+  where
+    go : (t : Bool) → leb n callsLimit ≡ t → cond t (eqb (n % 4) 0) false ≡ true → AllowedCalls n
+    go true e r = record { short = leb-true n callsLimit e; whole = eqb-true (n % 4) 0 r }
+    go false e r = absurd (false≢true r)
+
+pub yes-calls : (n : ℕ) → AllowedCalls n → callsTest n ≡ true
+unfolding callsTest
+yes-calls n a = rw (le-leb n callsLimit (a .short), a .whole) refl
+
+module _ (F : ℕ) (ws : List ℕ) (top : ℕ) (calls out : List ℕ) where
+  -- ---- in a sound store
+
+  pub bad-calls : callsTest (length calls) ≡ false → batchOf F ws top calls out ≡ asLent (only 4) ws top out
+  unfolding batchOf
+  bad-calls e = rw e refl
+
+  pub short-answers : callsTest (length calls) ≡ true → length out < 2 * (length calls / 4)
+      → batchOf F ws top calls out ≡ asLent (only 5) ws top out
+  unfolding batchOf
+  short-answers e h = rw (e, lt-leb (2 * (length calls / 4)) (length out) h) refl
+
+  pub all-run : callsTest (length calls) ≡ true → 2 * (length calls / 4) ≤ length out
+      → batchOf F ws top calls out ≡ ended (runs F ws top calls) out
+  unfolding batchOf
+  all-run e h = rw (e, le-leb (2 * (length calls / 4)) (length out) h) refl
+
+  pub batch-sound : Sound F ws top → batch F ws top calls out ≡ batchOf F ws top calls out
+  unfolding batch
+  batch-sound s = rw (sound-check F ws top s) refl
+
+  -- ---- the cases
+
+  pub data Cases : Outcome → Type 0 where
+    unsound : check F ws top .status ≢ 0 → Cases (asLent (check F ws top) ws top out)
+    badCalls : Sound F ws top → callsTest (length calls) ≡ false → Cases (asLent (only 4) ws top out)
+    shortAnswers : Sound F ws top → AllowedCalls (length calls) → length out < 2 * (length calls / 4)
+        → Cases (asLent (only 5) ws top out)
+    run : Sound F ws top → AllowedCalls (length calls) → 2 * (length calls / 4) ≤ length out
+        → Cases (ended (runs F ws top calls) out)
+
+  pub cases : Cases (batch F ws top calls out)
+  unfolding batch batchOf
+  cases = one (check F ws top .status) refl
+    where
+      two : Sound F ws top → (t u : Bool) → callsTest (length calls) ≡ t → leb (2 * (length calls / 4)) (length out) ≡ u
+          → Cases (cond t (cond u (ended (runs F ws top calls) out) (asLent (only 5) ws top out))
+          (asLent (only 4) ws top out))
+      two s false u e f = badCalls s e
+      two s true false e f =
+          shortAnswers s (calls-yes (length calls) e) (leb-false (2 * (length calls / 4)) (length out) f)
+      two s true true e f = run s (calls-yes (length calls) e) (leb-true (2 * (length calls / 4)) (length out) f)
+
+      one : (n : ℕ) → check F ws top .status ≡ n
+          → Cases (onZero n (batchOf F ws top calls out) (asLent (check F ws top) ws top out))
+      one zero e =
+          two (check-sound F ws top e) (callsTest (length calls)) (leb (2 * (length calls / 4)) (length out)) refl refl
+      one (suc n) e = unsound (λ z. omega arith)
+
+  -- ---- the one that runs, from either side
+
+  pub batch-run : Sound F ws top → AllowedCalls (length calls) → 2 * (length calls / 4) ≤ length out
+      → batch F ws top calls out ≡ ended (runs F ws top calls) out
+  batch-run s a h = rw (batch-sound s, all-run (yes-calls (length calls) a) h) refl
+
+  pub batch-runs : batch F ws top calls out .verdict .status ≡ 0
+      → Sound F ws top × AllowedCalls (length calls) × (batch F ws top calls out ≡ ended (runs F ws top calls) out)
+  unfolding ended
+  batch-runs q = go (batch F ws top calls out) cases refl q
+    where
+      go : (r : Outcome) → Cases r → batch F ws top calls out ≡ r → r .verdict .status ≡ 0
+          → Sound F ws top × AllowedCalls (length calls)
+          × (batch F ws top calls out ≡ ended (runs F ws top calls) out)
+      go r (unsound n) e z = absurd (n z)
+      go r (badCalls s b) e z = absurd (omega arith)
+      go r (shortAnswers s a h) e z = absurd (omega arith)
+      go r (run s a h) e z = (s, a, e)
