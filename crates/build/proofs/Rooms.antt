@@ -26,7 +26,6 @@ use Rattle.build.specs.declared.room.Room.the-variants.{Ready, Lacking}
 -- what is live, and `top` once collected
 module _ (ws : List ℕ) (top : ℕ) (s : Sound firstHeapCell ws top) where
   pub low-live : collectedTop firstHeapCell ws top ≡ firstHeapCell + live firstHeapCell ws top
-  unfolding collectedTop
   low-live = refl
 
   pub live-small : firstHeapCell + live firstHeapCell ws top ≤ limit

@@ -84,7 +84,8 @@ module _ {ws₀ : List ℕ} {top₀ : ℕ} {calls out₀ : List ℕ} where
     pub onward : {t′ : ℕ} {ws′ out′ : List ℕ} → i < length calls / 4 → 2 * (length calls / 4) ≤ length out₀
         → Leaves (callAt ws t calls i) i out t′ ws′ out′ → Running ws₀ top₀ calls out₀ ws′ t′ out′ (i + 1)
     onward h g c =
-        let m = step-meets firstHeapCell ws t firstHeapCell-pos (k .sound) (getD calls (4 * i) 0) (getD calls (4 * i + 1) 0)
+        let m =
+        step-meets firstHeapCell ws t firstHeapCell-pos (k .sound) (getD calls (4 * i) 0) (getD calls (4 * i + 1) 0)
         (getD calls (4 * i + 2) 0) (getD calls (4 * i + 3) 0) in
         let st = callAt ws t calls i .verdict .status in
         let va = callAt ws t calls i .verdict .value in

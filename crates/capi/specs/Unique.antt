@@ -23,7 +23,8 @@ OneCheck = (ws : List ℕ) (top : ℕ) (r r′ : Answer) → Checks ws top r →
 
 abbrev pub OneFresh : Type 0
 OneFresh =
-    (ws vs vs′ : List ℕ) (r r′ : Answer) → doneIs r vs ≡ freshIn firstHeapCell ws → doneIs r′ vs′ ≡ freshIn firstHeapCell ws
+    (ws vs vs′ : List ℕ) (r r′ : Answer) → doneIs r vs ≡ freshIn firstHeapCell ws
+    → doneIs r′ vs′ ≡ freshIn firstHeapCell ws
     → (r ≡ r′) × (vs ≡ vs′)
 
 abbrev pub OneCollect : Type 0
@@ -34,7 +35,8 @@ OneCollect =
 abbrev pub OneRun : Type 0
 OneRun =
     (ws : List ℕ) (top : ℕ) (calls out vs vs′ os os′ : List ℕ) (r r′ : Answer)
-    → outcomeIs r vs os ≡ batch firstHeapCell ws top calls out → outcomeIs r′ vs′ os′ ≡ batch firstHeapCell ws top calls out
+    → outcomeIs r vs os ≡ batch firstHeapCell ws top calls out
+    → outcomeIs r′ vs′ os′ ≡ batch firstHeapCell ws top calls out
     → (r ≡ r′) × (vs ≡ vs′) × (os ≡ os′)
 
 abbrev pub OneLook : Type 0

@@ -14,18 +14,18 @@ use lib.Dec.{ltb}
 use lib.ListN.{length, getD}
 use borrow.Author.Tests.{lt-ltb, le-ltb, ne-eqb}
 use Rattle.words.specs.Cell.{firstWord, secondWord}
-use Rattle.words.specs.Second.{Second, decode, plain}
+use Rattle.words.specs.Second.{Second, decode, plain, full, fullWord}
 use Rattle.words.proofs.Plain.{decode-zero}
 use Rattle.meaning.specs.Limits.{firstHeapCell}
 use Rattle.meaning.specs.Sound as S
-use Rattle.meaning.specs.Reach.{reached, live}
-use Rattle.meaning.specs.Collected.{mapEnds, newAddress, collected, collectedTop}
+use Rattle.meaning.specs.Reach.{live}
+use Rattle.meaning.specs.Collected.{mapEnds, collected, collectedTop, new}
 use Rattle.meaning.proofs.sound.Cells.{words-of-cells, free-rule}
 use Rattle.meaning.proofs.collected.Determined.{new-last, is-collected}
 use Rattle.collect.specs.Cells.{ChainCell, cell, val, mk}
-use Rattle.collect.specs.Chain.{Heap, full, holder, Proper, place, placedCell}
+use Rattle.collect.specs.Chain.{Heap, holder, Proper, place, placedCell}
 use Rattle.collect.specs.Step.{lowered}
-use Rattle.collect.specs.Passes.{fullWord, Sweeping, Sweeps, Layable, Lowerable, Lowers, Settleable}
+use Rattle.collect.specs.Passes.{Sweeping, Sweeps, Layable, Lowerable, Lowers, Settleable}
 use Rattle.collect.specs.Passes.{Settles, Cleared}
 use Rattle.meaning.proofs.sound.Fields.{Fields, cell-fields, ends-in}
 use Rattle.collect.proofs.Order.{holder-full}
@@ -39,8 +39,8 @@ use Rattle.collect.proofs.Heaps.{heapOf, live-of, proper, begun}
 -- the words of cell d are those of the sound store's cell, both ends at their new addresses
 abbrev IsNew : ℕ → List ℕ → ℕ → List ℕ → ℕ → S.Cell → Type 0
 IsNew F ws top v d x =
-    (firstWord v d ≡ S.fst (mapEnds (newAddress F (reached F ws top)) x))
-    × (secondWord v d ≡ S.snd (mapEnds (newAddress F (reached F ws top)) x))
+    (firstWord v d ≡ S.fst (mapEnds (new F ws top) x))
+    × (secondWord v d ≡ S.snd (mapEnds (new F ws top) x))
 
 module _ (ws : List ℕ) (top : ℕ) (s : S.Sound firstHeapCell ws top) where
   abbrev p : 0 < firstHeapCell
@@ -51,9 +51,6 @@ module _ (ws : List ℕ) (top : ℕ) (s : S.Sound firstHeapCell ws top) where
 
   abbrev P : Proper h
   P = proper firstHeapCell ws top true p s
-
-  abbrev new : ℕ → ℕ
-  new = newAddress firstHeapCell (reached firstHeapCell ws top)
 
   abbrev Kept : ℕ → Type 0
   Kept c = (ltb c firstHeapCell || h .live c) ≡ true
@@ -68,13 +65,13 @@ module _ (ws : List ℕ) (top : ℕ) (s : S.Sound firstHeapCell ws top) where
     swept : Sweeping h s₁ top
     swept = w h (begun firstHeapCell ws top true p s refl) .0
 
-    pub gone : dead + new top ≡ top
+    pub gone : dead + new firstHeapCell ws top top ≡ top
     gone = w h (begun firstHeapCell ws top true p s refl) .1
 
     pub top-is : top - dead ≡ collectedTop firstHeapCell ws top
     top-is = omega (arith, gone, new-last firstHeapCell ws top p s)
 
-    place-is : (c : ℕ) → firstHeapCell ≤ c → place h c ≡ new c + dead
+    place-is : (c : ℕ) → firstHeapCell ≤ c → place h c ≡ new firstHeapCell ws top c + dead
     place-is c f = omega (arith, gone, place-packed h P c refl f)
 
     at-place : (c : ℕ) → Kept c → cell s₁ (place h c) ≡ placedCell h c
@@ -103,7 +100,8 @@ module _ (ws : List ℕ) (top : ℕ) (s : S.Sound firstHeapCell ws top) where
         far true q f =
             let z = P .ends c q in
             let a : firstWord v i ≡ place h (h .li c) = ap (λ (x : ChainCell). x .l .num) e ∙ rw q refl in
-            let b : decode (secondWord v i) .ri ≡ place h (h .ri c) = ap (λ (x : ChainCell). x .r .num) e ∙ rw q refl in (
+            let b : decode (secondWord v i) .ri ≡ place h (h .ri c) =
+            ap (λ (x : ChainCell). x .r .num) e ∙ rw q refl in (
               omega (arith, a, place-is (h .li c) (z .0)),
               omega (arith, b, place-is (h .ri c) (omega (arith, z))),
             )
@@ -155,15 +153,17 @@ module _ (ws : List ℕ) (top : ℕ) (s : S.Sound firstHeapCell ws top) where
             let low-r : firstHeapCell ≤ r = omega (arith, in-heap) in
             let lo : firstWord ws c ≡ l = f .0 in
             let ro : decode (secondWord ws c) .ri ≡ r = ap (λ (y : Second). y .ri) (f .1) in
-            let at-l : place h (h .li c) - dead ≡ new l =
-            subst (λ (x : ℕ). place h x - dead ≡ new l) (sym lo) (omega (arith, place-is l (in-heap .0))) in
-            let at-r : place h (h .ri c) - dead ≡ new r =
-            subst (λ (x : ℕ). place h x - dead ≡ new r) (sym ro) (omega (arith, place-is r low-r)) in
+            let at-l : place h (h .li c) - dead ≡ new firstHeapCell ws top l =
+            subst (λ (x : ℕ). place h x - dead ≡ new firstHeapCell ws top l) (sym lo)
+            (omega (arith, place-is l (in-heap .0))) in
+            let at-r : place h (h .ri c) - dead ≡ new firstHeapCell ws top r =
+            subst (λ (x : ℕ). place h x - dead ≡ new firstHeapCell ws top r) (sym ro)
+            (omega (arith, place-is r low-r)) in
             let up : 0 < place h (h .ri c) =
             subst (λ (x : ℕ). 0 < place h x) (sym ro)
             (omega (arith, place-is r low-r, new-bound h P r low-r (omega (arith, in-heap)))) in
             let held : holder h c ≡ true = is (plain true r) (f .1) ∙ ap not (ne-eqb r 0 (λ z. omega (arith, f .2))) in
-            bracket-is v d (new l) (new r) fits
+            bracket-is v d (new firstHeapCell ws top l) (new firstHeapCell ws top r) fits
             (e ∙ lowered-holder h dead c k held up ∙ (λ i. mk (f .1 i .br) false (val (at-l i)) (val (at-r i))))
 
     -- ---- the whole
@@ -178,24 +178,25 @@ module _ (ws : List ℕ) (top : ℕ) (s : S.Sound firstHeapCell ws top) where
     -- the words v have every cell lowered, and are zero from the new `top` on
     is-compacted : (v : List ℕ) → length v ≡ length ws → ((i : ℕ) → getD v i 0 < 2 ^ 32)
         → ((c : ℕ) → c < firstHeapCell → cell v c ≡ lowered dead (placedCell h c))
-        → ((c : ℕ) → h .live c ≡ true → cell v (new c) ≡ lowered dead (placedCell h c))
-        → ((c : ℕ) → new top ≤ c → c < length ws / 2 → (firstWord v c ≡ 0) × (secondWord v c ≡ 0))
+        → ((c : ℕ) → h .live c ≡ true → cell v (new firstHeapCell ws top c) ≡ lowered dead (placedCell h c))
+        → ((c : ℕ) → new firstHeapCell ws top top ≤ c → c < length ws / 2 → (firstWord v c ≡ 0) × (secondWord v c ≡ 0))
         → v ≡ collected firstHeapCell ws top
     is-compacted v len fits regs heap free =
         is-collected firstHeapCell ws top p s v len
         (λ i lt. final-words v i i (kept-reg i lt) (fits (2 * i + 1)) (regs i lt))
         (λ c q.
         let l = live-of firstHeapCell ws top true p s c q in
-        final-words v c (new c) (kept-live c l) (fits (2 * new c + 1)) (heap c l))
+        final-words v c (new firstHeapCell ws top c) (kept-live c l) (fits (2 * (new firstHeapCell ws top) c + 1))
+        (heap c l))
         (λ i low lt.
-        words-of-cells (λ j. getD v j 0 ≡ 0) (new top) (length ws / 2) free i
+        words-of-cells (λ j. getD v j 0 ≡ 0) (new firstHeapCell ws top top) (length ws / 2) free i
         (omega (arith, new-last firstHeapCell ws top p s)) (omega (arith, s .allowed .even)))
 
     pub compacted : (s₂ s₃ s₄ : List ℕ) → Lowers s₁ s₂ top dead → Settles s₂ s₃ dead → Cleared s₃ s₄ (top - dead) top
         → length s₄ ≡ length ws → ((i : ℕ) → getD s₄ i 0 < 2 ^ 32) → s₄ ≡ collected firstHeapCell ws top
     compacted s₂ s₃ s₄ t₂ t₃ t₄ len fits = is-compacted s₄ len fits regs heap free
       where
-        stays : (c : ℕ) → (new top ≤ c → top ≤ c) → cell s₄ c ≡ cell s₃ c
+        stays : (c : ℕ) → (new firstHeapCell ws top top ≤ c → top ≤ c) → cell s₄ c ≡ cell s₃ c
         stays c q = let e = t₄ .kept c (λ z. q (omega (arith, gone))) in rw (e .0, e .1)
 
         regs : (c : ℕ) → c < firstHeapCell → cell s₄ c ≡ lowered dead (placedCell h c)
@@ -206,19 +207,20 @@ module _ (ws : List ℕ) (top : ℕ) (s : S.Sound firstHeapCell ws top) where
             ∙ subst (λ (x : ℕ). cell s₁ x ≡ placedCell h c) (place-own h P c lt) (at-place c (kept-reg c lt))
             ))
 
-        heap : (c : ℕ) → h .live c ≡ true → cell s₄ (new c) ≡ lowered dead (placedCell h c)
+        heap : (c : ℕ) → h .live c ≡ true → cell s₄ (new firstHeapCell ws top c) ≡ lowered dead (placedCell h c)
         heap c l =
             let z = P .heap c l in
             let e = place-is c (z .0) in
             let u = place-up h P c l in
             let f = new-bound h P c (z .0) (omega (arith, z)) in
-            let q : place h c - dead ≡ new c = omega (arith, e) in
-            stays (new c) (λ y. omega (arith, e, u, gone))
-            ∙ t₃ (new c) ∙ rw (le-ltb (new c) firstHeapCell (f .0))
+            let q : place h c - dead ≡ new firstHeapCell ws top c = omega (arith, e) in
+            stays (new firstHeapCell ws top c) (λ y. omega (arith, e, u, gone))
+            ∙ t₃ (new firstHeapCell ws top c) ∙ rw (le-ltb (new firstHeapCell ws top c) firstHeapCell (f .0))
             (subst (λ (x : ℕ). cell s₂ x ≡ lowered dead (cell s₁ (place h c))) q
             (t₂ .down (place h c) (omega (arith, e, f .0)) (u .1)) ∙ ap (lowered dead) (at-place c (kept-live c l)))
 
-        free : (c : ℕ) → new top ≤ c → c < length ws / 2 → (firstWord s₄ c ≡ 0) × (secondWord s₄ c ≡ 0)
+        free : (c : ℕ) → new firstHeapCell ws top top ≤ c → c < length ws / 2 → (firstWord s₄ c ≡ 0)
+            × (secondWord s₄ c ≡ 0)
         free c low lt = go (decLt c top)
           where
             go : Dec (c < top) → (firstWord s₄ c ≡ 0) × (secondWord s₄ c ≡ 0)
@@ -243,10 +245,11 @@ module _ (ws : List ℕ) (top : ℕ) (s : S.Sound firstHeapCell ws top) where
             subst (λ (x : ℕ). cell s₁ x ≡ placedCell h c) (place-own h P c lt) (at-place c (kept-reg c lt))
             ∙ same c (kept-reg c lt)
 
-        heap : (c : ℕ) → h .live c ≡ true → cell s₁ (new c) ≡ lowered dead (placedCell h c)
+        heap : (c : ℕ) → h .live c ≡ true → cell s₁ (new firstHeapCell ws top c) ≡ lowered dead (placedCell h c)
         heap c l =
-            let e : place h c ≡ new c = omega (arith, place-is c (P .heap c l .0)) in
+            let e : place h c ≡ new firstHeapCell ws top c = omega (arith, place-is c (P .heap c l .0)) in
             subst (λ (x : ℕ). cell s₁ x ≡ placedCell h c) e (at-place c (kept-live c l)) ∙ same c (kept-live c l)
 
-        free : (c : ℕ) → new top ≤ c → c < length ws / 2 → (firstWord s₁ c ≡ 0) × (secondWord s₁ c ≡ 0)
+        free : (c : ℕ) → new firstHeapCell ws top top ≤ c → c < length ws / 2 → (firstWord s₁ c ≡ 0)
+            × (secondWord s₁ c ≡ 0)
         free c low lt = code-is s₁ c 0 0 (fits (2 * c + 1)) (free-cell c (omega (arith, gone)) lt)

@@ -12,18 +12,18 @@ use native.Mathlib.Omega.{arith}
 use lib.Dec.{ltb, eqb}
 use borrow.Author.Tests.{ltb-true, lt-ltb, le-ltb, eqb-true, eq-eqb}
 use Rattle.words.specs.Cell.{firstWord, secondWord}
-use Rattle.words.specs.Second.{Second, decode}
+use Rattle.words.specs.Second.{Second, decode, fullWord}
 use Rattle.meaning.specs.Limits.{firstHeapCell}
 use Rattle.meaning.specs.Sound as S
 use Rattle.meaning.specs.Reach.{Between, Reached, byRegister, byBracket, reached}
-use Rattle.meaning.specs.Collected.{newAddress}
+use Rattle.meaning.specs.Collected.{new}
 use Rattle.meaning.proofs.Lists.{In}
 use Rattle.meaning.proofs.sound.Cells.{limit-fits, good}
 use Rattle.meaning.proofs.reach.Reaching.{or-left, or-right, or-cases, reached-heap, listed-iff}
 use Rattle.meaning.proofs.collected.Determined.{new-first, new-after, new-skip}
 use Rattle.collect.specs.Cells.{cell}
 use Rattle.collect.specs.Chain.{Heap, holder, Proper, oldCell, SweptTo}
-use Rattle.collect.specs.Passes.{fullWord, Begun}
+use Rattle.collect.specs.Passes.{Begun}
 use Rattle.meaning.proofs.sound.Fields.{Fields, cell-fields, cell-ends, cell-plain, full-ends, ends-full, ends-in}
 use Rattle.meaning.proofs.sound.Fields.{ends-down}
 use Rattle.meaning.proofs.Counting.{both-true}
@@ -58,7 +58,7 @@ heapOf F ws top packs = record {
   live = λ c. among c (reached F ws top);
   li = λ c. firstWord ws c;
   ri = λ c. decode (secondWord ws c) .ri;
-  new = newAddress F (reached F ws top);
+  new = new F ws top;
   packs = packs;
 }
 

@@ -12,11 +12,11 @@ use native.Mathlib.Omega.{arith}
 use lib.Dec.{ltb}
 use borrow.Author.Tests.{ne-eqb}
 use Rattle.words.specs.Cell.{firstWord, secondWord}
-use Rattle.words.specs.Second.{Second}
+use Rattle.words.specs.Second.{Second, full}
 use Rattle.words.proofs.Plain.{plain-word, plain-code}
 use Rattle.meaning.specs.Sound as S
 use Rattle.collect.specs.Cells.{ChainCell, cell, val, mk}
-use Rattle.collect.specs.Chain.{Heap, full, holder, place, placedCell}
+use Rattle.collect.specs.Chain.{Heap, holder, place, placedCell}
 use Rattle.collect.specs.Step.{lowered}
 use Rattle.collect.proofs.Order.{holder-br, holder-full}
 

@@ -13,7 +13,8 @@ use native.Mathlib.Omega.{arith}
 use native.Mathlib.Decide.{decLt}
 use lib.Dec.{ltb, eqb}
 use borrow.Author.Tests.{lt-ltb, le-ltb}
-use Rattle.collect.specs.Chain.{Heap, full, holder, Proper, pos, turn}
+use Rattle.words.specs.Second.{full}
+use Rattle.collect.specs.Chain.{Heap, holder, Proper, pos, turn}
 use Rattle.meaning.proofs.Counting.{both-true}
 
 -- ---- the order

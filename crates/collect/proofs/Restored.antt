@@ -12,7 +12,6 @@ use Rattle.words.proofs.Cells.{words-ext}
 use Rattle.meaning.specs.Limits.{firstHeapCell}
 use Rattle.meaning.specs.Sound as S
 use Rattle.meaning.specs.Reach.{live}
-use Rattle.meaning.specs.Collected.{collectedTop}
 use Rattle.meaning.proofs.collected.Determined.{new-last}
 use Rattle.meaning.proofs.sound.Fields.{second-lt}
 use Rattle.collect.specs.Cells.{ChainCell, cell}
@@ -31,7 +30,6 @@ module _ (ws : List ℕ) (top : ℕ) (s : S.Sound firstHeapCell ws top) (s₁ : 
   k = heapOf firstHeapCell ws top false
 
   pub live-is : top - firstHeapCell - dead ≡ live firstHeapCell ws top
-  unfolding collectedTop
   live-is =
       omega (
         arith,
@@ -40,7 +38,6 @@ module _ (ws : List ℕ) (top : ℕ) (s : S.Sound firstHeapCell ws top) (s₁ : 
       )
 
   pub live-low : dead ≤ top - firstHeapCell
-  unfolding collectedTop
   live-low =
       omega (
         arith,
@@ -51,7 +48,8 @@ module _ (ws : List ℕ) (top : ℕ) (s : S.Sound firstHeapCell ws top) (s₁ : 
   pub restored : length s₁ ≡ length ws → ((i : ℕ) → getD s₁ i 0 < 2 ^ 32) → s₁ ≡ ws
   restored len fits =
       words-ext s₁ ws len (omega (arith, s .allowed .even)) (λ c lt. ap (λ (x : ChainCell). x .l .num) (same c))
-      (λ c lt. decode-inj (secondWord s₁ c) (secondWord ws c) (fits (2 * c + 1)) (second-lt firstHeapCell ws top some s c)
+      (λ c lt. decode-inj (secondWord s₁ c) (secondWord ws c) (fits (2 * c + 1))
+      (second-lt firstHeapCell ws top some s c)
       (ap fieldsOf (same c)))
     where
       same : (c : ℕ) → cell s₁ c ≡ cell ws c

@@ -10,9 +10,10 @@
 -- Assumes nothing.
 use mathlib.Core.Path.{_≡_}
 use mathlib.Core.Logic.{_≢_}
-use mathlib.Core.Bool.{Bool, true, false, cond, not, _&&_, _||_}
+use mathlib.Core.Bool.{Bool, true, false, cond, _&&_, _||_}
 use Prim.Native.Nat.{ℕ, zero, suc, _+_, _-_, _≤_, _<_}
 use lib.Dec.{ltb, leb, eqb}
+use Rattle.words.specs.Second.{full}
 use Rattle.collect.specs.Cells.{Link, ChainCell, val, ptr, mk}
 
 -- Registers below F, heap cells from F up to T; which cells are brackets, their ends, which heap cells are reached and
@@ -26,10 +27,6 @@ pub record Heap : Type 0 where
   pub ri : ℕ → ℕ
   pub new : ℕ → ℕ
   pub packs : Bool
-
--- a bracket with contents, by its flag and its right end
-abbrev pub full : Bool → ℕ → Bool
-full b r = b && not (eqb r 0)
 
 -- a register or reached cell that is a bracket with contents
 unfoldable pub holder : Heap → ℕ → Bool

@@ -10,10 +10,10 @@ use Prim.Native.Nat.{ℕ, suc, _+_, _-_, _*_, _^_, _≤_, _<_}
 use lib.Dec.{ltb}
 use lib.ListN.{length}
 use Rattle.words.specs.Cell.{firstWord, secondWord, putCell}
-use Rattle.words.specs.Second.{decode, plain}
+use Rattle.words.specs.Second.{decode, plain, fullWord}
 use Rattle.meaning.specs.Limits.{firstHeapCell, limit}
 use Rattle.collect.specs.Cells.{linked, cell}
-use Rattle.collect.specs.Chain.{Heap, full, Proper, pos, place, SweptTo, Known}
+use Rattle.collect.specs.Chain.{Heap, Proper, pos, place, SweptTo, Known}
 use Rattle.collect.specs.Step.{Laid, Linked, lowered}
 
 -- The words s have room for the heap g, and every number of it fits 28 bits.
@@ -23,10 +23,6 @@ pub record Frame (g : Heap) (s : List ℕ) : Type 0 where
   pub room : 2 * g .T ≤ length s
   pub len : length s ≤ 2 * limit
   pub small : (c : ℕ) → g .li c < 2 ^ 28
-
--- a second word of a bracket with contents
-abbrev pub fullWord : ℕ → Bool
-fullWord w = full (decode w .br) (decode w .ri)
 
 -- a second word without mark and chains
 abbrev pub PlainWord : ℕ → Type 0

@@ -4,7 +4,7 @@ use mathlib.Core.Path.{_≡_}
 use mathlib.Core.Logic.{_≢_}
 use mathlib.Core.Bool.{cond}
 use Prim.Native.Nat.{ℕ, _-_}
-use Rattle.collect.specs.Chain.{full}
+use Rattle.words.specs.Second.{full}
 use Rattle.collect.specs.Cells.{ChainCell, val, ptr, mk}
 
 -- The cell x is put down at m, and nothing else changes.

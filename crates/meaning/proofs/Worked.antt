@@ -4,7 +4,7 @@ use Rattle.bytes.specs.Decimal.{decimal}
 use Rattle.meaning.specs.Limits.{firstHeapCell, limit, codeTest, programCells, programBytes}
 use Rattle.meaning.specs.Sound.{at}
 use Rattle.meaning.specs.Reach.{reached, live}
-use Rattle.meaning.specs.Collected.{newAddress, collectedOf, collected, collectedTop}
+use Rattle.meaning.specs.Collected.{newAddress, collectedOf, collected}
 use Rattle.meaning.specs.Check.{bracketTest, termTest, cellTest, lengthTest, topTest, verdictAt, check, collectIn}
 use Rattle.meaning.specs.Fresh.{fresh}
 use Rattle.meaning.specs.Operands.{ops, opAt, uses, wrong11, wrong12, wrong13, fault}
@@ -17,9 +17,9 @@ use Rattle.meaning.specs.Rows.{verdictTest, doneTest, ranTest, rowTest, 
 use Rattle.meaning.specs.Rows.{RowsRight}
 
 pub rows-right : RowsRight firstHeapCell
-unfolding limit codeTest programCells programBytes at reached live newAddress collectedOf collected collectedTop
+unfolding limit codeTest programCells programBytes at reached live newAddress collectedOf collected
     bracketTest termTest cellTest lengthTest topTest verdictAt check fresh collectIn ops opAt uses wrong11 wrong12
     wrong13 fault put copy share head rest openTerm openFirst codeTerm codeFirst newSymbol newBracket newRunOf newRun
-    sought planOf lacks roomWords roomTop withRoom carryOut perform stepAfter step decimal written refusal output program
-    verdictTest doneTest ranTest rowTest p1 p1Lines p2 p3 p6 lone rows
+    sought planOf lacks roomWords roomTop withRoom carryOut perform stepAfter step decimal written refusal output
+    program verdictTest doneTest ranTest rowTest p1 p1Lines p2 p3 p6 lone rows
 rows-right = tt

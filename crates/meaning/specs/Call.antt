@@ -8,7 +8,8 @@ use Rattle.meaning.specs.Sound.{empty, at, capacity, size}
 use Rattle.meaning.specs.Reach.{live}
 use Rattle.meaning.specs.Collected.{collected, collectedTop}
 use Rattle.meaning.specs.Verdicts.{Done, done, refused, only}
-use Rattle.meaning.specs.Operands.{Op, CLEAR, COPY, SYMBOL, WRAP, JOIN, HEAD, REST, OPEN, LENGTH, FIRST, LIVE, COLLECT}
+use Rattle.meaning.specs.Operands.{Op, CLEAR, COPY, SYMBOL, WRAP, JOIN, HEAD, REST, OPEN, LENGTH, FIRST, LIVE}
+use Rattle.meaning.specs.Operands.{COLLECT}
 use Rattle.meaning.specs.Operands.{opAt, useD, isOperand, fault}
 use Rattle.meaning.specs.Actions.{put, share, head, rest, openFirst, codeFirst, newSymbol, newBracket, newRun}
 

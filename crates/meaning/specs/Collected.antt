@@ -21,6 +21,10 @@ below c (b ∷ bs) = countIf (ltb b c) (below c bs)
 unfoldable pub newAddress : ℕ → List ℕ → ℕ → ℕ
 newAddress F rs c = F + below c rs
 
+-- and in a store
+abbrev pub new : ℕ → List ℕ → ℕ → ℕ → ℕ
+new F ws top = newAddress F (reached F ws top)
+
 -- a cell with both ends moved
 abbrev pub mapEnds : (ℕ → ℕ) → Cell → Cell
 mapEnds f (code a) = code a
@@ -46,5 +50,5 @@ unfoldable pub collected : ℕ → List ℕ → ℕ → List ℕ
 collected F ws top = collectedOf F ws (reached F ws top)
 
 -- `top` after collecting
-unfoldable pub collectedTop : ℕ → List ℕ → ℕ → ℕ
+abbrev pub collectedTop : ℕ → List ℕ → ℕ → ℕ
 collectedTop F ws top = F + live F ws top

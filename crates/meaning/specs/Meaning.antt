@@ -29,6 +29,10 @@ abbrev pub term : (ℕ → Cell) → ℕ → ℕ → Expr
 term k zero c = nothing
 term k (suc n) c = termOf (term k n) (k c)
 
+-- the term of a store's cell
+abbrev pub termAt : List ℕ → ℕ → Expr
+termAt ws = term (at ws) (length ws)
+
 -- register i denotes the expression inside its parentheses
 unfoldable pub meaning : List ℕ → ℕ → Expr
-meaning ws i = inside (term (at ws) (length ws)) (at ws i)
+meaning ws i = inside (termAt ws) (at ws i)

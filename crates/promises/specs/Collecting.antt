@@ -9,7 +9,7 @@ use Rattle.words.specs.Cell.{firstWord, secondWord}
 use Rattle.meaning.specs.Sound.{ends, at, capacity, Sound}
 use Rattle.meaning.specs.Meaning.{meaning}
 use Rattle.meaning.specs.Reach.{Reached, reached, live}
-use Rattle.meaning.specs.Collected.{mapEnds, newAddress, collected}
+use Rattle.meaning.specs.Collected.{mapEnds, new, collected}
 
 -- ---- live is the number of reached heap cells: `reached` has each of them once, in ascending order, and nothing else
 
@@ -22,10 +22,6 @@ abbrev pub LiveCounts : Type 0
 LiveCounts = (F : ℕ) → 0 < F → (ws : List ℕ) (top : ℕ) → Sound F ws top → Counted F ws top
 
 -- ---- the collected store v
-
--- a reached cell's new address: F plus the number of reached heap cells below it
-abbrev pub new : ℕ → List ℕ → ℕ → ℕ → ℕ
-new F ws top = newAddress F (reached F ws top)
 
 pub record CollectedFrom (F : ℕ) (ws : List ℕ) (top : ℕ) (v : List ℕ) : Type 0 where
   -- packed low: the new addresses are the cells from F up to but not including F + live, and no cell moves up

@@ -94,7 +94,8 @@ SpaceRule calls out = 2 * (length calls / 4) ≤ length out
 
 pub data Batched (F : ℕ) (ws : List ℕ) (top : ℕ) (calls out : List ℕ) : Outcome → Type 0 where
   unsound : (v : Verdict) → Judged F ws top v → v .status ≢ 0 → Batched F ws top calls out (asLent v ws top out)
-  badCalls : Sound F ws top → Not (AllowedCalls (length calls)) → Batched F ws top calls out (asLent (only 4) ws top out)
+  badCalls : Sound F ws top → Not (AllowedCalls (length calls))
+      → Batched F ws top calls out (asLent (only 4) ws top out)
   badSpace : Sound F ws top → AllowedCalls (length calls) → Not (SpaceRule calls out)
       → Batched F ws top calls out (asLent (only 5) ws top out)
   runs : (r : Outcome) → Sound F ws top → AllowedCalls (length calls) → SpaceRule calls out → r .verdict ≡ only 0

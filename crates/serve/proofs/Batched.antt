@@ -1,8 +1,8 @@
 -- A batch on a fresh store is not refused, and what it leaves is what the program has to write.
 -- Assumes nothing.
 use mathlib.Core.Path.{_≡_, refl, sym, ap, ap₂, _∙_}
-use mathlib.Core.List.{List, [], _∷_, _++_, append-nil}
-use Prim.Native.Nat.{ℕ, _+_, _-_, _*_, _/_, _%_, _≤_}
+use mathlib.Core.List.{List, [], _++_, append-nil}
+use Prim.Native.Nat.{ℕ, _+_, _-_, _*_, _/_, _≤_}
 use native.Mathlib.Omega.{arith}
 use lib.ListN.{length, take, replicate, length-replicate}
 use lib.Seq.{length-take-le}
@@ -90,7 +90,8 @@ module _ (ws cs out : List ℕ) (l : BatchFits ws cs out) where
     run-output r ws″ out′ t t′ p q u =
         let s : Sound firstHeapCell (fresh firstHeapCell (capacity ws)) firstHeapCell =
         fresh-sound firstHeapCell (capacity ws) (omega (arith, l .store .large)) (omega (arith, l .store .small)) in
-        let b : batch firstHeapCell ws′ t cs out ≡ batch firstHeapCell (fresh firstHeapCell (capacity ws)) firstHeapCell cs out =
+        let b : batch firstHeapCell ws′ t cs out
+        ≡ batch firstHeapCell (fresh firstHeapCell (capacity ws)) firstHeapCell cs out =
         ap₂ (λ (w : List ℕ) (n : ℕ). batch firstHeapCell w n cs out) fresh-words (p ∙ fresh-top) in
         let a : out′ ≡ runs firstHeapCell (fresh firstHeapCell (capacity ws)) firstHeapCell cs .answers =
         sym (ran-answers r ws″ t out′) ∙ ap (λ (o : Outcome). o .answers) (q ∙ b)

@@ -25,12 +25,11 @@ module _ (F : ℕ) (ws : List ℕ) (top : ℕ) where
   -- what is left of a sound store: its words collected, and the new `top`
   pub alone-done : Sound F ws top → (ws′ : List ℕ) (top′ : ℕ) → ws′ ≡ collected F ws top → top′ ≡ collectedTop F ws top
       → done ws′ top′ (top′ - F) ≡ collectIn F ws top
-  unfolding collectIn collectedTop
+  unfolding collectIn
   alone-done s ws′ top′ e q =
       let n : top′ - F ≡ live F ws top = omega arith in
       rw (sound-check F ws top s, n, e, q) refl
 
   -- the new `top` is not below the first heap cell
   pub top-low : (r : ℕ) → r ≡ collectedTop F ws top → F ≤ r
-  unfolding collectedTop
   top-low r e = omega arith

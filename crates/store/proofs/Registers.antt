@@ -12,7 +12,8 @@ use Rattle.store.specs.Holds.{Bracketed, RunIs}
 use Rattle.store.specs.declared.Run.{Run}
 use Rattle.store.proofs.Sounds.{firstHeapCell-pos, register-bracketed, register-inside}
 
-pub bracket-in : {ws : List ℕ} {top i : ℕ} → Sound firstHeapCell ws top → i < firstHeapCell → BracketIn firstHeapCell top (at ws i)
+pub bracket-in : {ws : List ℕ} {top i : ℕ} → Sound firstHeapCell ws top → i < firstHeapCell
+    → BracketIn firstHeapCell top (at ws i)
 bracket-in {ws} {top} {i} s h = good firstHeapCell ws top firstHeapCell-pos s .regs i h
 
 -- its words may be read as a bracket's

@@ -37,7 +37,8 @@ OneFresh =
 
 abbrev pub OneSpan : Type 0
 OneSpan =
-    (ws : List ℕ) (top i : ℕ) (r r′ : span.Span) → Placed firstHeapCell ws top i r → Placed firstHeapCell ws top i r′ → r ≡ r′
+    (ws : List ℕ) (top i : ℕ) (r r′ : span.Span) → Placed firstHeapCell ws top i r → Placed firstHeapCell ws top i r′
+    → r ≡ r′
 
 -- the words and the place of the part that is handed back; that is all of a reference to a slice
 abbrev pub OneLook : Type 0

@@ -1,12 +1,12 @@
 -- The second words that stand between calls, which have no mark and no chain: a bracket's, and any other cell's.
 -- Assumes nothing.
 use mathlib.Core.Path.{_≡_, refl, ap}
-use mathlib.Core.Bool.{Bool, true, false, not, _&&_}
+use mathlib.Core.Bool.{Bool, true, false, not}
 use Prim.Native.Nat.{ℕ, zero, suc, _+_, _*_, _^_, _<_}
 use native.Mathlib.Omega.{arith}
 use lib.Dec.{ltb, eqb}
 use borrow.Author.Tests.{lt-ltb, le-ltb, ne-eqb}
-use Rattle.words.specs.Second.{bit, decode, encode, plain, bracketTo}
+use Rattle.words.specs.Second.{bit, decode, encode, plain, full, fullWord, bracketTo}
 use Rattle.words.proofs.Laws.{ri-lt, encode-decode, decodes}
 
 pub decode-code : (r : ℕ) → r < 2 ^ 28 → decode r ≡ plain false r
@@ -27,13 +27,13 @@ plain-code w r h e = omega (arith, encode-decode w h, ap encode e)
 
 -- one is larger than an empty bracket's only where it is that of a bracket with contents
 pub plain-full : (w : ℕ) → w < 2 ^ 32 → decode w ≡ plain (decode w .br) (decode w .ri)
-    → ltb 2147483648 w ≡ (decode w .br && not (eqb (decode w .ri) 0))
+    → ltb 2147483648 w ≡ fullWord w
 plain-full w h e = go (decode w .br) (decode w .ri) (omega (arith, encode-decode w h, ap encode e)) (ri-lt w)
   where
     some : (n : ℕ) → ltb 2147483648 (bracketTo n) ≡ not (eqb n 0)
     some zero = refl
     some (suc n) = rw (lt-ltb 2147483648 (bracketTo (suc n)) (omega arith), ne-eqb (suc n) 0 (λ z. omega arith)) refl
 
-    go : (b : Bool) (n : ℕ) → w ≡ bit b * 2 ^ 31 + n → n < 2 ^ 28 → ltb 2147483648 w ≡ (b && not (eqb n 0))
+    go : (b : Bool) (n : ℕ) → w ≡ bit b * 2 ^ 31 + n → n < 2 ^ 28 → ltb 2147483648 w ≡ full b n
     go true n q m = let z : w ≡ bracketTo n = omega arith in rw z (some n)
     go false n q m = le-ltb 2147483648 w (omega arith)

@@ -1,6 +1,6 @@
 -- A cell's second word as a record of its five fields, and the two ways between them ("The store, word by word";
 -- 000, 3.1). Assumes nothing.
-use mathlib.Core.Bool.{Bool, true, false}
+use mathlib.Core.Bool.{Bool, true, false, not, _&&_}
 use Prim.Native.Nat.{ℕ, _+_, _*_, _/_, _%_, _^_}
 use lib.Dec.{eqb}
 
@@ -40,6 +40,13 @@ withRc b s = record { br = s .br; used = s .used; lc = s .lc; rc = b; ri = s .ri
 -- a word between calls: no mark and no chain
 abbrev pub plain : Bool → ℕ → Second
 plain b n = record { br = b; used = false; lc = false; rc = false; ri = n }
+
+-- a bracket with contents, by its flag and its right end; and by its second word
+abbrev pub full : Bool → ℕ → Bool
+full b r = b && not (eqb r 0)
+
+abbrev pub fullWord : ℕ → Bool
+fullWord w = full (decode w .br) (decode w .ri)
 
 -- the second word of a bracket whose right end is r; 0 means empty
 abbrev pub bracketTo : ℕ → ℕ

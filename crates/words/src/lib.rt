@@ -2,13 +2,12 @@
 // together here, by masks and shifts, and the cells of a lent slice are read, written and zeroed here. The mark, bit
 // 30, is neither set nor read: it is 0 between calls, and the collector needs none.
 ghost use mathlib.Core.Path.{_≡_};
-ghost use mathlib.Core.Bool.{true, false, _&&_, not};
+ghost use mathlib.Core.Bool.{true, false};
 ghost use mathlib.Core.List.{_++_};
 ghost use Prim.Native.Nat.{_+_, _-_, _*_, _≤_, _<_, _^_};
-ghost use lib.Dec.{eqb};
 ghost use lib.ListN.{length, take, replicate};
 ghost use Rattle.words.specs.Cell.{firstWord, secondWord, putCell};
-ghost use Rattle.words.specs.Second.{decode, withRi, withLc, withRc, plain, bracketTo};
+ghost use Rattle.words.specs.Second.{decode, withRi, withLc, withRc, plain, fullWord, bracketTo};
 
 const BRACKET: u32 = 1 << 31;
 
@@ -42,7 +41,7 @@ pub fn right_end(w: u32) -> u32
 // Whether w, a second word without mark and chains, is that of a bracket with contents.
 pub fn is_full(w: u32) -> bool
     requires { ⌜ decode w ≡ plain (decode w .br) (decode w .ri) ⌝ }
-    ensures { λ r. ⌜ r ≡ (decode w .br && not (eqb (decode w .ri) 0)) ⌝ }
+    ensures { λ r. ⌜ r ≡ fullWord w ⌝ }
 {
     EMPTY < w
 }

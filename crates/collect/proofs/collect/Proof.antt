@@ -31,5 +31,6 @@ pub collect-spec : {M : Type 1} → statement M
 collect-spec =
     tie.close
     (tie.spec
-    (λ c κs. search needs) (λ c. search needs) collect-sound-requires sub-t11 (λ c. search needs) (λ c. search needs) returns
+    (λ c κs. search needs) (λ c. search needs) collect-sound-requires sub-t11 (λ c. search needs)
+    (λ c. search needs) returns
     (λ c. search needs) returns-2)

@@ -6,12 +6,12 @@ use mathlib.Core.List.{List}
 use Prim.Native.Nat.{ℕ, _-_}
 use native.Mathlib.Omega.{arith}
 use Rattle.words.specs.Cell.{putCell}
-use Rattle.words.specs.Second.{Second, decode, bracketTo}
+use Rattle.words.specs.Second.{Second, decode, bracketTo, fullWord}
 use Rattle.words.proofs.Laws.{ri-lt}
 use Rattle.words.proofs.Plain.{decode-bracket}
 use Rattle.collect.specs.Cells.{linked}
 use Rattle.collect.specs.Step.{lowered}
-use Rattle.collect.specs.Passes.{fullWord, Layable, Lays}
+use Rattle.collect.specs.Passes.{Layable, Lays}
 use Rattle.collect.proofs.Puts.{cell-put, cell-put-other}
 
 and-left : (a b : Bool) → (a && b) ≡ true → a ≡ true

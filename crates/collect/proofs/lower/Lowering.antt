@@ -11,11 +11,10 @@ use lib.Dec.{ltb}
 use lib.ListN.{length}
 use borrow.Author.Tests.{lt-ltb, le-ltb}
 use Rattle.words.specs.Cell.{firstWord, secondWord}
-use Rattle.words.specs.Second.{Second, decode, plain}
+use Rattle.words.specs.Second.{Second, decode, plain, full}
 use Rattle.meaning.specs.Limits.{firstHeapCell}
 use Rattle.meaning.proofs.Lists.{lt-or-ge}
 use Rattle.collect.specs.Cells.{ChainCell, linked, cell}
-use Rattle.collect.specs.Chain.{full}
 use Rattle.collect.specs.Step.{lowered}
 use Rattle.collect.specs.Passes.{Layable, Lays, Lowers, Settles}
 
@@ -85,6 +84,7 @@ pub registers-lowered : {d : ℕ} {s₀ s : List ℕ} {r : ℕ} → Lowering d 0
     → Settles s₀ s d
 registers-lowered {d} {s₀} {s} w le c = go (lt-or-ge c firstHeapCell)
   where
-    go : (c < firstHeapCell) ⊎ (firstHeapCell ≤ c) → cell s c ≡ cond (ltb c firstHeapCell) (lowered d (cell s₀ c)) (cell s₀ c)
+    go : (c < firstHeapCell) ⊎ (firstHeapCell ≤ c)
+        → cell s c ≡ cond (ltb c firstHeapCell) (lowered d (cell s₀ c)) (cell s₀ c)
     go (inl h) = rw (lt-ltb c firstHeapCell h) (w .down c c (omega arith) (omega arith) (omega arith))
     go (inr h) = rw (le-ltb c firstHeapCell h) (w .rest c (λ p. omega (arith, w .hi)))

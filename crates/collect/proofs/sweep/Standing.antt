@@ -11,13 +11,13 @@ use lib.Dec.{ltb, eqb}
 use lib.ListN.{length}
 use borrow.Author.Tests.{lt-ltb, le-ltb}
 use Rattle.words.specs.Cell.{firstWord, secondWord, putCell}
-use Rattle.words.specs.Second.{decode}
+use Rattle.words.specs.Second.{decode, full, fullWord}
 use Rattle.meaning.specs.Limits.{firstHeapCell}
 use Rattle.meaning.proofs.sound.Cells.{limit-fits}
 use Rattle.collect.specs.Cells.{Link, ChainCell, linked, cell, ptr}
-use Rattle.collect.specs.Chain.{Heap, full, holder, Proper, pos, turn, place, last, sweepCell, oldCell, SweptTo}
+use Rattle.collect.specs.Chain.{Heap, holder, Proper, pos, turn, place, last, sweepCell, oldCell, SweptTo}
 use Rattle.collect.specs.Step.{Linked, Laid}
-use Rattle.collect.specs.Passes.{Frame, fullWord, Linkable, Links, Standable, Stood, Sweeping}
+use Rattle.collect.specs.Passes.{Frame, Linkable, Links, Standable, Stood, Sweeping}
 use Rattle.collect.specs.Passes.{Turn, MyTurn, Releases, Turned, Untouched, HoldsRegisters}
 use Rattle.collect.proofs.Order.{pos-reg, holder-full, holder-live, pos-holder, ri-other}
 use Rattle.collect.proofs.Places.{place-own, place-up}

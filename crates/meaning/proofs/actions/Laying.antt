@@ -8,7 +8,7 @@ use native.Mathlib.Nat.{le-refl, le-trans, le-of-suc-le-suc, not-suc-le-zero, ad
 use native.Mathlib.Omega.{arith}
 use lib.ListN.{length}
 use Rattle.meaning.specs.Sound.{Cell, at, Sound}
-use Rattle.meaning.specs.Meaning.{inside, termOf, term, meaning}
+use Rattle.meaning.specs.Meaning.{inside, termOf, term, meaning, termAt}
 use Rattle.meaning.specs.Actions.{put, copies}
 use Rattle.meaning.proofs.sound.Cells.{TermIn, BracketIn, good}
 use Rattle.meaning.proofs.actions.Writing.{length-put, at-put, at-put-other, copy-put, sound-top, termIn-wider}
@@ -42,12 +42,12 @@ module _ (F : ℕ) (ws : List ℕ) (top : ℕ) (p : 0 < F) (s : Sound F ws top) 
   }
 
   module _ (ws′ : List ℕ) (top′ : ℕ) (x : Extends F ws top ws′ top′) where
-    pub extends-term : (c : ℕ) → F ≤ c → c < top → term (at ws) (length ws) c ≡ term (at ws′) (length ws′) c
+    pub extends-term : (c : ℕ) → F ≤ c → c < top → termAt ws c ≡ term (at ws′) (length ws′) c
     extends-term c f l =
         rw (x .len) (term-same F (at ws) (at ws′) top (good F ws top p s) (λ y g h. x .old y h) (length ws) c f l)
 
     pub extends-inside : (b : Cell) → BracketIn F top b
-        → inside (term (at ws) (length ws)) b ≡ inside (term (at ws′) (length ws′)) b
+        → inside (termAt ws) b ≡ inside (term (at ws′) (length ws′)) b
     extends-inside b t =
         rw (x .len) (inside-same F (at ws) (at ws′) top (good F ws top p s) (λ y g h. x .old y h) (length ws) b t)
 
@@ -58,9 +58,9 @@ module _ (F : ℕ) (ws : List ℕ) (top : ℕ) (p : 0 < F) (s : Sound F ws top) 
 
   -- two cells that are equal have one meaning
   pub twin : (c y : ℕ) → F ≤ c → c < top → F ≤ y → y < top → at ws c ≡ at ws y
-      → term (at ws) (length ws) c ≡ term (at ws) (length ws) y
+      → termAt ws c ≡ termAt ws y
   twin c y f l g h e =
-      term-law F ws top p s c f l ∙ (ap (λ (b : Cell). termOf (term (at ws) (length ws)) b) e ∙ sym
+      term-law F ws top p s c f l ∙ (ap (λ (b : Cell). termOf (termAt ws) b) e ∙ sym
       (term-law F ws top p s y g h))
 
 -- n cells copied from x on

@@ -1,6 +1,6 @@
 -- Writing a cell: a register, or the first free cell. What stays sound, and what keeps its meaning.
 -- Assumes nothing.
-use mathlib.Core.Path.{_≡_, refl, sym, ap, _∙_}
+use mathlib.Core.Path.{_≡_, refl, sym, ap}
 use mathlib.Core.Logic.{_⊎_, inl, inr, _≢_}
 use mathlib.Core.List.{List}
 use Prim.Native.Nat.{ℕ, zero, suc, _+_, _-_, _*_, _≤_, _<_}
@@ -13,10 +13,11 @@ use Rattle.words.proofs.Cells.{putCell-length, firstWord-same, secondWord-same,
 use Rattle.meaning.specs.Expr.{Expr}
 use Rattle.meaning.specs.Sound.{Cell, code, empty, ends, fst, snd, at, IsBracket, isEmpty, isFull, capacity}
 use Rattle.meaning.specs.Sound.{CellRule, Sound}
-use Rattle.meaning.specs.Meaning.{inside, termOf, term, meaning}
+use Rattle.meaning.specs.Meaning.{inside, termOf, term, meaning, termAt}
 use Rattle.meaning.specs.Actions.{put, copy}
 use Rattle.meaning.proofs.Lists.{lt-or-ge}
-use Rattle.meaning.proofs.sound.Cells.{SoundCells, TermIn, BracketIn, term-of-bracket, good, read, read-words, is-bracket}
+use Rattle.meaning.proofs.sound.Cells.{SoundCells, TermIn, BracketIn, term-of-bracket, good, read, read-words}
+use Rattle.meaning.proofs.sound.Cells.{is-bracket}
 use Rattle.meaning.proofs.sound.Cells.{is-term, bracket-words, term-words, register-rule, heap-rule}
 use Rattle.meaning.proofs.meaning.Terms.{run-ext, term-depth}
 
@@ -131,7 +132,8 @@ module _ (F : ℕ) (ws : List ℕ) (top : ℕ) (p : 0 < F) (s : Sound F ws top) 
 
 -- ---- meaning
 
-module _ (F : ℕ) (k k′ : ℕ → Cell) (top : ℕ) (g : SoundCells F k top) (same : (c : ℕ) → F ≤ c → c < top → k′ c ≡ k c) where
+module _ (F : ℕ) (k k′ : ℕ → Cell) (top : ℕ) (g : SoundCells F k top)
+    (same : (c : ℕ) → F ≤ c → c < top → k′ c ≡ k c) where
   termOf-same : (n lim : ℕ) (b : Cell) → lim ≤ top → TermIn F lim b
       → ((c : ℕ) → F ≤ c → c < top → term k n c ≡ term k′ n c) → termOf (term k n) b ≡ termOf (term k′ n) b
   termOf-same n lim (code a) l t r = refl
@@ -154,7 +156,7 @@ module _ (F : ℕ) (k k′ : ℕ → Cell) (top : ℕ) (g : SoundCells F k top) 
 
 -- the equation of terms, without depth
 module _ (F : ℕ) (ws : List ℕ) (top : ℕ) (p : 0 < F) (s : Sound F ws top) where
-  pub term-law : (c : ℕ) → F ≤ c → c < top → term (at ws) (length ws) c ≡ termOf (term (at ws) (length ws)) (at ws c)
+  pub term-law : (c : ℕ) → F ≤ c → c < top → termAt ws c ≡ termOf (termAt ws) (at ws c)
   term-law c f l = term-depth F (at ws) top (good F ws top p s) (length ws) (suc (length ws)) c f l
       (omega (arith, s .high)) (omega (arith, s .high))
 
@@ -163,7 +165,7 @@ module _ (F : ℕ) (ws : List ℕ) (top : ℕ) (p : 0 < F) (s : Sound F ws top) 
     heap-same : (c : ℕ) → F ≤ c → c < top → at (put ws d b) c ≡ at ws c
     heap-same c f h = at-put-other ws d b c (omega arith)
 
-    pub meaning-set : meaning (put ws d b) d ≡ inside (term (at ws) (length ws)) b
+    pub meaning-set : meaning (put ws d b) d ≡ inside (termAt ws) b
     unfolding meaning
     meaning-set =
         rw (length-put ws d b, at-put ws d b F top p (omega (arith, s .allowed .large)) (term-of-bracket F top b t))

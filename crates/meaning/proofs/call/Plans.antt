@@ -108,7 +108,7 @@ module _ (F : ℕ) (n : ℕ) (ws : List ℕ) (top : ℕ) (p : 0 < F) (s : Sound 
       go false = refl
 
   pub room-fits : lacks F n ws top ≡ false → 2 * (roomTop F n ws top + n) ≤ length (roomWords F n ws top)
-  unfolding lacks roomTop collectedTop
+  unfolding lacks roomTop
   room-fits l = rw room-length (go (ltb (length ws / 2) (top + n)) refl)
     where
       k : F + live F ws top + n ≤ length ws / 2
@@ -133,7 +133,7 @@ module _ (F : ℕ) (n : ℕ) (v : List ℕ) (top : ℕ) (p : 0 < F) (s : Sound F
   pub once-collected : ltb (capacity v) (top + n) ≡ true
       → withRoom F n v act ws top ≡ cond (ltb (capacity v) (collectedTop F v top + n))
       (refused (collected F ws top) (collectedTop F ws top) (only 16)) (act (collected F v top) (collectedTop F v top))
-  unfolding withRoom lacks roomWords roomTop collectedTop
+  unfolding withRoom lacks roomWords roomTop
   once-collected e = rw e refl
 
 -- ---- what a plan's action has to do, for the plan to meet the effect x

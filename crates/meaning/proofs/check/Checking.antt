@@ -8,7 +8,7 @@ use Prim.Native.Nat.{ℕ, zero, suc, _+_, _-_, _*_, _%_, _≤_, _<_}
 use native.Mathlib.Nat.{le-refl, eq-or-lt-of-le}
 use native.Mathlib.Omega.{arith}
 use lib.Dec.{ltb, leb, eqb}
-use lib.ListN.{length, getD}
+use lib.ListN.{length}
 use borrow.Author.Tests.{leb-true, le-leb, ltb-true, ltb-false, lt-ltb, le-ltb, eqb-true, eq-eqb, ne-eqb}
 use Rattle.words.specs.Cell.{firstWord, secondWord}
 use Rattle.words.specs.Second.{bracketTo}
@@ -194,7 +194,13 @@ module _ (F : ℕ) (ws : List ℕ) (top : ℕ) where
   unfolding check verdictAt
   sound-check s =
       let d = damaged-none 0 (capacity ws) (λ x l m. sound-test s x (omega arith)) in
-      rw (yes-length F (length ws) (s .allowed), yes-top F (capacity ws) top (s .low) (s .high), d, le-ltb (0 + capacity ws) (capacity ws) (omega arith)) refl
+      rw (
+        yes-length F (length ws) (s .allowed),
+        yes-top F (capacity ws) top (s .low) (s .high),
+        d,
+        le-ltb
+            (0 + capacity ws) (capacity ws) (omega arith),
+      ) refl
 
   -- the three answers of a store that is not sound, and the one of a sound store
   pub data Checks : Verdict → Type 0 where

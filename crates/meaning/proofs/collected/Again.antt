@@ -11,7 +11,7 @@ use lib.ListN.{length, getD, replicate}
 use borrow.Author.Tests.{lt-ltb, le-ltb}
 use Rattle.meaning.specs.Sound.{Cell, code, empty, ends, fst, snd, at, Sound}
 use Rattle.meaning.specs.Reach.{Between, Reached, byRegister, byBracket, reached, live}
-use Rattle.meaning.specs.Collected.{below, countIf, mapEnds, lay, upFrom, newAddress, collectedOf, collected}
+use Rattle.meaning.specs.Collected.{below, countIf, mapEnds, lay, upFrom, newAddress, collectedOf, collected, new}
 use Rattle.meaning.specs.Collected.{collectedTop}
 use Rattle.meaning.proofs.Lists.{lt-or-ge, In, Asc, asc-in, in-getD, below-getD, below-mono, below-low}
 use Rattle.meaning.proofs.sound.Cells.{TermIn, term-of-bracket, good}
@@ -77,26 +77,24 @@ module _ (F : ℕ) (ws : List ℕ) (top : ℕ) (p : 0 < F) (s : Sound F ws top) 
   abbrev ws′ : List ℕ
   ws′ = collected F ws top
 
-  abbrev new : ℕ → ℕ
-  new = newAddress F (reached F ws top)
-
-  moved-between : (b : Cell) (c : ℕ) → Between b c → Between (mapEnds new b) (new c)
+  moved-between : (b : Cell) (c : ℕ) → Between b c → Between (mapEnds (new F ws top) b) (new F ws top c)
   unfolding newAddress
   moved-between (code a) c q = q
   moved-between empty c q = q
   moved-between (ends l r) c q = (omega (arith, below-mono rs l c (q .0)), omega (arith, below-mono rs c r (q .1)))
 
   pub reached-kept : {c : ℕ} → Reached F (at ws) c
-      → Reached F (at (collected F ws top)) (newAddress F (reached F ws top) c)
+      → Reached F (at (collected F ws top)) (new F ws top c)
   reached-kept {c} (byRegister i h q) =
-      byRegister {c = new c} i h (rw (at-register F ws top p s i h) (moved-between (at ws i) c q))
+      byRegister {c = new F ws top c} i h (rw (at-register F ws top p s i h) (moved-between (at ws i) c q))
   reached-kept {c} (byBracket b r q) =
-      byBracket {c = new c} (new b) (reached-kept r) (rw (at-new F ws top p s b (listed-iff F ws top p s b .1 r))
+      byBracket {c = new F ws top c} (new F ws top b) (reached-kept r)
+      (rw (at-new F ws top p s b (listed-iff F ws top p s b .1 r))
       (moved-between (at ws b) c q))
 
   -- every occupied heap cell of the result is reached
   pub all-reached : (a : ℕ) → F ≤ a → a < collectedTop F ws top → Reached F (at (collected F ws top)) a
-  unfolding collectedTop live newAddress
+  unfolding live newAddress
   all-reached a l h =
       let q : a - F < length rs = omega arith in
       let i = in-getD rs (a - F) q in
@@ -106,7 +104,6 @@ module _ (F : ℕ) (ws : List ℕ) (top : ℕ) (p : 0 < F) (s : Sound F ws top) 
       (reached-kept (listed-iff F ws top p s (getD rs (a - F) 0) .0 i))
 
   pub reached-again : reached F (collected F ws top) (collectedTop F ws top) ≡ upFrom F (live F ws top)
-  unfolding collectedTop
   reached-again =
       let s′ = collected-sound F ws top p s in
       full F (live F ws top) (reached F ws′ (collectedTop F ws top)) (reached-asc F ws′ (collectedTop F ws top) p s′)
@@ -118,7 +115,6 @@ module _ (F : ℕ) (ws : List ℕ) (top : ℕ) (p : 0 < F) (s : Sound F ws top) 
   live-kept = ap (λ (xs : List ℕ). length xs) reached-again ∙ upFrom-length F (length rs)
 
   pub top-kept : collectedTop F (collected F ws top) (collectedTop F ws top) ≡ collectedTop F ws top
-  unfolding collectedTop
   top-kept = ap (λ (n : ℕ). F + n) live-kept
 
   -- ---- collecting again
@@ -130,8 +126,7 @@ module _ (F : ℕ) (ws : List ℕ) (top : ℕ) (p : 0 < F) (s : Sound F ws top) 
   again c = mapEnds (newAddress F (upFrom F (live F ws top))) (at ws′ c)
 
   again-low : (j : ℕ) → j < F
-      → again (getD (upFrom 0 F ++ upFrom F n) j 0) ≡ mapEnds new (at ws (getD (upFrom 0 F ++ rs) j 0))
-  unfolding collectedTop
+      → again (getD (upFrom 0 F ++ upFrom F n) j 0) ≡ mapEnds (new F ws top) (at ws (getD (upFrom 0 F ++ rs) j 0))
   again-low j h =
       let s′ = collected-sound F ws top p s in
       rw (kept-low F (upFrom F n) j h, kept-low F rs j h)
@@ -140,8 +135,8 @@ module _ (F : ℕ) (ws : List ℕ) (top : ℕ) (p : 0 < F) (s : Sound F ws top) 
       ∙ at-register F ws top p s j h)
 
   again-high : (i : ℕ) → i < n
-      → again (getD (upFrom 0 F ++ upFrom F n) (F + i) 0) ≡ mapEnds new (at ws (getD (upFrom 0 F ++ rs) (F + i) 0))
-  unfolding collectedTop
+      → again (getD (upFrom 0 F ++ upFrom F n) (F + i) 0)
+      ≡ mapEnds (new F ws top) (at ws (getD (upFrom 0 F ++ rs) (F + i) 0))
   again-high i h =
       let s′ = collected-sound F ws top p s in
       rw (kept-high F (upFrom F n) i, kept-high F rs i, upFrom-getD F n i h)
@@ -150,14 +145,14 @@ module _ (F : ℕ) (ws : List ℕ) (top : ℕ) (p : 0 < F) (s : Sound F ws top) 
       ∙ at-kth F ws top p s i h)
 
   again-cell : (j : ℕ) → j < F + n
-      → again (getD (upFrom 0 F ++ upFrom F n) j 0) ≡ mapEnds new (at ws (getD (upFrom 0 F ++ rs) j 0))
+      → again (getD (upFrom 0 F ++ upFrom F n) j 0) ≡ mapEnds (new F ws top) (at ws (getD (upFrom 0 F ++ rs) j 0))
   again-cell j h = go (lt-or-ge j F)
     where
       go : (j < F) ⊎ (F ≤ j)
-          → again (getD (upFrom 0 F ++ upFrom F n) j 0) ≡ mapEnds new (at ws (getD (upFrom 0 F ++ rs) j 0))
+          → again (getD (upFrom 0 F ++ upFrom F n) j 0) ≡ mapEnds (new F ws top) (at ws (getD (upFrom 0 F ++ rs) j 0))
       go (inl l) = again-low j l
       go (inr l) =
-          subst (λ (x : ℕ). again (getD (upFrom 0 F ++ upFrom F n) x 0) ≡ mapEnds new
+          subst (λ (x : ℕ). again (getD (upFrom 0 F ++ upFrom F n) x 0) ≡ mapEnds (new F ws top)
           (at ws (getD (upFrom 0 F ++ rs) x 0))) {x = F + (j - F)} (omega arith)
           (again-high (j - F) (omega arith))
 
@@ -167,6 +162,6 @@ module _ (F : ℕ) (ws : List ℕ) (top : ℕ) (p : 0 < F) (s : Sound F ws top) 
   collected-again =
       rw (reached-again, upFrom-length F (length rs), length-collected F ws top p s)
       (ap (λ (x : List ℕ). x ++ replicate (length ws - 2 * (F + length rs)) 0)
-      (lay-ext again (λ c. mapEnds new (at ws c)) (upFrom 0 F ++ upFrom F n) (upFrom 0 F ++ rs)
+      (lay-ext again (λ c. mapEnds (new F ws top) (at ws c)) (upFrom 0 F ++ upFrom F n) (upFrom 0 F ++ rs)
       (kept-length F (upFrom F n) ∙ (ap (λ (x : ℕ). F + x) (upFrom-length F n) ∙ sym (kept-length F rs)))
       (λ j l. again-cell j (omega (arith, kept-length F (upFrom F n), upFrom-length F n)))))

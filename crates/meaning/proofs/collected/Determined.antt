@@ -13,15 +13,16 @@ use lib.Seq.{ext-getD}
 use borrow.Author.Tests.{ltb-true, ltb-false, lt-ltb, le-ltb}
 use Rattle.meaning.specs.Expr.{Expr}
 use Rattle.meaning.specs.Sound.{Cell, fst, snd, at, Sound, code, empty, ends}
-use Rattle.meaning.specs.Meaning.{termOf, term}
+use Rattle.meaning.specs.Meaning.{termOf, termAt}
 use Rattle.meaning.specs.Reach.{Reached, reached, live}
-use Rattle.meaning.specs.Collected.{below, countIf, mapEnds, newAddress, collected, collectedTop}
+use Rattle.meaning.specs.Collected.{below, countIf, mapEnds, newAddress, collected, collectedTop, new}
 use Rattle.meaning.proofs.Lists.{lt-or-ge, In, Asc, in-getD, below-getD, below-low, below-suc, below-mono}
 use Rattle.meaning.proofs.Lists.{below-le}
 use Rattle.meaning.proofs.sound.Cells.{good, TermIn}
 use Rattle.meaning.proofs.meaning.Terms.{run-ext}
 use Rattle.meaning.proofs.reach.Reaching.{listed-iff, reached-asc, reached-below}
-use Rattle.meaning.proofs.collected.Collecting.{reg-one, reg-two, heap-one, heap-two, length-collected, free-after}
+use Rattle.meaning.proofs.collected.Collecting.{reg-one, reg-two, heap-one, heap-two, length-collected}
+use Rattle.meaning.proofs.collected.Collecting.{free-after}
 use Rattle.meaning.proofs.actions.Writing.{term-law}
 
 even-or-odd : (i : ℕ) → (i ≡ 2 * (i / 2)) ⊎ (i ≡ 2 * (i / 2) + 1)
@@ -50,37 +51,34 @@ below-all lo c (x ∷ xs) a h =
     rw (lt-ltb x c (h x (inl refl))) (ap suc (below-all (suc x) c xs (a .1) (λ y i. h y (inr i))))
 
 module _ (F : ℕ) (ws : List ℕ) (top : ℕ) (p : 0 < F) (s : Sound F ws top) where
-  abbrev new : ℕ → ℕ
-  new = newAddress F (reached F ws top)
-
   -- the new address, by a pass upward: F at first, one more after each reached cell, `top` at the end
-  pub new-first : newAddress F (reached F ws top) F ≡ F
+  pub new-first : new F ws top F ≡ F
   unfolding newAddress
   new-first = omega (arith, below-low F F (reached F ws top) (reached-asc F ws top p s) (le-refl F))
 
   pub new-after : (c : ℕ) → Reached F (at ws) c
-      → newAddress F (reached F ws top) (suc c) ≡ suc (newAddress F (reached F ws top) c)
+      → new F ws top (suc c) ≡ suc (new F ws top c)
   unfolding newAddress
   new-after c r =
       omega (arith, below-suc F c (reached F ws top) (reached-asc F ws top p s) (listed-iff F ws top p s c .1 r))
 
   pub new-skip : (c : ℕ) → (Reached F (at ws) c → ⊥)
-      → newAddress F (reached F ws top) (suc c) ≡ newAddress F (reached F ws top) c
+      → new F ws top (suc c) ≡ new F ws top c
   unfolding newAddress
   new-skip c n = omega (arith, below-out c (reached F ws top) (λ i. n (listed-iff F ws top p s c .0 i)))
 
-  pub new-last : newAddress F (reached F ws top) top ≡ collectedTop F ws top
-  unfolding newAddress collectedTop live
+  pub new-last : new F ws top top ≡ collectedTop F ws top
+  unfolding newAddress live
   new-last = omega (arith, below-all F top (reached F ws top) (reached-asc F ws top p s) (reached-below F ws top p s))
 
   -- no cell moves up
-  pub new-le : (c : ℕ) → F ≤ c → newAddress F (reached F ws top) c ≤ c
+  pub new-le : (c : ℕ) → F ≤ c → new F ws top c ≤ c
   unfolding newAddress
   new-le c f = below-le F c (reached F ws top) (reached-asc F ws top p s) f
 
   -- reached cells keep their order, so that no two of them meet
   pub new-order : (c d : ℕ) → Reached F (at ws) c → c < d
-      → newAddress F (reached F ws top) c < newAddress F (reached F ws top) d
+      → new F ws top c < new F ws top d
   unfolding newAddress
   new-order c d r h =
       omega (
@@ -91,7 +89,7 @@ module _ (F : ℕ) (ws : List ℕ) (top : ℕ) (p : 0 < F) (s : Sound F ws top) 
 
   -- Sharing is kept: two references meet in one cell after collecting exactly where they met before.
   pub new-meet : (c d : ℕ) → Reached F (at ws) c → Reached F (at ws) d
-      → newAddress F (reached F ws top) c ≡ newAddress F (reached F ws top) d → c ≡ d
+      → new F ws top c ≡ new F ws top d → c ≡ d
   new-meet c d r q e = go (lt-or-ge c d) (lt-or-ge d c)
     where
       go : (c < d) ⊎ (d ≤ c) → (d < c) ⊎ (c ≤ d) → c ≡ d
@@ -103,17 +101,17 @@ module _ (F : ℕ) (ws : List ℕ) (top : ℕ) (p : 0 < F) (s : Sound F ws top) 
 
   module _ (v : List ℕ) (len : length v ≡ length ws)
       (register : (i : ℕ) → i < F
-      → (getD v (2 * i) 0 ≡ fst (mapEnds (newAddress F (reached F ws top)) (at ws i))) ×
-      (getD v (2 * i + 1) 0 ≡ snd (mapEnds (newAddress F (reached F ws top)) (at ws i))))
+      → (getD v (2 * i) 0 ≡ fst (mapEnds (new F ws top) (at ws i))) ×
+      (getD v (2 * i + 1) 0 ≡ snd (mapEnds (new F ws top) (at ws i))))
       (heap : (c : ℕ) → Reached F (at ws) c
-      → (getD v (2 * newAddress F (reached F ws top) c) 0 ≡ fst (mapEnds (newAddress F (reached F ws top)) (at ws c)))
-      × (getD v (2 * newAddress F (reached F ws top) c + 1) 0 ≡ snd
-      (mapEnds (newAddress F (reached F ws top)) (at ws c))))
+      → (getD v (2 * new F ws top c) 0 ≡ fst (mapEnds (new F ws top) (at ws c)))
+      × (getD v (2 * new F ws top c + 1) 0 ≡ snd
+      (mapEnds (new F ws top) (at ws c))))
       (free : (i : ℕ) → 2 * collectedTop F ws top ≤ i → i < length ws → getD v i 0 ≡ 0) where
     cell-words : (c : ℕ) → c < collectedTop F ws top
         → (getD v (2 * c) 0 ≡ getD (collected F ws top) (2 * c) 0) ×
         (getD v (2 * c + 1) 0 ≡ getD (collected F ws top) (2 * c + 1) 0)
-    unfolding newAddress collectedTop live
+    unfolding newAddress live
     cell-words c h = go (lt-or-ge c F)
       where
         go : (c < F) ⊎ (F ≤ c)
@@ -140,7 +138,7 @@ module _ (F : ℕ) (ws : List ℕ) (top : ℕ) (p : 0 < F) (s : Sound F ws top) 
         go : (i : ℕ) → i < length v → (i < 2 * collectedTop F ws top) ⊎ (2 * collectedTop F ws top ≤ i)
             → (i ≡ 2 * (i / 2)) ⊎ (i ≡ 2 * (i / 2) + 1) → getD v i 0 ≡ getD (collected F ws top) i 0
         go i h (inr l) m = free i l (omega arith) ∙ sym
-            (free-after F ws top p s i (unfold collectedTop live in l) (omega (arith, length-collected F ws top p s)))
+            (free-after F ws top p s i (unfold live in l) (omega (arith, length-collected F ws top p s)))
         go i h (inl l) (inl e) = subst (λ (x : ℕ). getD v x 0 ≡ getD (collected F ws top) x 0) (sym e)
             (cell-words (i / 2) (omega arith) .0)
         go i h (inl l) (inr e) = subst (λ (x : ℕ). getD v x 0 ≡ getD (collected F ws top) x 0) (sym e)
@@ -149,15 +147,15 @@ module _ (F : ℕ) (ws : List ℕ) (top : ℕ) (p : 0 < F) (s : Sound F ws top) 
   -- ---- the meaning of cells is the one solution of its equation
 
   term-unique-of : (u : ℕ → Expr) (b : Cell) (c : ℕ) → TermIn F c b
-      → ((x : ℕ) → F ≤ x → x < c → u x ≡ term (at ws) (length ws) x) → termOf u b ≡ termOf (term (at ws) (length ws)) b
+      → ((x : ℕ) → F ≤ x → x < c → u x ≡ termAt ws x) → termOf u b ≡ termOf (termAt ws) b
   term-unique-of u (code a) c t h = refl
   term-unique-of u empty c t h = refl
   term-unique-of u (ends l r) c t h =
-      ap (λ (z : Expr). Expr.parens z Expr.nothing) (run-ext u (term (at ws) (length ws)) l l (suc r - l)
+      ap (λ (z : Expr). Expr.parens z Expr.nothing) (run-ext u (termAt ws) l l (suc r - l)
       (λ j k. h (l + j) (omega (arith, t .0)) (omega (arith, t .1, t .2))))
 
   pub term-unique : (u : ℕ → Expr) → ((c : ℕ) → F ≤ c → c < top → u c ≡ termOf u (at ws c)) → (n c : ℕ) → c < n
-      → F ≤ c → c < top → u c ≡ term (at ws) (length ws) c
+      → F ≤ c → c < top → u c ≡ termAt ws c
   term-unique u h zero c k f l = absurd (not-suc-le-zero k)
   term-unique u h (suc n) c k f l =
       h c f l

@@ -8,7 +8,7 @@ use native.Mathlib.Omega.{arith}
 use lib.ListN.{length}
 use Rattle.meaning.specs.Expr.{Expr, nothing, symbol, parens, append, terms}
 use Rattle.meaning.specs.Sound.{IsCode, Cell, code, empty, ends, at, Sound, size}
-use Rattle.meaning.specs.Meaning.{run, inside, termOf, term, meaning}
+use Rattle.meaning.specs.Meaning.{run, inside, termOf, term, meaning, termAt}
 use Rattle.meaning.specs.Operands.{SYMBOL, WRAP, JOIN}
 use Rattle.meaning.specs.Actions.{put, copies, newSymbol, newBracket, newRunOf, newRun, share}
 use Rattle.meaning.specs.Call.{joinNeed}
@@ -80,25 +80,25 @@ module _ (F : ℕ) (p : 0 < F) (e : ℕ → Expr) (fs : Facts) (ws : List ℕ) (
 
     -- a copy of an old cell means what the old cell means
     old-copy : (y c : ℕ) → F ≤ y → y < top + (n + k) → F ≤ c → c < top → at v y ≡ at ws c
-        → T y ≡ term (at ws) (length ws) c
+        → T y ≡ termAt ws c
     old-copy y c f h g z u =
         twin F v (top + (n + k)) p (laid .more .sound) y c f h g (omega arith) (u ∙ sym (laid .more .old c z))
         ∙ sym (extends-term F ws top p s v (top + (n + k)) (laid .more) c g z)
 
-    left-run : run T top n ≡ run (term (at ws) (length ws)) l n
+    left-run : run T top n ≡ run (termAt ws) l n
     left-run =
-        run-ext T (term (at ws) (length ws)) top l n
+        run-ext T (termAt ws) top l n
         (λ j h. old-copy (top + j) (l + j) (omega (arith, s .low)) (omega arith) (omega (arith, t .0))
         (omega (arith, t .1, t .2)) (laid .one j h))
 
-    right-run : run T (top + n) k ≡ run (term (at ws) (length ws)) l′ k
+    right-run : run T (top + n) k ≡ run (termAt ws) l′ k
     right-run =
-        run-ext T (term (at ws) (length ws)) (top + n) l′ k
+        run-ext T (termAt ws) (top + n) l′ k
         (λ j h. rw (add-assoc top n j) (old-copy (top + (n + j)) (l′ + j) (omega (arith, s .low)) (omega arith)
         (omega (arith, t′ .0)) (omega (arith, t′ .1, t′ .2)) (laid .two j h)))
 
-    joined : inside T (ends top (top + (n + k) - 1)) ≡ append (inside (term (at ws) (length ws)) (ends l r))
-        (inside (term (at ws) (length ws)) (ends l′ r′))
+    joined : inside T (ends top (top + (n + k) - 1)) ≡ append (inside (termAt ws) (ends l r))
+        (inside (termAt ws) (ends l′ r′))
     joined =
         let c : suc (top + (n + k) - 1) - top ≡ n + k = omega (arith, t .1) in
         rw (c, run-split T top n k, left-run, right-run) refl

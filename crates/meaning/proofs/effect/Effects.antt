@@ -12,7 +12,7 @@ use lib.ListN.{length}
 use borrow.Author.Tests.{eqb-true, eqb-false}
 use Rattle.meaning.specs.Expr.{Expr}
 use Rattle.meaning.specs.Sound.{Cell, at, Sound}
-use Rattle.meaning.specs.Meaning.{inside, term, meaning}
+use Rattle.meaning.specs.Meaning.{inside, term, meaning, termAt}
 use Rattle.meaning.specs.Verdicts.{Done, done, refused, only}
 use Rattle.meaning.specs.Actions.{put}
 use Rattle.meaning.specs.Effect.{Effect, becomes, sets, tells, after, answer}
@@ -54,7 +54,7 @@ becomes-same e e′ d x i q = go (eqb i d) refl
 
 -- register d is set to the bracket k, which holds x
 module _ (F : ℕ) (ws : List ℕ) (top : ℕ) (p : 0 < F) (s : Sound F ws top) where
-  become : (d : ℕ) → d < F → (k : Cell) → BracketIn F top k → (x : Expr) → inside (term (at ws) (length ws)) k ≡ x
+  become : (d : ℕ) → d < F → (k : Cell) → BracketIn F top k → (x : Expr) → inside (termAt ws) k ≡ x
       → (i : ℕ) → i < F → meaning (put ws d k) i ≡ becomes (meaning ws) d x i
   unfolding becomes
   become d l k t x q i h = go (eqb i d) refl
@@ -63,7 +63,7 @@ module _ (F : ℕ) (ws : List ℕ) (top : ℕ) (p : 0 < F) (s : Sound F ws top) 
       go true v = let w : i ≡ d = eqb-true i d v in rw w (meaning-set F ws top p s d l k t ∙ q)
       go false v = meaning-other F ws top p s d l k t i h (eqb-false i d v)
 
-  pub meaning-at : (a : ℕ) → meaning ws a ≡ inside (term (at ws) (length ws)) (at ws a)
+  pub meaning-at : (a : ℕ) → meaning ws a ≡ inside (termAt ws) (at ws a)
   unfolding meaning
   meaning-at a = refl
 
@@ -86,7 +86,7 @@ module _ (F : ℕ) (p : 0 < F) (e : ℕ → Expr) (ws : List ℕ) (top : ℕ) (s
 
   -- and with no new cell
   pub set-acts : (u j d : ℕ) → u ≡ 0 → Others F ws e d → d < F → (k : Cell) → BracketIn F top k → (x : Expr)
-      → inside (term (at ws) (length ws)) k ≡ x → Acts F e (sets u e d x j) 0 ws top (done (put ws d k) top 0)
+      → inside (termAt ws) k ≡ x → Acts F e (sets u e d x j) 0 ws top (done (put ws d k) top 0)
   set-acts u j d y m l k t x q =
       new-acts u j d y m l ws top (extends-self F ws top p s) k t x q 0 (sym (add-zero top))
 

@@ -7,12 +7,11 @@ use Prim.Native.Nat.{ℕ, zero, suc, _+_, _-_, _≤_, _<_}
 use native.Mathlib.Nat.{le-refl, le-trans, suc-sub-suc}
 use native.Mathlib.Omega.{arith}
 use lib.Dec.{ltb}
-use lib.ListN.{length}
 use borrow.Author.Tests.{ltb-true, ltb-false}
 use Rattle.meaning.specs.Expr.{Expr, nothing, symbol, parens, append, terms, firstTerm, lessFirst, opened}
 use Rattle.meaning.specs.Expr.{firstCode}
 use Rattle.meaning.specs.Sound.{Cell, code, empty, ends, at, Sound, size}
-use Rattle.meaning.specs.Meaning.{run, inside, termOf, term, meaning}
+use Rattle.meaning.specs.Meaning.{run, inside, termOf, meaning, termAt}
 use Rattle.meaning.specs.Verdicts.{done, refused, only}
 use Rattle.meaning.specs.Operands.{Op, CLEAR, COPY, SYMBOL, WRAP, JOIN, HEAD, REST, OPEN, LENGTH, FIRST, LIVE}
 use Rattle.meaning.specs.Operands.{COLLECT}
@@ -59,7 +58,7 @@ wrapped t F lim (ends l r) h = refl
 
 module _ (F : ℕ) (ws : List ℕ) (top : ℕ) (p : 0 < F) (s : Sound F ws top) where
   abbrev T : ℕ → Expr
-  T = term (at ws) (length ws)
+  T = termAt ws
 
   front : (l r : ℕ) → F ≤ l → l ≤ r → r < top
       → run T l (suc r - l) ≡ append (termOf T (at ws l)) (run T (suc l) (r - l))

@@ -24,10 +24,13 @@ use Rattle.meaning.proofs.collected.Collecting.{collected-sound, meanin
 use Rattle.meaning.proofs.reach.Reaching.{live-le}
 use Rattle.meaning.proofs.collected.Again.{live-kept}
 use Rattle.meaning.proofs.effect.Effects.{Denote, Others, meaning-at}
-use Rattle.meaning.proofs.effect.Stepping.{clear-acts, copy-acts, head-at, rest-at, open-at, code-at, length-acts}
+use Rattle.meaning.proofs.effect.Stepping.{clear-acts, copy-acts, head-at, rest-at, open-at, code-at}
+use Rattle.meaning.proofs.effect.Stepping.{length-acts}
 use Rattle.meaning.proofs.effect.Stepping.{live-acts, collect-acts, size-terms, unfit-small}
-use Rattle.meaning.proofs.effect.Building.{symbol-acts, wrap-acts, join-left-acts, join-right-acts, join-both-acts}
-use Rattle.meaning.proofs.operands.Uses.{keeps-a, keeps-b, unkept-register, WordsRight, right, is-register, is-code}
+use Rattle.meaning.proofs.effect.Building.{symbol-acts, wrap-acts, join-left-acts, join-right-acts}
+use Rattle.meaning.proofs.effect.Building.{join-both-acts}
+use Rattle.meaning.proofs.operands.Uses.{keeps-a, keeps-b, unkept-register, WordsRight, right, is-register}
+use Rattle.meaning.proofs.operands.Uses.{is-code}
 use Rattle.meaning.proofs.operands.Uses.{fault-small}
 use Rattle.meaning.proofs.call.Plans.{sought-sound, sought-length, sought-meaning, planLacks, planTop, topAfter}
 use Rattle.meaning.proofs.call.Plans.{WordsAfter, PlanMeets, PlanDoes, carry-meets}

@@ -1,18 +1,15 @@
 -- The words of a fresh store: registers emptied one after the other, then zeros.
 -- Assumes nothing.
 use mathlib.Core.Path.{_≡_, refl, sym, ap, _∙_}
-use mathlib.Core.Bool.{Bool, true, false, cond, false≢true}
+use mathlib.Core.Bool.{true, false}
 use mathlib.Core.List.{List, [], _∷_, _++_, append-assoc}
-use Prim.Native.Nat.{ℕ, zero, suc, _+_, _-_, _*_, _%_, _≤_, _<_}
+use Prim.Native.Nat.{ℕ, zero, suc, _+_, _-_, _*_, _<_}
 use native.Mathlib.Numerals.{add-one}
 use native.Mathlib.Omega.{arith}
-use lib.Dec.{ltb, leb, eqb}
 use lib.ListN.{length, set, take, replicate, length-set}
 use lib.Seq.{take-suc-set}
-use borrow.Author.Tests.{leb-true, ltb-false, eqb-true}
 use Rattle.words.specs.Cell.{putCell}
 use Rattle.words.specs.Second.{bracketTo}
-use Rattle.meaning.specs.Limits.{limit}
 use Rattle.meaning.specs.Sound.{capacity}
 use Rattle.meaning.specs.Verdicts.{done, refused, only}
 use Rattle.meaning.specs.Check.{lengthTest}
@@ -37,7 +34,8 @@ module _ (ws : List ℕ) (c : ℕ) (h : 2 * c + 1 < length ws) (e : take (2 * c)
       let both = take-suc-set (set ws (2 * c) 0) (2 * c + 1) (bracketTo 0) (omega (arith, length-set ws (2 * c) 0)) in
       ap (λ (m : ℕ). take m (putCell ws c 0 (bracketTo 0))) n
       ∙ (both ∙ ap (λ (l : List ℕ). l ++ (bracketTo 0 ∷ [])) one-word)
-      ∙ (append-assoc (emptyRegisters c) (0 ∷ []) (bracketTo 0 ∷ []) ∙ empties-more c ∙ ap emptyRegisters (sym (add-one c)))
+      ∙ (append-assoc (emptyRegisters c) (0 ∷ []) (bracketTo 0 ∷ []) ∙ empties-more c
+      ∙ ap emptyRegisters (sym (add-one c)))
 
 -- ---- the whole store
 

@@ -39,7 +39,8 @@ module _ (input : List ℕ) where
 
         module _ (d : length input ≤ programBytes) where
           past-length : program firstHeapCell input
-              ≡ cond (ltb 0 ((length input - 4) % 16)) (refusal 4 0) (output firstHeapCell cells (drop 1 (wordsOf input)))
+              ≡ cond (ltb 0 ((length input - 4) % 16)) (refusal 4 0)
+              (output firstHeapCell cells (drop 1 (wordsOf input)))
           unfolding program
           past-length =
               rw (

@@ -9,24 +9,20 @@
 -- Assumes nothing.
 use mathlib.Core.Path.{_≡_, refl, sym, ap, _∙_, subst}
 use mathlib.Core.Logic.{_⊎_, inl, inr}
-use mathlib.Core.Bool.{Bool, true, false, not, _&&_, false≢true}
+use mathlib.Core.Bool.{true, false, not, false≢true}
 use mathlib.Core.List.{List}
 use Prim.Native.Nat.{ℕ, _*_, _/_, _^_, _≤_, _<_}
 use native.Mathlib.Omega.{arith}
-use lib.Dec.{eqb}
 use lib.ListN.{length, List·getD-eq-default}
 use borrow.Author.Tests.{ne-eqb}
 use Rattle.words.specs.Cell.{firstWord, secondWord}
-use Rattle.words.specs.Second.{Second, decode, plain}
+use Rattle.words.specs.Second.{Second, decode, plain, full, fullWord}
 use Rattle.words.proofs.Plain.{decode-zero, decode-bracket}
 use Rattle.meaning.specs.Sound.{Cell, code, empty, ends, fst, snd, at, Sound}
 use Rattle.meaning.proofs.Lists.{lt-or-ge}
 use Rattle.meaning.proofs.sound.Cells.{limit-fits, code-fits, TermIn, term-of-bracket, good}
-use Rattle.meaning.proofs.sound.Cells.{read, Words, bracket-words, term-words, register-rule, heap-rule, free-rule}
-
--- a bracket with contents, whatever its mark and chains
-abbrev full : Second → Bool
-full f = f .br && not (eqb (f .ri) 0)
+use Rattle.meaning.proofs.sound.Cells.{read, Words, bracket-words, term-words, register-rule, heap-rule}
+use Rattle.meaning.proofs.sound.Cells.{free-rule}
 
 -- ---- a cell and its words
 
@@ -144,17 +140,17 @@ module _ (F : ℕ) (ws : List ℕ) (top : ℕ) (p : 0 < F) (s : Sound F ws top) 
 
     -- ---- by the test `words::is_full`
 
-    said-full : (k : Cell) → at ws c ≡ k → Said k → full (decode (secondWord ws c)) ≡ true
+    said-full : (k : Cell) → at ws c ≡ k → Said k → fullWord (secondWord ws c) ≡ true
         → at ws c ≡ ends (firstWord ws c) (decode (secondWord ws c) .ri)
-    said-full (code a) e h t = absurd (false≢true (sym (ap full (h .1)) ∙ t))
-    said-full empty e h t = absurd (false≢true (sym (ap full (h .1)) ∙ t))
+    said-full (code a) e h t = absurd (false≢true (sym (ap (λ (f : Second). full (f .br) (f .ri)) (h .1)) ∙ t))
+    said-full empty e h t = absurd (false≢true (sym (ap (λ (f : Second). full (f .br) (f .ri)) (h .1)) ∙ t))
     said-full (ends l r) e h t = e ∙ rw (h .0, h .1) refl
 
-    pub full-ends : full (decode (secondWord ws c)) ≡ true
+    pub full-ends : fullWord (secondWord ws c) ≡ true
         → at ws c ≡ ends (firstWord ws c) (decode (secondWord ws c) .ri)
     full-ends = said-full (at ws c) refl (cell-fields c)
 
-    pub ends-full : {l r : ℕ} → at ws c ≡ ends l r → full (decode (secondWord ws c)) ≡ true
+    pub ends-full : {l r : ℕ} → at ws c ≡ ends l r → fullWord (secondWord ws c) ≡ true
     ends-full {r = r} e =
         let h = cell-ends e in
-        ap full (h .1) ∙ ap not (ne-eqb r 0 (λ z. omega (arith, h .2)))
+        ap (λ (f : Second). full (f .br) (f .ri)) (h .1) ∙ ap not (ne-eqb r 0 (λ z. omega (arith, h .2)))

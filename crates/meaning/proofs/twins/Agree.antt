@@ -10,7 +10,7 @@ use lib.Dec.{ltb}
 use borrow.Author.Tests.{ltb-true, ltb-false, lt-ltb, le-ltb}
 use Rattle.meaning.specs.Sound.{Cell, code, empty, ends, at, Sound, size}
 use Rattle.meaning.specs.Reach.{reached, live}
-use Rattle.meaning.specs.Collected.{mapEnds, newAddress, collected, collectedTop}
+use Rattle.meaning.specs.Collected.{mapEnds, collected, collectedTop, new}
 use Rattle.meaning.specs.Verdicts.{Verdict, Done, done, refused, only}
 use Rattle.meaning.specs.Actions.{put, share, head, rest, openTerm, openFirst, codeTerm, codeFirst}
 use Rattle.meaning.proofs.Lists.{In}
@@ -34,9 +34,6 @@ module _ (F : ℕ) (ws : List ℕ) (top : ℕ) (p : 0 < F) (s : Sound F ws top) 
   abbrev top′ : ℕ
   top′ = collectedTop F ws top
 
-  abbrev new : ℕ → ℕ
-  new = newAddress F (reached F ws top)
-
   abbrev P : ℕ → Type 0
   P c = In c (reached F ws top)
 
@@ -54,28 +51,29 @@ module _ (F : ℕ) (ws : List ℕ) (top : ℕ) (p : 0 < F) (s : Sound F ws top) 
             (canon-collected F ws top p s);
       }
 
-  put-both : (d : ℕ) → d < F → (b b′ : Cell) → BracketIn F top b → BracketIn F top′ b′ → Along P new b
-      → b′ ≡ mapEnds new b → Agree F (done (put ws d b) top 0) (done (put ws′ d b′) top′ 0)
+  put-both : (d : ℕ) → d < F → (b b′ : Cell) → BracketIn F top b → BracketIn F top′ b′ → Along P (new F ws top) b
+      → b′ ≡ mapEnds (new F ws top) b → Agree F (done (put ws d b) top 0) (done (put ws′ d b′) top′ 0)
   put-both d l b b′ t t′ a e = record { verdict = refl; same = set-both F ws top p s d l b b′ t t′ a e }
 
   -- ---- the ends of a bracket, moved
 
-  last-moved : (l r : ℕ) → l ≤ r → Along P new (ends l r) → new r ≡ new l + (r - l)
+  last-moved : (l r : ℕ) → l ≤ r → Along P (new F ws top) (ends l r) → new F ws top r ≡ new F ws top l + (r - l)
   last-moved l r h a = let e : l + (r - l) ≡ r = omega arith in rw e at (a (r - l) (omega arith) .1)
 
-  pub size-moved : (lim : ℕ) (b : Cell) → TermIn F lim b → Along P new b → size (mapEnds new b) ≡ size b
+  pub size-moved : (lim : ℕ) (b : Cell) → TermIn F lim b → Along P (new F ws top) b
+      → size (mapEnds (new F ws top) b) ≡ size b
   size-moved lim (code c) t a = refl
   size-moved lim empty t a = refl
   size-moved lim (ends l r) t a = omega (arith, last-moved l r (t .1) a, t .1)
 
-  pub moved-in : (lim : ℕ) (l r : ℕ) → TermIn F lim (ends l r) → Along P new (ends l r)
-      → BracketIn F top′ (ends (new l) (new r))
+  pub moved-in : (lim : ℕ) (l r : ℕ) → TermIn F lim (ends l r) → Along P (new F ws top) (ends l r)
+      → BracketIn F top′ (ends (new F ws top l) (new F ws top r))
   moved-in lim l r t a =
       let z : l + (r - l) ≡ r = omega (arith, t .1) in
       let i : P r = rw z at (a (r - l) (omega (arith, t .1)) .0) in
       (new-low F ws top p s l, omega (arith, last-moved l r (t .1) a), new-high F ws top p s r i)
 
-  first-in : (l r : ℕ) → l ≤ r → Along P new (ends l r) → P l
+  first-in : (l r : ℕ) → l ≤ r → Along P (new F ws top) (ends l r) → P l
   first-in l r h a = let z : l + 0 ≡ l = omega arith in rw z at (a 0 (omega arith) .0)
 
   -- ---- calls without need
@@ -87,28 +85,30 @@ module _ (F : ℕ) (ws : List ℕ) (top : ℕ) (p : 0 < F) (s : Sound F ws top) 
       (put-both d l (at ws a) (at ws′ a) (good F ws top p s .regs a h) (good F ws′ top′ p s′ .regs a h)
       (along-register F ws top p s a h) (at-register F ws top p s a h))
 
-  head-agree : (d : ℕ) → d < F → (b : Cell) → BracketIn F top b → Along P new b
-      → Agree F (head ws top d b) (head ws′ top′ d (mapEnds new b))
+  head-agree : (d : ℕ) → d < F → (b : Cell) → BracketIn F top b → Along P (new F ws top) b
+      → Agree F (head ws top d b) (head ws′ top′ d (mapEnds (new F ws top) b))
   unfolding head
   head-agree d l (code c) t a = absurd t
   head-agree d l empty t a = refuse-both (only 14)
   head-agree d l (ends x y) t a =
-      put-both d l (ends x x) (ends (new x) (new x)) (t .0, le-refl x, omega (arith, t .1, t .2))
-      (new-low F ws top p s x, le-refl (new x), new-high F ws top p s x (first-in x y (t .1) a))
+      put-both d l (ends x x) (ends (new F ws top x) (new F ws top x)) (t .0, le-refl x, omega (arith, t .1, t .2))
+      (new-low F ws top p s x, le-refl (new F ws top x), new-high F ws top p s x (first-in x y (t .1) a))
       (λ j h. a j (omega (arith, t .1))) refl
 
-  rest-along : (x y : ℕ) → x < y → Along P new (ends x y) → Along P new (ends (suc x) y) × (new (suc x) ≡ suc (new x))
+  rest-along : (x y : ℕ) → x < y → Along P (new F ws top) (ends x y) → Along P (new F ws top) (ends (suc x) y)
+      × (new F ws top (suc x) ≡ suc (new F ws top x))
   rest-along x y l a =
       let z : x + 1 ≡ suc x = omega arith in
-      let one : new (suc x) ≡ new x + 1 = rw z at (a 1 (omega arith) .1) in (
+      let one : (new F ws top) (suc x) ≡ new F ws top x + 1 = rw z at (a 1 (omega arith) .1) in (
         λ j h. let u : x + suc j ≡ suc x + j = omega arith in
-            let q : P (suc x + j) × (new (suc x + j) ≡ new x + suc j) = rw u at (a (suc j) (omega arith)) in
+            let q : P (suc x + j) × (new F ws top (suc x + j) ≡ new F ws top x + suc j) =
+            rw u at (a (suc j) (omega arith)) in
             (q .0, q .1 ∙ omega (arith, one)),
         omega arith,
       )
 
-  rest-agree : (d : ℕ) → d < F → (b : Cell) → BracketIn F top b → Along P new b
-      → Agree F (rest ws top d b) (rest ws′ top′ d (mapEnds new b))
+  rest-agree : (d : ℕ) → d < F → (b : Cell) → BracketIn F top b → Along P (new F ws top) b
+      → Agree F (rest ws top d b) (rest ws′ top′ d (mapEnds (new F ws top) b))
   unfolding rest
   rest-agree d l (code c) t a = absurd t
   rest-agree d l empty t a = refuse-both (only 14)
@@ -116,32 +116,36 @@ module _ (F : ℕ) (ws : List ℕ) (top : ℕ) (p : 0 < F) (s : Sound F ws top) 
     where
       go : (u : Bool) → ltb x y ≡ u
           → Agree F (done (put ws d (cond u (ends (suc x) y) empty)) top 0)
-          (done (put ws′ d (cond (ltb (new x) (new y)) (ends (suc (new x)) (new y)) empty)) top′ 0)
+          (done (put ws′ d (cond (ltb (new F ws top x) (new F ws top y))
+          (ends (suc (new F ws top x)) (new F ws top y)) empty)) top′ 0)
       go true e =
           let m = ltb-true x y e in
           let q = rest-along x y m a in
           let n = last-moved x y (t .1) a in
           let g = moved-in top (suc x) y (omega (arith, t .0), m, t .2) (q .0) in
-          rw (lt-ltb (new x) (new y) (omega arith), ← (q .1))
-          (put-both d l (ends (suc x) y) (ends (new (suc x)) (new y)) (omega (arith, t .0), m, t .2) g (q .0) refl)
+          rw (lt-ltb (new F ws top x) (new F ws top y) (omega arith), ← (q .1))
+          (put-both d l (ends (suc x) y) (ends (new F ws top (suc x)) (new F ws top y))
+          (omega (arith, t .0), m, t .2) g (q .0) refl)
       go false e =
-          rw (le-ltb (new x) (new y) (omega (arith, last-moved x y (t .1) a, ltb-false x y e)))
+          rw (le-ltb (new F ws top x) (new F ws top y) (omega (arith, last-moved x y (t .1) a, ltb-false x y e)))
           (put-both d l empty empty tt tt tt refl)
 
-  open-agree : (d x : ℕ) → d < F → P x → F ≤ x → x < top → (b : Cell) → at ws x ≡ b → TermIn F x b → Along P new b
-      → at ws′ (new x) ≡ mapEnds new b
-      → Agree F (openTerm ws top d x b) (openTerm ws′ top′ d (new x) (mapEnds new b))
+  open-agree : (d x : ℕ) → d < F → P x → F ≤ x → x < top → (b : Cell) → at ws x ≡ b → TermIn F x b
+      → Along P (new F ws top) b
+      → at ws′ (new F ws top x) ≡ mapEnds (new F ws top) b
+      → Agree F (openTerm ws top d x b) (openTerm ws′ top′ d (new F ws top x) (mapEnds (new F ws top) b))
   unfolding openTerm
   open-agree d x l i f h (code c) e t a q = refuse-both (only 15)
   open-agree d x l i f h empty e t a q =
-      rw (copy-put F ws top d x p s h, copy-put F ws′ top′ d (new x) p s′ (new-high F ws top p s x i), e, q)
+      rw (copy-put F ws top d x p s h, copy-put F ws′ top′ d (new F ws top x) p s′ (new-high F ws top p s x i), e, q)
       (put-both d l empty empty tt tt tt refl)
   open-agree d x l i f h (ends y z) e t a q =
-      rw (copy-put F ws top d x p s h, copy-put F ws′ top′ d (new x) p s′ (new-high F ws top p s x i), e, q)
-      (put-both d l (ends y z) (ends (new y) (new z)) (t .0, t .1, omega (arith, t .2)) (moved-in x y z t a) a refl)
+      rw (copy-put F ws top d x p s h, copy-put F ws′ top′ d (new F ws top x) p s′ (new-high F ws top p s x i), e, q)
+      (put-both d l (ends y z) (ends (new F ws top y) (new F ws top z)) (t .0, t .1, omega (arith, t .2))
+      (moved-in x y z t a) a refl)
 
-  openFirst-agree : (d : ℕ) → d < F → (b : Cell) → BracketIn F top b → Along P new b
-      → Agree F (openFirst ws top d b) (openFirst ws′ top′ d (mapEnds new b))
+  openFirst-agree : (d : ℕ) → d < F → (b : Cell) → BracketIn F top b → Along P (new F ws top) b
+      → Agree F (openFirst ws top d b) (openFirst ws′ top′ d (mapEnds (new F ws top) b))
   unfolding openFirst
   openFirst-agree d l (code c) t a = absurd t
   openFirst-agree d l empty t a = refuse-both (only 14)
@@ -152,14 +156,14 @@ module _ (F : ℕ) (ws : List ℕ) (top : ℕ) (p : 0 < F) (s : Sound F ws top) 
       (open-agree d x l i (t .0) h (at ws x) refl (good F ws top p s .heap x (t .0) h) (along-heap F ws top p s x i)
       (at-new F ws top p s x i))
 
-  code-agree : (b : Cell) → Agree F (codeTerm ws top b) (codeTerm ws′ top′ (mapEnds new b))
+  code-agree : (b : Cell) → Agree F (codeTerm ws top b) (codeTerm ws′ top′ (mapEnds (new F ws top) b))
   unfolding codeTerm
   code-agree (code c) = done-both c c refl
   code-agree empty = refuse-both (only 15)
   code-agree (ends x y) = refuse-both (only 15)
 
-  codeFirst-agree : (b : Cell) → BracketIn F top b → Along P new b
-      → Agree F (codeFirst ws top b) (codeFirst ws′ top′ (mapEnds new b))
+  codeFirst-agree : (b : Cell) → BracketIn F top b → Along P (new F ws top) b
+      → Agree F (codeFirst ws top b) (codeFirst ws′ top′ (mapEnds (new F ws top) b))
   unfolding codeFirst
   codeFirst-agree (code c) t a = absurd t
   codeFirst-agree empty t a = refuse-both (only 14)
@@ -173,7 +177,8 @@ module _ (F : ℕ) (ws : List ℕ) (top : ℕ) (p : 0 < F) (s : Sound F ws top) 
   -- ---- by the cell of register a
 
   by-register : (a : ℕ) → a < F → (does : List ℕ → ℕ → Cell → Done)
-      → ((b : Cell) → BracketIn F top b → Along P new b → Agree F (does ws top b) (does ws′ top′ (mapEnds new b)))
+      → ((b : Cell) → BracketIn F top b → Along P (new F ws top) b
+      → Agree F (does ws top b) (does ws′ top′ (mapEnds (new F ws top) b)))
       → Agree F (does ws top (at ws a)) (does ws′ top′ (at ws′ a))
   by-register a h does q =
       rw (at-register F ws top p s a h) (q (at ws a) (good F ws top p s .regs a h) (along-register F ws top p s a h))

@@ -10,7 +10,7 @@ use native.Mathlib.Omega.{arith}
 use lib.ListN.{length}
 use Rattle.meaning.specs.Sound.{IsCode, Cell, code, empty, ends, at, Sound, size}
 use Rattle.meaning.specs.Reach.{reached}
-use Rattle.meaning.specs.Collected.{mapEnds, newAddress, collected, collectedTop}
+use Rattle.meaning.specs.Collected.{mapEnds, collected, collectedTop, new}
 use Rattle.meaning.specs.Verdicts.{done}
 use Rattle.meaning.specs.Actions.{put, copies, newSymbol, newBracket, newRunOf, newRun}
 use Rattle.meaning.proofs.Lists.{lt-or-ge, In, asc-in}
@@ -31,9 +31,6 @@ module _ (F : ℕ) (ws : List ℕ) (top : ℕ) (p : 0 < F) (s : Sound F ws top) 
   abbrev top′ : ℕ
   top′ = collectedTop F ws top
 
-  abbrev new : ℕ → ℕ
-  new = newAddress F (reached F ws top)
-
   abbrev P : ℕ → Type 0
   P c = In c (reached F ws top)
 
@@ -41,14 +38,14 @@ module _ (F : ℕ) (ws : List ℕ) (top : ℕ) (p : 0 < F) (s : Sound F ws top) 
   s′ = sound′ F ws top p s
 
   low′ : top′ ≤ top
-  unfolding collectedTop
   low′ = live-le F ws top p s
 
   room′ : (n : ℕ) → 2 * (top + n) ≤ length ws → 2 * (top′ + n) ≤ length ws′
   room′ n h = omega (arith, low′, length-collected F ws top p s)
 
   -- one new cell in both
-  one-agree : (d : ℕ) → d < F → (b b′ : Cell) → TermIn F top b → TermIn F top′ b′ → Along P new b → b′ ≡ mapEnds new b
+  one-agree : (d : ℕ) → d < F → (b b′ : Cell) → TermIn F top b → TermIn F top′ b′ → Along P (new F ws top) b
+      → b′ ≡ mapEnds (new F ws top) b
       → 2 * (top + 1) ≤ length ws
       → Agree F (done (put (put ws top b) d (ends top top)) (suc top) 0)
       (done (put (put ws′ top′ b′) d (ends top′ top′)) (suc top′) 0)
@@ -84,9 +81,10 @@ module _ (F : ℕ) (ws : List ℕ) (top : ℕ) (p : 0 < F) (s : Sound F ws top) 
 
   -- ---- JOIN
 
-  run-agree : (d : ℕ) → d < F → (x y : Cell) → BracketIn F top x → BracketIn F top y → Along P new x → Along P new y
+  run-agree : (d : ℕ) → d < F → (x y : Cell) → BracketIn F top x → BracketIn F top y → Along P (new F ws top) x
+      → Along P (new F ws top) y
       → 0 < size x → 0 < size y → 2 * (top + (size x + size y)) ≤ length ws
-      → Agree F (newRunOf d x y ws top) (newRunOf d (mapEnds new x) (mapEnds new y) ws′ top′)
+      → Agree F (newRunOf d x y ws top) (newRunOf d (mapEnds (new F ws top) x) (mapEnds (new F ws top) y) ws′ top′)
   unfolding newRunOf
   run-agree d l (code c) y t u a b z w r = absurd t
   run-agree d l empty y t u a b z w r = absurd (not-suc-le-zero z)
@@ -100,20 +98,23 @@ module _ (F : ℕ) (ws : List ℕ) (top : ℕ) (p : 0 < F) (s : Sound F ws top) 
       let u′ = moved-in F ws top p s top y₁ y₂ u b in
       let e = size-moved F ws top p s top (ends x₁ x₂) t a in
       let f = size-moved F ws top p s top (ends y₁ y₂) u b in
-      let m′ = both F ws′ top′ (new x₁) n (new y₁) k p s′ (t′ .0) (omega (arith, t′ .1, t′ .2, e)) (u′ .0)
+      let m′ =
+      both F ws′ top′ (new F ws top x₁) n (new F ws top y₁) k p s′ (t′ .0) (omega (arith, t′ .1, t′ .2, e)) (u′ .0)
       (omega (arith, u′ .1, u′ .2, f)) (room′ (n + k) r) in
       rw (e, f)
       (record {
         verdict = refl;
         same =
             new-both F ws top p s (n + k) (copies (copies ws top x₁ n) (top + n) y₁ k)
-            (copies (copies ws′ top′ (new x₁) n) (top′ + n) (new y₁) k) (m .more) (m′ .more)
+            (copies (copies ws′ top′ (new F ws top x₁) n) (top′ + n) (new F ws top y₁) k) (m .more) (m′ .more)
             (λ j h. laid (copies (copies ws top x₁ n) (top + n) y₁ k)
-            (copies (copies ws′ top′ (new x₁) n) (top′ + n) (new y₁) k) j h (lt-or-ge j n) m m′) d l (omega arith);
+            (copies (copies ws′ top′ (new F ws top x₁) n) (top′ + n) (new F ws top y₁) k) j h (lt-or-ge j n) m m′) d l
+            (omega arith);
       })
     where
       -- a copy of the reached cell c at y, and of its new place at y′
-      copy-laid : (m : ℕ) (v v′ : List ℕ) (y y′ c c′ : ℕ) → In c (reached F ws top) → new c ≡ c′ → at v y ≡ at ws c
+      copy-laid : (m : ℕ) (v v′ : List ℕ) (y y′ c c′ : ℕ) → In c (reached F ws top) → new F ws top c ≡ c′
+          → at v y ≡ at ws c
           → at v′ y′ ≡ at ws′ c′
           → Along (Kept F ws top p s m) (far F ws top p s m) (at v y)
           × (at v′ y′ ≡ mapEnds (far F ws top p s m) (at v y))
@@ -125,20 +126,22 @@ module _ (F : ℕ) (ws : List ℕ) (top : ℕ) (p : 0 < F) (s : Sound F ws top) 
 
       laid : (v v′ : List ℕ) (j : ℕ) → j < (suc x₂ - x₁) + (suc y₂ - y₁) → (j < suc x₂ - x₁) ⊎ (suc x₂ - x₁ ≤ j)
           → Both F ws top x₁ (suc x₂ - x₁) y₁ (suc y₂ - y₁) v
-          → Both F ws′ top′ (new x₁) (suc x₂ - x₁) (new y₁) (suc y₂ - y₁) v′
+          → Both F ws′ top′ (new F ws top x₁) (suc x₂ - x₁) (new F ws top y₁) (suc y₂ - y₁) v′
           → Along (Kept F ws top p s ((suc x₂ - x₁) + (suc y₂ - y₁))) (far F ws top p s ((suc x₂ - x₁) + (suc y₂ - y₁)))
           (at v (top + j))
           × (at v′ (top′ + j) ≡ mapEnds (far F ws top p s ((suc x₂ - x₁) + (suc y₂ - y₁))) (at v (top + j)))
       laid v v′ j h (inl g) m m′ =
           let q = a j (omega arith) in
-          copy-laid ((suc x₂ - x₁) + (suc y₂ - y₁)) v v′ (top + j) (top′ + j) (x₁ + j) (new x₁ + j) (q .0) (q .1)
+          copy-laid ((suc x₂ - x₁) + (suc y₂ - y₁)) v v′ (top + j) (top′ + j) (x₁ + j) (new F ws top x₁ + j) (q .0)
+          (q .1)
           (m .one j g) (m′ .one j g)
       laid v v′ j h (inr g) m m′ =
           let i : ℕ = j - (suc x₂ - x₁) in
           let e : (suc x₂ - x₁) + i ≡ j = omega arith in
           let u : i < suc y₂ - y₁ = omega arith in
           let q = b i (omega arith) in
-          copy-laid ((suc x₂ - x₁) + (suc y₂ - y₁)) v v′ (top + j) (top′ + j) (y₁ + i) (new y₁ + i) (q .0) (q .1)
+          copy-laid ((suc x₂ - x₁) + (suc y₂ - y₁)) v v′ (top + j) (top′ + j) (y₁ + i) (new F ws top y₁ + i) (q .0)
+          (q .1)
           (rw e at (m .two i u)) (rw e at (m′ .two i u))
 
   pub run-same : (d a b : ℕ) → d < F → a < F → b < F → 0 < size (at ws a) → 0 < size (at ws b)

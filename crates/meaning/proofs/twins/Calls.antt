@@ -14,10 +14,12 @@ use Rattle.meaning.specs.Actions.{put, share, newSymbol, newBracket, new
 use Rattle.meaning.specs.Call.{keeps, soughtBy, joinPlan, withRoom, planOf, carryOut, perform, stepAfter, step}
 use Rattle.meaning.proofs.operands.Uses.{WordsRight, right, is-register, is-code, unkept-register}
 use Rattle.meaning.proofs.effect.Steps.{size-a, size-b}
-use Rattle.meaning.proofs.twins.Agree.{Agree, clear-same, share-same, head-same, rest-same, open-same, length-same}
+use Rattle.meaning.proofs.twins.Agree.{Agree, clear-same, share-same, head-same, rest-same, open-same}
+use Rattle.meaning.proofs.twins.Agree.{length-same}
 use Rattle.meaning.proofs.twins.Agree.{first-same, live-same}
 use Rattle.meaning.proofs.twins.Builds.{symbol-same, wrap-same, run-same}
-use Rattle.meaning.proofs.twins.Twins.{Twin, sought-twin, twin-size, Steady, via, via-collected, Builds, room-twin}
+use Rattle.meaning.proofs.twins.Twins.{Twin, sought-twin, twin-size, Steady, via, via-collected, Builds}
+use Rattle.meaning.proofs.twins.Twins.{room-twin}
 
 -- JOIN copies n terms and m terms
 run-builds : (F : ℕ) (p : 0 < F) (ws : List ℕ) (top : ℕ) → Sound F ws top → (d a b : ℕ) → WordsRight F JOIN d a b
@@ -44,7 +46,8 @@ module _ (F : ℕ) (ws : List ℕ) (top : ℕ) (ws′ : List ℕ) (top′ : ℕ)
   abbrev v′ : Op → List ℕ
   v′ o = soughtBy o d a b ws′
 
-  makes : (o : Op) → WordsRight F o d a b → (n : ℕ) (act : List ℕ → ℕ → Done) → Builds F n act (v o) → Builds F n act (v′ o)
+  makes : (o : Op) → WordsRight F o d a b → (n : ℕ) (act : List ℕ → ℕ → Done) → Builds F n act (v o)
+      → Builds F n act (v′ o)
       → Agree F (withRoom F n (v o) act ws top) (withRoom F n (v′ o) act ws′ top′)
   makes o q n act =
       room-twin F p n act ws top ws′ top′ t (v o) (v′ o)

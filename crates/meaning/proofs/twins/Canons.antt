@@ -7,7 +7,7 @@ use native.Mathlib.Omega.{arith}
 use lib.ListN.{length, replicate}
 use Rattle.meaning.specs.Sound.{Cell, at}
 use Rattle.meaning.specs.Reach.{reached, live}
-use Rattle.meaning.specs.Collected.{mapEnds, lay, upFrom, newAddress, collected, collectedOf, collectedTop}
+use Rattle.meaning.specs.Collected.{mapEnds, lay, upFrom, newAddress, collected, collectedOf, collectedTop, new}
 use Rattle.meaning.proofs.collected.Laid.{lay-length, kept-length}
 
 unfoldable pub canonOf : ℕ → (ℕ → Cell) → List ℕ → List ℕ
@@ -17,15 +17,15 @@ unfoldable pub canon : ℕ → List ℕ → ℕ → List ℕ
 canon F ws top = canonOf F (at ws) (reached F ws top)
 
 pub length-canon : (F : ℕ) (ws : List ℕ) (top : ℕ) → length (canon F ws top) ≡ 2 * collectedTop F ws top
-unfolding canon canonOf collectedTop live
+unfolding canon canonOf live
 length-canon F ws top =
-    lay-length (λ c. mapEnds (newAddress F (reached F ws top)) (at ws c)) (upFrom 0 F ++ reached F ws top)
+    lay-length (λ c. mapEnds (new F ws top) (at ws c)) (upFrom 0 F ++ reached F ws top)
     ∙ ap (λ (n : ℕ). 2 * n) (kept-length F (reached F ws top))
 
 pub collected-canon : (F : ℕ) (ws : List ℕ) (top : ℕ)
     → collected F ws top ≡ canon F ws top ++ replicate (length ws - length (canon F ws top)) 0
 unfolding collected collectedOf
-collected-canon F ws top = rw (length-canon F ws top) (unfold canon canonOf collectedTop live in refl)
+collected-canon F ws top = rw (length-canon F ws top) (unfold canon canonOf live in refl)
 
 -- stores of one length with the same canonical words are collected to the same store
 pub same-collected : (F : ℕ) (ws : List ℕ) (top : ℕ) (ws′ : List ℕ) (top′ : ℕ) → length ws ≡ length ws′

@@ -11,13 +11,14 @@ use lib.Dec.{ltb}
 use borrow.Author.Tests.{lt-ltb, le-ltb}
 use Rattle.meaning.specs.Sound.{Cell, code, empty, ends, at, Sound}
 use Rattle.meaning.specs.Reach.{reached, live}
-use Rattle.meaning.specs.Collected.{mapEnds, newAddress, collected, collectedTop}
+use Rattle.meaning.specs.Collected.{mapEnds, newAddress, collected, collectedTop, new}
 use Rattle.meaning.specs.Actions.{put}
 use Rattle.meaning.proofs.Lists.{lt-or-ge, In, Asc, asc-in, place, below-mono, below-suc}
 use Rattle.meaning.proofs.sound.Cells.{good, TermIn, BracketIn, term-of-bracket}
 use Rattle.meaning.proofs.meaning.Terms.{Along}
 use Rattle.meaning.proofs.reach.Reaching.{reached-asc, reached-below}
-use Rattle.meaning.proofs.collected.Collecting.{collected-sound, along, held-register, held-heap, at-register, at-new}
+use Rattle.meaning.proofs.collected.Collecting.{collected-sound, along, held-register, held-heap, at-register}
+use Rattle.meaning.proofs.collected.Collecting.{at-new}
 use Rattle.meaning.proofs.actions.Writing.{at-put, at-put-other, sound-register}
 use Rattle.meaning.proofs.actions.Laying.{Extends}
 use Rattle.meaning.proofs.twins.Canons.{canon}
@@ -67,9 +68,6 @@ module _ (F : ℕ) (ws : List ℕ) (top : ℕ) (p : 0 < F) (s : Sound F ws top) 
   abbrev top′ : ℕ
   top′ = collectedTop F ws top
 
-  abbrev new : ℕ → ℕ
-  new = newAddress F (reached F ws top)
-
   abbrev P : ℕ → Type 0
   P c = In c (reached F ws top)
 
@@ -79,33 +77,33 @@ module _ (F : ℕ) (ws : List ℕ) (top : ℕ) (p : 0 < F) (s : Sound F ws top) 
   asc : Asc F rs
   asc = reached-asc F ws top p s
 
-  pub new-low : (c : ℕ) → F ≤ newAddress F (reached F ws top) c
+  pub new-low : (c : ℕ) → F ≤ new F ws top c
   unfolding newAddress
   new-low c = omega arith
 
-  pub new-high : (c : ℕ) → In c (reached F ws top) → newAddress F (reached F ws top) c < collectedTop F ws top
-  unfolding newAddress collectedTop live
+  pub new-high : (c : ℕ) → In c (reached F ws top) → new F ws top c < collectedTop F ws top
+  unfolding newAddress live
   new-high c i = omega (arith, place F c rs asc i .0)
 
   pub new-rises : (c d : ℕ) → In c (reached F ws top) → c < d
-      → newAddress F (reached F ws top) c < newAddress F (reached F ws top) d
+      → new F ws top c < new F ws top d
   unfolding newAddress
   new-rises c d i l = omega (arith, below-suc F c rs asc i, below-mono rs (suc c) d l)
 
-  pub along-register : (i : ℕ) → i < F → Along P (newAddress F (reached F ws top)) (at ws i)
+  pub along-register : (i : ℕ) → i < F → Along P (new F ws top) (at ws i)
   unfolding newAddress
   along-register i h =
       along F ws top p s top (at ws i) (term-of-bracket F top (at ws i) (good F ws top p s .regs i h))
       (held-register F ws top p s i h)
 
-  pub along-heap : (c : ℕ) → In c (reached F ws top) → Along P (newAddress F (reached F ws top)) (at ws c)
+  pub along-heap : (c : ℕ) → In c (reached F ws top) → Along P (new F ws top) (at ws c)
   unfolding newAddress
   along-heap c i =
       along F ws top p s c (at ws c) (good F ws top p s .heap c (asc-in F c rs asc i) (reached-below F ws top p s c i))
       (held-heap F ws top p s c i)
 
   -- the collected store follows the store
-  pub follows-collected : Follows F (at ws) top (at (collected F ws top)) P (newAddress F (reached F ws top))
+  pub follows-collected : Follows F (at ws) top (at (collected F ws top)) P (new F ws top)
   follows-collected = record {
     heap = λ c i. (asc-in F c rs asc i, reached-below F ws top p s c i);
     rises = λ c d i j l. new-rises c d i l;
@@ -114,16 +112,16 @@ module _ (F : ℕ) (ws : List ℕ) (top : ℕ) (p : 0 < F) (s : Sound F ws top) 
   }
 
   pub canon-collected : canon F (collected F ws top) (collectedTop F ws top) ≡ canon F ws top
-  canon-collected = follow-canon F p ws top s ws′ top′ sound′ P new follows-collected
+  canon-collected = follow-canon F p ws top s ws′ top′ sound′ P (new F ws top) follows-collected
 
   -- a register set in both
   pub set-both : (d : ℕ) → d < F → (b b′ : Cell) → BracketIn F top b → BracketIn F (collectedTop F ws top) b′
-      → Along P (newAddress F (reached F ws top)) b → b′ ≡ mapEnds (newAddress F (reached F ws top)) b
+      → Along P (new F ws top) b → b′ ≡ mapEnds (new F ws top) b
       → canon F (put ws d b) top ≡ canon F (put (collected F ws top) d b′) (collectedTop F ws top)
   set-both d l b b′ t t′ a e =
       sym (follow-canon F p (put ws d b) top (sound-register F ws top p s d l b t) (put ws′ d b′) top′
-      (sound-register F ws′ top′ p sound′ d l b′ t′) P new
-      (set-follow F p ws top s ws′ top′ sound′ P new (λ c i. new-low c) follows-collected d l b b′ t t′ a e))
+      (sound-register F ws′ top′ p sound′ d l b′ t′) P (new F ws top)
+      (set-follow F p ws top s ws′ top′ sound′ P (new F ws top) (λ c i. new-low c) follows-collected d l b b′ t t′ a e))
 
   -- ---- n new cells in both
 
@@ -133,16 +131,16 @@ module _ (F : ℕ) (ws : List ℕ) (top : ℕ) (p : 0 < F) (s : Sound F ws top) 
     Kept c = P c ⊎ ((top ≤ c) × (c < top + n))
 
     abbrev pub far : ℕ → ℕ
-    far c = cond (ltb c top) (new c) (top′ + (c - top))
+    far c = cond (ltb c top) (new F ws top c) (top′ + (c - top))
 
-    far-old : (c : ℕ) → c < top → far c ≡ new c
+    far-old : (c : ℕ) → c < top → far c ≡ new F ws top c
     far-old c l = rw (lt-ltb c top l) refl
 
     far-new : (c : ℕ) → top ≤ c → far c ≡ top′ + (c - top)
     far-new c l = rw (le-ltb c top l) refl
 
-    far-along : (lim : ℕ) (b : Cell) → TermIn F lim b → Along P new b
-        → Along Kept far b × (mapEnds far b ≡ mapEnds new b)
+    far-along : (lim : ℕ) (b : Cell) → TermIn F lim b → Along P (new F ws top) b
+        → Along Kept far b × (mapEnds far b ≡ mapEnds (new F ws top) b)
     far-along lim (code a) t h = (tt, refl)
     far-along lim empty t h = (tt, refl)
     far-along lim (ends l r) t h =
@@ -159,7 +157,7 @@ module _ (F : ℕ) (ws : List ℕ) (top : ℕ) (p : 0 < F) (s : Sound F ws top) 
         )
 
     -- a cell with old contents only
-    pub old-along : (lim : ℕ) (b b′ : Cell) → TermIn F lim b → Along P new b → b′ ≡ mapEnds new b
+    pub old-along : (lim : ℕ) (b b′ : Cell) → TermIn F lim b → Along P (new F ws top) b → b′ ≡ mapEnds (new F ws top) b
         → Along Kept far b × (b′ ≡ mapEnds far b)
     old-along lim b b′ t a e = let y = far-along lim b t a in (y .0, e ∙ sym (y .1))
 
@@ -191,7 +189,7 @@ module _ (F : ℕ) (ws : List ℕ) (top : ℕ) (p : 0 < F) (s : Sound F ws top) 
           let y = far-along c (at ws c) (good F ws top p s .heap c (asc-in F c rs asc i) l) (along-heap c i) in
           rw (x .old c l) (
             y .0,
-            rw (far-old c l) (x′ .old (new c) (new-high c i) ∙
+            rw (far-old c l) (x′ .old (new F ws top c) (new-high c i) ∙
                 (at-new F ws top p s c i ∙ sym (y .1))),
           )
 

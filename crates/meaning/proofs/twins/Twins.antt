@@ -65,7 +65,6 @@ Steady F act ws top = Agree F (act ws top) (act (collected F ws top) (collectedT
 
 module _ (F : ℕ) (ws : List ℕ) (top : ℕ) (ws′ : List ℕ) (top′ : ℕ) (p : 0 < F) (t : Twin F ws top ws′ top′) where
   pub twin-live : live F ws top ≡ live F ws′ top′
-  unfolding collectedTop
   twin-live = omega (arith, length-canon F ws top, length-canon F ws′ top′, ap length (t .same))
 
   pub twin-size : (i : ℕ) → i < F → size (at ws i) ≡ size (at ws′ i)

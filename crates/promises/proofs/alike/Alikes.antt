@@ -10,7 +10,7 @@ use lib.ListN.{length, getD, take, replicate}
 use lib.Seq.{take-at}
 use Rattle.meaning.specs.Sound.{Cell, code, empty, ends, fst, snd, at, Sound, capacity}
 use Rattle.meaning.specs.Reach.{Between, reached, live}
-use Rattle.meaning.specs.Collected.{below, mapEnds, upFrom, newAddress, collected, collectedTop}
+use Rattle.meaning.specs.Collected.{below, mapEnds, upFrom, newAddress, collected, collectedTop, new}
 use Rattle.meaning.specs.Verdicts.{Done, done}
 use Rattle.meaning.specs.Check.{collectIn}
 use Rattle.meaning.proofs.Lists.{lt-or-ge, In, asc-in, in-getD, place, below-getD}
@@ -31,13 +31,7 @@ module _ (F : ℕ) (p : 0 < F) (ws : List ℕ) (top : ℕ) (s : Sound F ws top) 
   abbrev rs′ : List ℕ
   rs′ = reached F ws′ top′
 
-  abbrev new : ℕ → ℕ
-  new = newAddress F (reached F ws top)
-
-  abbrev new′ : ℕ → ℕ
-  new′ = newAddress F (reached F ws′ top′)
-
-  paired-new : (x y : ℕ) → Paired rs rs′ x y → new x ≡ new′ y
+  paired-new : (x y : ℕ) → Paired rs rs′ x y → new F ws top x ≡ new F ws′ top′ y
   unfolding newAddress
   paired-new x y q =
       rw (
@@ -48,7 +42,7 @@ module _ (F : ℕ) (p : 0 < F) (ws : List ℕ) (top : ℕ) (s : Sound F ws top) 
             (reached-asc F ws′ top′ p s′) (q .second),
       ) refl
 
-  new-paired : (x y : ℕ) → In x rs → In y rs′ → new x ≡ new′ y → Paired rs rs′ x y
+  new-paired : (x y : ℕ) → In x rs → In y rs′ → new F ws top x ≡ new F ws′ top′ y → Paired rs rs′ x y
   unfolding newAddress
   new-paired x y i i′ e =
       let q = place F x rs (reached-asc F ws top p s) i in
@@ -56,7 +50,7 @@ module _ (F : ℕ) (p : 0 < F) (ws : List ℕ) (top : ℕ) (s : Sound F ws top) 
       let z : below x rs ≡ below y rs′ = omega arith in
       record { j = below x rs; first = q .0; second = rw z (q′ .0); here = sym (q .1); there = rw z (sym (q′ .1)) }
 
-  paired-cells : (b b′ : Cell) → PairedCells rs rs′ b b′ → mapEnds new b ≡ mapEnds new′ b′
+  paired-cells : (b b′ : Cell) → PairedCells rs rs′ b b′ → mapEnds (new F ws top) b ≡ mapEnds (new F ws′ top′) b′
   paired-cells (code a) (code b) q = ap {B = Cell} (λ x. code x) q
   paired-cells (code a) empty q = absurd q
   paired-cells (code a) (ends l r) q = absurd q
@@ -69,10 +63,10 @@ module _ (F : ℕ) (p : 0 < F) (ws : List ℕ) (top : ℕ) (s : Sound F ws top) 
       ap₂ {C = Cell} (λ x y. ends x y) (paired-new l l′ (q .0)) (paired-new r r′ (q .1))
 
   abbrev m : ℕ → Cell
-  m c = mapEnds new (at ws c)
+  m c = mapEnds (new F ws top) (at ws c)
 
   abbrev m′ : ℕ → Cell
-  m′ c = mapEnds new′ (at ws′ c)
+  m′ c = mapEnds (new F ws′ top′) (at ws′ c)
 
   -- alike stores have the same canonical words
   pub alike-canon : Alike F ws top ws′ top′ → canon F ws top ≡ canon F ws′ top′
@@ -114,7 +108,8 @@ module _ (F : ℕ) (p : 0 < F) (ws : List ℕ) (top : ℕ) (s : Sound F ws top) 
       (omega (arith, kept-length F rs′)))
 
   pair-of : (lim lim′ : ℕ) (b b′ : Cell) → TermIn F lim b → TermIn F lim′ b′ → ((x : ℕ) → Between b x → In x rs)
-      → ((x : ℕ) → Between b′ x → In x rs′) → mapEnds new b ≡ mapEnds new′ b′ → PairedCells rs rs′ b b′
+      → ((x : ℕ) → Between b′ x → In x rs′) → mapEnds (new F ws top) b ≡ mapEnds (new F ws′ top′) b′
+      → PairedCells rs rs′ b b′
   pair-of lim lim′ (code a) (code b) t t′ h h′ e = cc
   pair-of lim lim′ (code a) empty t t′ h h′ e = let z : _≡_ {A = ℕ} 0 1 = cc in omega arith
   pair-of lim lim′ (code a) (ends l r) t t′ h h′ e = let z : _≡_ {A = ℕ} 0 1 = cc in omega arith
@@ -124,15 +119,15 @@ module _ (F : ℕ) (p : 0 < F) (ws : List ℕ) (top : ℕ) (s : Sound F ws top) 
   pair-of lim lim′ (ends l r) (code b) t t′ h h′ e = let z : _≡_ {A = ℕ} 0 1 = cc in omega arith
   pair-of lim lim′ (ends l r) empty t t′ h h′ e = let z : _≡_ {A = ℕ} 0 1 = cc in omega arith
   pair-of lim lim′ (ends l r) (ends l′ r′) t t′ h h′ e =
-      let x : new l ≡ new′ l′ = cc in
-      let y : new r ≡ new′ r′ = cc in (
+      let x : (new F ws top) l ≡ new F ws′ top′ l′ = cc in
+      let y : (new F ws top) r ≡ new F ws′ top′ r′ = cc in (
         new-paired l l′ (h l (le-refl l, t .1)) (h′ l′ (le-refl l′, t′ .1)) x,
         new-paired r r′ (h r (t .1, le-refl r))
             (h′ r′ (t′ .1, le-refl r′)) y,
       )
 
   many-of : canon F ws top ≡ canon F ws′ top′ → length rs ≡ length rs′
-  unfolding collectedTop live
+  unfolding live
   many-of e = omega (arith, length-canon F ws top, length-canon F ws′ top′, ap length e)
 
   pub canon-alike : canon F ws top ≡ canon F ws′ top′ → Alike F ws top ws′ top′
@@ -185,7 +180,7 @@ module _ (F : ℕ) (ws : List ℕ) (top : ℕ) (s : Sound F ws top) (ws′ : Lis
       → collectIn F ws top ≡ collectIn F ws′ top′
   canon-collects l e =
       let q = same-collected F ws top ws′ top′ l e in
-      let n : live F ws top ≡ live F ws′ top′ = (unfold collectedTop in omega (arith, q .1)) in
+      let n : live F ws top ≡ live F ws′ top′ = omega (arith, q .1) in
       collect-sound F ws top s ∙ (rw (q .0, q .1, n) refl ∙ sym (collect-sound F ws′ top′ s′))
 
   pub collects-canon : collectIn F ws top ≡ collectIn F ws′ top′ → canon F ws top ≡ canon F ws′ top′

@@ -73,7 +73,7 @@ module _ (F : ℕ) (ws : List ℕ) (top : ℕ) (p : 0 < F) (s : Sound F ws top) 
     -- ---- `top`
 
     sought-top : (o : Op) (n : ℕ) → roomTop F n (v o) top ≡ cond (ltb (capacity ws) (top + n)) (F + lv o) top
-    unfolding roomTop collectedTop
+    unfolding roomTop
     sought-top o n = rw (length-by F ws top p s d a b o) refl
 
     more-top : (o : Op) (n : ℕ) → roomTop F n (v o) top + n ≡ cond (ltb (capacity ws) (top + n)) (F + lv o) top + n
@@ -91,7 +91,7 @@ module _ (F : ℕ) (ws : List ℕ) (top : ℕ) (p : 0 < F) (s : Sound F ws top) 
         → planTop F (planOf o F ws top d a b) ws top
         ≡ cond (x o .collects) (F + live F ws top) (cond (ltb (capacity ws) (top + x o .need)) (F + lv o) top)
         + x o .need
-    unfolding planTop planOf collectedTop uses
+    unfolding planTop planOf uses
     plan-top CLEAR q = same-top (lv CLEAR)
     plan-top COPY q = same-top (lv COPY)
     plan-top SYMBOL q = more-top SYMBOL 1

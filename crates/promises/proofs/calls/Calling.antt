@@ -11,7 +11,7 @@ use lib.Dec.{ltb, eqb}
 use borrow.Author.Tests.{ltb-true, lt-ltb, lt-leb, ne-eqb}
 use Rattle.meaning.specs.Sound.{at, capacity, Sound}
 use Rattle.meaning.specs.Reach.{live}
-use Rattle.meaning.specs.Collected.{collected, collectedTop}
+use Rattle.meaning.specs.Collected.{collected}
 use Rattle.meaning.specs.Verdicts.{Done, done, refused}
 use Rattle.meaning.specs.Operands.{ops, opAt, uses, wrong11, wrong12, wrong13, fault}
 use Rattle.meaning.specs.Call.{planOf, perform, stepAfter, step}
@@ -66,7 +66,8 @@ module _ (F : ℕ) (p : 0 < F) (ws : List ℕ) (top : ℕ) (s : Sound F ws top) 
   unfolding step stepAfter
   performed q = rw q refl
 
-  done-words : r .verdict .status ≡ 0 → OnlyThere d (actedTop F ws top o d a b n) n (actedOn F ws top o d a b n) (r .words)
+  done-words : r .verdict .status ≡ 0
+      → OnlyThere d (actedTop F ws top o d a b n) n (actedOn F ws top o d a b n) (r .words)
   done-words e =
       let q = faultless e in
       let z = performed q in
@@ -87,7 +88,7 @@ module _ (F : ℕ) (p : 0 < F) (ws : List ℕ) (top : ℕ) (s : Sound F ws top) 
   as-it-is z = rw z (stays F ws top p s)
 
 pub calls-do : CallsDo
-unfolding collectedTop callStatus
+unfolding callStatus
 calls-do F p ws top s o d a b =
     let x = m F p ws top s o d a b in
     let r = step F ws top o d a b in

@@ -8,7 +8,7 @@ use native.Mathlib.Omega.{arith}
 use lib.ListN.{length, getD}
 use Rattle.meaning.specs.Sound.{Cell, ends, at, Sound}
 use Rattle.meaning.specs.Reach.{Reached, reached, live}
-use Rattle.meaning.specs.Collected.{below, newAddress, collectedTop}
+use Rattle.meaning.specs.Collected.{below, newAddress, new}
 use Rattle.meaning.proofs.Lists.{In, Asc, asc-in, in-getD, place, below-getD, below-le}
 use Rattle.meaning.proofs.meaning.Terms.{Along}
 use Rattle.meaning.proofs.sound.Cells.{free-rule}
@@ -51,7 +51,7 @@ module _ (F : ℕ) (p : 0 < F) (ws : List ℕ) (top : ℕ) (s : Sound F ws top) 
   listed {c} r = listed-iff F ws top p s c .1 r
 
   packed : (y : ℕ) → F ≤ y → y < F + live F ws top
-      → (c : ℕ) × Reached F (at ws) c × (newAddress F (reached F ws top) c ≡ y)
+      → (c : ℕ) × Reached F (at ws) c × (new F ws top c ≡ y)
   unfolding live newAddress
   packed y l h =
       let rs = reached F ws top in
@@ -62,14 +62,12 @@ module _ (F : ℕ) (p : 0 < F) (ws : List ℕ) (top : ℕ) (s : Sound F ws top) 
             (arith, below-getD F rs (y - F) (reached-asc F ws top p s) j),
       )
 
-  not-up : (c : ℕ) → P c → newAddress F (reached F ws top) c ≤ c
+  not-up : (c : ℕ) → P c → new F ws top c ≤ c
   unfolding newAddress
   not-up c i = let a = reached-asc F ws top p s in below-le F c (reached F ws top) a (asc-in F c (reached F ws top) a i)
 
 pub collecting-keeps : CollectingKeeps
-unfolding collectedTop
 collecting-keeps F p ws top s =
-    let new = newAddress F (reached F ws top) in
     let at-end = collected-sound F ws top p s in
     record {
       low = λ c r. let i = listed F p ws top s r in
@@ -78,8 +76,9 @@ collecting-keeps F p ws top s =
       order = λ c x r q l. new-rises F ws top p s c x (listed F p ws top s r) l;
       registers = at-register F ws top p s;
       cells = λ c r. at-new F ws top p s c (listed F p ws top s r);
-      registerRun = λ i l r c h. run-moved (P F p ws top s) new (at ws i) l r c (along-register F ws top p s i h);
-      cellRun = λ b l r c q. run-moved (P F p ws top s) new (at ws b) l r c
+      registerRun =
+          λ i l r c h. run-moved (P F p ws top s) (new F ws top) (at ws i) l r c (along-register F ws top p s i h);
+      cellRun = λ b l r c q. run-moved (P F p ws top s) (new F ws top) (at ws b) l r c
           (along-heap F ws top p s b (listed F p ws top s q));
       rest = λ c l h. free-rule at-end c l (rw (length-collected F ws top p s) h);
       all = all-reached F ws top p s;

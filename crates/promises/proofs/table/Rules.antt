@@ -9,7 +9,8 @@ use Rattle.words.specs.Cell.{firstWord, secondWord}
 use Rattle.meaning.specs.Sound.{capacity}
 use Rattle.meaning.specs.Verdicts.{Verdict}
 use Rattle.meaning.specs.Check.{cellTest, lengthTest, topTest, check}
-use Rattle.meaning.proofs.check.Checking.{length-yes, yes-length, top-yes, yes-top, cell-yes, yes-cell, Checks, length-bad}
+use Rattle.meaning.proofs.check.Checking.{length-yes, yes-length, top-yes, yes-top, cell-yes, yes-cell, Checks}
+use Rattle.meaning.proofs.check.Checking.{length-bad}
 use Rattle.meaning.proofs.check.Checking.{top-bad, cell-bad, sound, checks}
 use Rattle.promises.specs.Table.{OneOf, Not, Judged, badLength, badTop, badCell, isSound}
 

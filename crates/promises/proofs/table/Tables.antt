@@ -12,7 +12,7 @@ use Rattle.meaning.specs.Expr.{Expr}
 use Rattle.meaning.specs.Sound.{at, capacity, Sound}
 use Rattle.meaning.specs.Meaning.{meaning}
 use Rattle.meaning.specs.Reach.{live}
-use Rattle.meaning.specs.Collected.{collected, collectedTop}
+use Rattle.meaning.specs.Collected.{collected}
 use Rattle.meaning.specs.Verdicts.{Verdict, only, done, refused, onZero}
 use Rattle.meaning.specs.Check.{lengthTest, check, collectIn}
 use Rattle.meaning.specs.Fresh.{fresh, freshIn}
@@ -80,7 +80,7 @@ fresh-answers F ws = go (lengthTest F (length ws)) refl
 -- ---- collecting alone
 
 pub collect-answers : CollectAnswers
-unfolding collectIn collectedTop
+unfolding collectIn
 collect-answers F ws top = go (check F ws top .status) refl
   where
     go : (n : ℕ) → check F ws top .status ≡ n

@@ -10,13 +10,14 @@ use lib.ListN.{length, replicate}
 use lib.Seq.{ext-getD}
 use Rattle.words.specs.Cell.{firstWord, secondWord}
 use Rattle.meaning.specs.Sound.{Cell, code, empty, ends, fst, snd, at, capacity, Allowed, CellRule, Sound}
-use Rattle.meaning.specs.Reach.{reached, live}
-use Rattle.meaning.specs.Collected.{mapEnds, newAddress, collectedTop}
+use Rattle.meaning.specs.Reach.{live}
+use Rattle.meaning.specs.Collected.{mapEnds, new}
 use Rattle.meaning.specs.Verdicts.{Verdict, only, Done}
 use Rattle.meaning.specs.Check.{lengthTest, check}
 use Rattle.meaning.specs.Batch.{Outcome, asLent}
 use Rattle.meaning.proofs.Lists.{lt-or-ge}
-use Rattle.meaning.proofs.sound.Cells.{good, BracketIn, read, bracket-words, term-words, free-words, register-rule, heap-rule}
+use Rattle.meaning.proofs.sound.Cells.{good, BracketIn, read, bracket-words, term-words, free-words, register-rule}
+use Rattle.meaning.proofs.sound.Cells.{heap-rule}
 use Rattle.meaning.proofs.check.Checking.{length-yes, yes-length, check-sound, sound-check}
 use Rattle.meaning.proofs.collected.Determined.{is-collected}
 use Rattle.promises.specs.Table.{Not, TopRule, Judged, badLength, badTop, badCell, isSound}
@@ -85,7 +86,8 @@ one-fresh F ws r q a b = go (lengthTest F (length ws)) refl
     go : (t : Bool) → lengthTest F (length ws) ≡ t → r ≡ q
     go true e = let l = length-yes F (length ws) e in both 0 _ F (a .made l) (b .made l)
     go false e =
-        let n = refuted (lengthTest F (length ws)) (yes-length F (length ws)) e in both 1 ws 0 (a .refused n) (b .refused n)
+        let n =
+        refuted (lengthTest F (length ws)) (yes-length F (length ws)) e in both 1 ws 0 (a .refused n) (b .refused n)
 
 -- ---- collecting
 
@@ -103,17 +105,17 @@ module _ (F : ℕ) (p : 0 < F) (v : List ℕ) (t : ℕ) (s : Sound F v t) where
   heap-words : (c : ℕ) → F ≤ c → c < t → (b : Cell) → at v c ≡ b → Holds c b
   unfolding at read
   heap-words c f h b e =
-      let w = term-words F c (firstWord v c) (secondWord v c) p (heap-rule s c f h) in rw (← e) (sym (w .one), sym (w .two))
+      let w =
+      term-words F c (firstWord v c) (secondWord v c) p (heap-rule s c f h) in rw (← e) (sym (w .one), sym (w .two))
 
 pub one-collected : OneCollected
-unfolding collectedTop
 one-collected F p ws top s v g =
     let t = F + live F ws top in
     is-collected F ws top p s v (g .len)
-    (λ i h. register-words F p v t (g .sound) i h (mapEnds (newAddress F (reached F ws top)) (at ws i))
+    (λ i h. register-words F p v t (g .sound) i h (mapEnds (new F ws top) (at ws i))
     (g .registers i h))
-    (λ c r. let l = g .low c r in heap-words F p v t (g .sound) (newAddress F (reached F ws top) c) (l .0) (l .1)
-    (mapEnds (newAddress F (reached F ws top)) (at ws c)) (g .cells c r))
+    (λ c r. let l = g .low c r in heap-words F p v t (g .sound) (new F ws top c) (l .0) (l .1)
+    (mapEnds (new F ws top) (at ws c)) (g .cells c r))
     (λ i l h. free-words F v t (g .sound) i l (rw (g .len) h))
 
 unsound-check : (F : ℕ) (ws : List ℕ) (top n : ℕ) → check F ws top .status ≡ suc n → Not (Sound F ws top)

@@ -24,7 +24,8 @@ abbrev μ-loop : tie.MeasureT-loop
 μ-loop ws top cells c₀ c = cells - c
 
 -- the tests that were passed
-long : (c : tie.Else1 Inv-loop μ-loop) → lengthTest firstHeapCell (length (c .before .before .before .args .ws .now)) ≡ true
+long : (c : tie.Else1 Inv-loop μ-loop)
+    → lengthTest firstHeapCell (length (c .before .before .before .args .ws .now)) ≡ true
 long c = sym (c .before .length-ok .ensures) ∙ not-false _ (c .if1 .left)
 
 low : (c : tie.Else2 Inv-loop μ-loop) →

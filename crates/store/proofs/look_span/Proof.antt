@@ -25,7 +25,8 @@ inside : (c : tie.After-run-at) →
     2 * c .run-at .result .start + 2 * c .run-at .result .size ≤ length (a .ws .now)
 inside c =
     let s = sound (c .before .before) in
-    run-inside firstHeapCell _ _ _ firstHeapCell-pos s (c .before .if2 .left) (c .run-at .ensures .0) (c .run-at .ensures .1)
+    run-inside firstHeapCell _ _ _ firstHeapCell-pos s (c .before .if2 .left) (c .run-at .ensures .0)
+    (c .run-at .ensures .1)
 
 returns : tie.Need-returns
 returns c =

@@ -16,7 +16,8 @@ known : (c : tie.After-right-end) →
     Contents (firstWord (a .ws .now) (a .c)) (c .right-end .result) (at (a .ws .now) (a .c))
 known c =
     let p = c .before .before .before .pre .1 in
-    contents firstHeapCell (p .0) firstHeapCell-pos (p .1) _ _ (c .before .second-word .ensures) (c .right-end .ensures) (p .2)
+    contents firstHeapCell (p .0) firstHeapCell-pos (p .1) _ _ (c .before .second-word .ensures)
+    (c .right-end .ensures) (p .2)
 
 returns : tie.Need-returns
 returns c = let e = known (c .before) .noContents (c .if1 .taken) in (sym (e .0), sym (e .1))

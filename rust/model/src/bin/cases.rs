@@ -75,7 +75,7 @@ every (c ∷ cs) = right c && every cs
 /// The definitions that the cases unfold.
 const UNFOLDING: &str = "\
 unfolding limit codeTest callsLimit programCells programBytes at reached live newAddress collectedOf collected
-    collectedTop bracketTest termTest cellTest lengthTest topTest verdictAt check fresh freshIn collectIn spanOf
+    bracketTest termTest cellTest lengthTest topTest verdictAt check fresh freshIn collectIn spanOf
     lookSpan ops opAt uses wrong11 wrong12 wrong13 fault put copy share head rest openTerm openFirst codeTerm
     codeFirst newSymbol newBracket newRunOf newRun sought planOf lacks roomWords roomTop withRoom carryOut perform
     stepAfter step ended callsTest batchOf batch decimal written refusal output program verdict outcome left span

@@ -13,7 +13,14 @@ run-at-requires c κs = readable (c .before .pre .0) (c .before .pre .1)
 cast-done : tie.Need-cast-done
 cast-done c =
     let s = c .before .before .before in
-    omega (arith, limit-fits, s .pre .0 .high, s .pre .0 .allowed .small, run-below (s .args .a) (s .pre .0) (s .pre .1))
+    omega (
+      arith,
+      limit-fits,
+      s .pre .0 .high,
+      s .pre .0 .allowed .small,
+      run-below (s .args .a) (s .pre .0)
+          (s .pre .1),
+    )
 
 returns : tie.Need-returns
 returns c = c .done .ensures _ ∙ simp (c .before .before .run-at .ensures .1)

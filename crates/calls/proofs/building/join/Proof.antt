@@ -43,7 +43,8 @@ returns-2 c =
     let p = run-at .run-at .ensures .1 in
     let q = run-at2 .run-at2 .ensures .1 in
     c .before .before .share2 .ensures
-    ∙ sym (join-second-empty firstHeapCell (v s) (s .args .ws .now) (s .args .top) (s .args .d) (s .args .a) (s .args .b)
+    ∙ sym (join-second-empty firstHeapCell (v s) (s .args .ws .now) (s .args .top) (s .args .d) (s .args .a)
+    (s .args .b)
     _ _ (λ e. if1 .if1 .left (p ∙ e)) (sym q ∙ if2 .if2 .taken))
 
 add-join-full : tie.Need-add-join-full
@@ -69,7 +70,8 @@ returns-3 c =
     let run-at = run-at2 .before .before in
     let s = run-at .before .before .before in
     c .before .before .join-full .ensures
-    ∙ sym (join-neither-empty firstHeapCell (v s) (s .args .ws .now) (s .args .top) (s .args .d) (s .args .a) (s .args .b)
+    ∙ sym (join-neither-empty firstHeapCell (v s) (s .args .ws .now) (s .args .top) (s .args .d) (s .args .a)
+    (s .args .b)
     (run-at .run-at .ensures .1) (run-at2 .run-at2 .ensures .1) (if1 .if1 .left) (if2 .if2 .left))
 
 pub join-spec : {M : Type 1} → statement M

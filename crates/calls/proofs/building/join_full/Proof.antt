@@ -25,7 +25,8 @@ lay-run-requires c κs =
     let m = make-room .make-room .ensures in
     let e = c .before .before .t .given .1 in
     let y = room-roomy m e in
-    let stays = sought-meaning firstHeapCell (s .args .ws .now) (s .args .top) firstHeapCell-pos (s .pre .0 .0) (s .args .kept)
+    let stays =
+    sought-meaning firstHeapCell (s .args .ws .now) (s .args .top) firstHeapCell-pos (s .pre .0 .0) (s .args .kept)
     (s .args .d) (λ k. s .pre .0 .1) in
     let za = room-size m e (s .pre .0 .0) (s .args .a) (s .pre .0 .2)
     (stays (s .args .a) (s .pre .0 .2) (s .pre .1 .0 .0)) in

@@ -32,7 +32,8 @@ module _ (s : tie.Start) {k : ℕ} (e : s .args .o ≡ k) where
   asks v = (s .pre .0, a v)
 
   takes : useD (opAt k) ≡ 1 → useA (opAt k) ≡ 1
-      → Sound firstHeapCell (s .args .ws .now) (s .args .top) × (s .args .d < firstHeapCell) × (s .args .a < firstHeapCell)
+      → Sound firstHeapCell (s .args .ws .now) (s .args .top) × (s .args .d < firstHeapCell)
+      × (s .args .a < firstHeapCell)
   takes u v = (s .pre .0, d u, a v)
 
 -- JOIN keeps d where it is an operand register

@@ -39,7 +39,8 @@ unfolding programCells programBytes
 slice-aggregate-report-fresh-2 c =
     let args = c .before .before .before .before .args in
     let pre = c .before .before .before .before .pre in
-    part-length (length (args .calls .now) / 4 * 2) programAnswers (calls-fit (length (args .calls .now)) (pre .list .short))
+    part-length (length (args .calls .now) / 4 * 2) programAnswers
+    (calls-fit (length (args .calls .now)) (pre .list .short))
 
 report-fresh-requires : tie.Need-report-fresh-requires
 unfolding programCells programBytes
