@@ -23,15 +23,16 @@ use Rattle.meaning.specs.Collected.{mapEnds, collected, collectedTop, new}
 use Rattle.meaning.proofs.sound.Cells.{words-of-cells, free-rule}
 use Rattle.meaning.proofs.collected.Determined.{new-last, is-collected}
 use Rattle.collect.specs.Cells.{ChainCell, cell, val, mk}
-use Rattle.collect.specs.Chain.{Heap, holder, Proper, place, placedCell}
+use Rattle.collect.specs.Heap.{Heap, holder, Proper, place}
+use Rattle.collect.specs.Chain.{placedCell}
 use Rattle.collect.specs.Step.{lowered}
-use Rattle.collect.specs.Passes.{Sweeping, Sweeps, Layable, Lowerable, Lowers, Settleable}
-use Rattle.collect.specs.Passes.{Settles, Cleared}
+use Rattle.collect.specs.Phases.{Sweeping}
+use Rattle.collect.specs.Passes.{Sweeps, Layable, Lowerable, Lowers, Settleable, Settles, Cleared}
 use Rattle.meaning.proofs.sound.Fields.{Fields, cell-fields, ends-in}
-use Rattle.collect.proofs.Order.{holder-full}
-use Rattle.collect.proofs.Places.{new-bound, place-own, place-packed, place-up}
-use Rattle.collect.proofs.Swept.{swept-place, swept-free, place-onto}
-use Rattle.collect.proofs.Lowered.{bracket-is, code-is, lowered-holder, lowered-other, lowered-zero}
+use Rattle.collect.proofs.heap.Order.{holder-full}
+use Rattle.collect.proofs.heap.Places.{new-bound, place-own, place-packed, place-up}
+use Rattle.collect.proofs.turn.Swept.{swept-place, swept-free, place-onto}
+use Rattle.collect.proofs.lower.Lowered.{bracket-is, code-is, lowered-holder, lowered-other, lowered-zero}
 use Rattle.collect.proofs.Heaps.{heapOf, live-of, proper, begun}
 
 -- ---- packed, then lowered

@@ -22,12 +22,13 @@ use Rattle.meaning.proofs.sound.Cells.{limit-fits, good}
 use Rattle.meaning.proofs.reach.Reaching.{or-left, or-right, or-cases, reached-heap, listed-iff}
 use Rattle.meaning.proofs.collected.Determined.{new-first, new-after, new-skip}
 use Rattle.collect.specs.Cells.{cell}
-use Rattle.collect.specs.Chain.{Heap, holder, Proper, oldCell, SweptTo}
-use Rattle.collect.specs.Passes.{Begun}
+use Rattle.collect.specs.Heap.{Heap, holder, Proper}
+use Rattle.collect.specs.Chain.{oldCell, SweptTo}
+use Rattle.collect.specs.Phases.{Begun}
 use Rattle.meaning.proofs.sound.Fields.{Fields, cell-fields, cell-ends, cell-plain, full-ends, ends-full, ends-in}
 use Rattle.meaning.proofs.sound.Fields.{ends-down}
 use Rattle.meaning.proofs.Counting.{both-true}
-use Rattle.collect.proofs.Spots.{last-zero, whole-l, ahead-r, spot-ahead}
+use Rattle.collect.proofs.heap.Spots.{last-zero, whole-l, ahead-r, spot-ahead}
 
 -- ---- whether a number is in a list
 

@@ -1,30 +1,17 @@
 -- Laws that belong to no one function, for this crate's proofs and its callers'. In order:
---   Order      the order of the sweep
---   Places     where it puts the cells
---   Spots      the cells' fields, and where they stand
---   Mending    when a holder is mended
---   Undoing    the chain of a cell undone
---   Turning    its turn
---   Telling    what a chain tells
---   Swept      the store after all turns
+--   heap       the closed form of a store's cells while chains stand
+--   turn       one turn of the sweep in that form, and all of them
 --   Heaps      a sound store as what the sweep starts from
 --   Puts       cells after their words are put
---   Lowered    a cell's words, and a placed cell lowered
+--   chains, sweep, lower  what the functions make of the words
 --   Compacted  the passes one after the other, and the collected words
 --   Restored   the sweep that packs nothing
 --   Final      collecting's statement leaves no second outcome
 -- Assumes nothing.
-pub mod Order
-pub mod Places
-pub mod Spots
-pub mod Mending
-pub mod Undoing
-pub mod Turning
-pub mod Telling
-pub mod Swept
+pub mod heap
+pub mod turn
 pub mod Heaps
 pub mod Puts
-pub mod Lowered
 pub mod Compacted
 pub mod Restored
 pub mod Final

@@ -15,10 +15,10 @@ use Rattle.meaning.specs.Reach.{live}
 use Rattle.meaning.proofs.collected.Determined.{new-last}
 use Rattle.meaning.proofs.sound.Fields.{second-lt}
 use Rattle.collect.specs.Cells.{ChainCell, cell}
-use Rattle.collect.specs.Chain.{Heap}
+use Rattle.collect.specs.Heap.{Heap}
 use Rattle.collect.specs.Passes.{Sweeps}
-use Rattle.collect.proofs.Swept.{swept-kept}
-use Rattle.collect.proofs.Lowered.{fieldsOf}
+use Rattle.collect.proofs.turn.Swept.{swept-kept}
+use Rattle.collect.proofs.lower.Lowered.{fieldsOf}
 use Rattle.collect.proofs.Heaps.{heapOf, proper, old-cell, begun}
 
 module _ (ws : List ℕ) (top : ℕ) (s : S.Sound firstHeapCell ws top) (s₁ : List ℕ) (dead : ℕ)

@@ -1,7 +1,6 @@
--- What the functions of the collector ask for and leave, on words. A phase is a record over the heap g that the words
--- hold; a function is asked for some g in its phase, and leaves every such g in the next. In order: the sweep down
--- (linking, releasing, a cell's turn, the loops), then the pass up that lowers what the sweep has packed.
--- Assumes nothing.
+-- What the functions of the collector ask for and leave, on words: a function is asked for some heap in its phase, and
+-- leaves every such heap in the next. In order: a cell put down, the sweep, then the pass up that lowers what the sweep
+-- has packed. Assumes nothing.
 use mathlib.Core.Path.{_≡_}
 use mathlib.Core.Logic.{_≢_}
 use mathlib.Core.Bool.{Bool, true, false, cond}
@@ -13,16 +12,10 @@ use Rattle.words.specs.Cell.{firstWord, secondWord, putCell}
 use Rattle.words.specs.Second.{decode, plain, fullWord}
 use Rattle.meaning.specs.Limits.{firstHeapCell, limit}
 use Rattle.collect.specs.Cells.{linked, cell}
-use Rattle.collect.specs.Chain.{Heap, Proper, pos, place, SweptTo, Known}
+use Rattle.collect.specs.Heap.{Heap, pos}
+use Rattle.collect.specs.Chain.{SweptTo, Known}
 use Rattle.collect.specs.Step.{Laid, Linked, lowered}
-
--- The words s have room for the heap g, and every number of it fits 28 bits.
-pub record Frame (g : Heap) (s : List ℕ) : Type 0 where
-  pub proper : Proper g
-  pub first : g .F ≡ firstHeapCell
-  pub room : 2 * g .T ≤ length s
-  pub len : length s ≤ 2 * limit
-  pub small : (c : ℕ) → g .li c < 2 ^ 28
+use Rattle.collect.specs.Phases.{Sweeping, Turn, Head, Passed, Begun}
 
 -- a second word without mark and chains
 abbrev pub PlainWord : ℕ → Type 0
@@ -56,19 +49,7 @@ pub record Stood (s s′ : List ℕ) (m a w : ℕ) : Type 0 where
 
 -- ---- the sweep
 
--- the first j cells in order have had their turn
-pub record Sweeping (g : Heap) (s : List ℕ) (j : ℕ) : Type 0 where
-  pub frame : Frame g s
-  pub at : SweptTo g j j (cell s)
-
--- it is the turn of the reached cell c, whose second word is w, and whose place is `to`
-pub record Turn (g : Heap) (s : List ℕ) (c w to low : ℕ) : Type 0 where
-  pub phase : Sweeping g s (pos g c)
-  pub live : g .live c ≡ true
-  pub word : w ≡ secondWord s c
-  pub goes : to ≡ place g c
-  pub known : Known g (pos g c) (pos g c) low c
-
+-- a cell's turn
 abbrev pub MyTurn : List ℕ → ℕ → ℕ → ℕ → ℕ → Type 0
 MyTurn s c w to low = (g : Heap) × Turn g s c w to low
 
@@ -91,36 +72,14 @@ Untouched s = (g : Heap) × Sweeping g s 0
 abbrev pub HoldsRegisters : List ℕ → List ℕ → Type 0
 HoldsRegisters s s′ = (g : Heap) → Sweeping g s 0 → Sweeping g s′ (g .F)
 
--- It is the turn of c, which has a chain, and no cell below it is known. Its place is d higher.
-pub record Head (g : Heap) (s : List ℕ) (c w d : ℕ) : Type 0 where
-  pub phase : Sweeping g s (pos g c)
-  pub low : g .F ≤ c
-  pub high : c < g .T
-  pub chain : decode w .lc ≡ true
-  pub word : w ≡ secondWord s c
-  pub goes : place g c ≡ c + d
-  pub known : Known g (pos g c) (pos g c) (suc c) (suc c)
-
+-- a cell that has a chain, and with it the cells below that become known
 abbrev pub AtHead : List ℕ → ℕ → ℕ → ℕ → Type 0
 AtHead s c w d = (g : Heap) × Head g s c w d
-
--- The cells from r up to c are reached and have had their turn, and no cell below them is known.
-pub record Passed (g : Heap) (s : List ℕ) (c r : ℕ) : Type 0 where
-  pub phase : Sweeping g s (suc (pos g r))
-  pub low : g .F ≤ r
-  pub high : r ≤ c
-  pub live : (y : ℕ) → r ≤ y → y ≤ c → g .live y ≡ true
-  pub known : Known g (suc (pos g r)) (suc (pos g r)) r r
 
 abbrev pub Passes : List ℕ → List ℕ → ℕ → ℕ → ℕ → ℕ → Type 0
 Passes s s′ c w d r = (g : Heap) → Head g s c w d → Passed g s′ c r
 
--- the whole sweep over the heap cells below `top`, which gives the number of unreached ones
-pub record Begun (g : Heap) (s : List ℕ) (top : ℕ) (packs : Bool) : Type 0 where
-  pub phase : Sweeping g s 0
-  pub ends : g .T ≡ top
-  pub mode : g .packs ≡ packs
-
+-- the whole sweep, which gives the number of unreached heap cells below `top`
 abbrev pub Sweepable : List ℕ → ℕ → Bool → Type 0
 Sweepable s top packs = (g : Heap) × Begun g s top packs
 

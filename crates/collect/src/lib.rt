@@ -2,17 +2,18 @@
 // heap point down and registers never move, so one sweep down can find what is reached, link and mend; one pass up then
 // moves the cells.
 //
-//     Sound ──sweep──> Swept ──lower_heap──> Lowered ──lower_registers──> Settled ──clear──> Sound
+//     Sound ──Sweeps──> packed against `top` ──Lowers──> packed low ──Settles──> registers too ──Cleared──> Sound
 //
 // In the sweep a bracket is, in turn: as it was; on the chain of its right end, with its length less one in place of
 // its left end; off that chain, both ends mended. No cell is marked: what has a chain, or lies within a run, is
 // reached.
 //
-// Swept    the reached cells lie in order below `top`, without gaps, and both ends of a reference are where the cells
+// Sweeps   the reached cells lie in order below `top`, without gaps, and both ends of a reference are where the cells
 //          that it named lie now.
-// Lowered  they have moved down to the first heap cell, and their ends by as much.
-// Settled  so have the registers' ends.
-// The phases are definitions of specs/Chain.antt and specs/Passes.antt, and the loops' invariants.
+// Lowers   they have moved down to the first heap cell, and their ends by as much.
+// Settles  so have the registers' ends.
+// Cleared  the cells that have come free are zero.
+// Each is a definition of specs/Passes.antt; the phases within the sweep are in specs/Phases.antt.
 ghost use mathlib.Core.Path.{_≡_};
 ghost use Rattle.meaning.specs.Limits.{firstHeapCell};
 ghost use Rattle.meaning.specs.Sound.{Sound};

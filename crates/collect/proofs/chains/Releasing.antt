@@ -14,14 +14,16 @@ use Rattle.words.specs.Second.{Second, decode, withRi, withRc, withLc, bit}
 use Rattle.words.proofs.Cells.{putCell-length, firstWord-other, secondWord-same, secondWord-other}
 use Rattle.meaning.proofs.sound.Cells.{limit-fits}
 use Rattle.collect.specs.Cells.{Link, ChainCell, linked, cell, val, mk}
-use Rattle.collect.specs.Chain.{Heap, holder, pos, place, span, last, sweepCell, SweptTo}
+use Rattle.collect.specs.Heap.{Heap, holder, pos, place, span}
+use Rattle.collect.specs.Chain.{last, sweepCell, SweptTo}
 use Rattle.collect.specs.Step.{Unlinked}
-use Rattle.collect.specs.Passes.{Turn, MyTurn, Releases}
+use Rattle.collect.specs.Phases.{Turn}
+use Rattle.collect.specs.Passes.{MyTurn, Releases}
 use Rattle.meaning.proofs.Counting.{count, count-same, count-less-one}
-use Rattle.collect.proofs.Places.{place-up}
-use Rattle.collect.proofs.Spots.{next-l, spot-ahead}
-use Rattle.collect.proofs.Undoing.{Undone, chain-head, chain-end, unlink-hit, unlink-apart, unlink-low}
-use Rattle.collect.proofs.Undoing.{unlink-span, unlink-first}
+use Rattle.collect.proofs.heap.Places.{place-up}
+use Rattle.collect.proofs.heap.Spots.{next-l, spot-ahead}
+use Rattle.collect.proofs.turn.Undoing.{Undone, chain-head, chain-end, unlink-hit, unlink-apart, unlink-low}
+use Rattle.collect.proofs.turn.Undoing.{unlink-span, unlink-first}
 use Rattle.collect.proofs.Puts.{cell-put, cell-put-other, cell-put-own}
 
 -- the cells of s with the words a and b put back at m

@@ -15,13 +15,15 @@ use Rattle.words.specs.Second.{decode}
 use Rattle.meaning.specs.Limits.{firstHeapCell}
 use Rattle.meaning.proofs.sound.Cells.{limit-fits}
 use Rattle.collect.specs.Cells.{cell}
-use Rattle.collect.specs.Chain.{Heap, holder, Proper, pos, mended, Known}
-use Rattle.collect.specs.Passes.{Sweeping, HoldsRegisters, Head, AtHead, Passes, Begun, Sweeps}
-use Rattle.collect.proofs.Order.{pos-heap}
-use Rattle.collect.proofs.Places.{new-bound, new-run, place-lift}
-use Rattle.collect.proofs.Undoing.{Undone}
-use Rattle.collect.proofs.Turning.{dead-turn, known-on}
-use Rattle.collect.proofs.Telling.{dead-undone, is-live, is-dead}
+use Rattle.collect.specs.Heap.{Heap, holder, Proper, pos}
+use Rattle.collect.specs.Chain.{mended, Known}
+use Rattle.collect.specs.Phases.{Sweeping, Head, Begun}
+use Rattle.collect.specs.Passes.{HoldsRegisters, AtHead, Passes, Sweeps}
+use Rattle.collect.proofs.heap.Order.{pos-heap}
+use Rattle.collect.proofs.heap.Places.{new-bound, new-run, place-lift}
+use Rattle.collect.proofs.turn.Undoing.{Undone}
+use Rattle.collect.proofs.turn.Turning.{dead-turn, known-on}
+use Rattle.collect.proofs.turn.Telling.{dead-undone, is-live, is-dead}
 use Rattle.collect.proofs.sweep.Running.{chain-is, known-none}
 
 -- the number of turns that are over when the heap cells from c up have had theirs

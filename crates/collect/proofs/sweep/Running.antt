@@ -15,12 +15,14 @@ use Rattle.words.specs.Cell.{secondWord}
 use Rattle.words.specs.Second.{decode}
 use Rattle.meaning.proofs.sound.Cells.{limit-fits}
 use Rattle.collect.specs.Cells.{Link, ChainCell, cell}
-use Rattle.collect.specs.Chain.{Heap, holder, Proper, pos, place, last, mended, sweepCell, Known}
-use Rattle.collect.specs.Passes.{Sweeping, Turn, MyTurn, Turned, Head, AtHead, Passes}
-use Rattle.collect.proofs.Order.{pos-heap}
-use Rattle.collect.proofs.Places.{place-up, place-next}
-use Rattle.collect.proofs.Spots.{whole-l, spot-ahead}
-use Rattle.collect.proofs.Telling.{is-live}
+use Rattle.collect.specs.Heap.{Heap, holder, Proper, pos, place}
+use Rattle.collect.specs.Chain.{last, mended, sweepCell, Known}
+use Rattle.collect.specs.Phases.{Sweeping, Turn, Head}
+use Rattle.collect.specs.Passes.{MyTurn, Turned, AtHead, Passes}
+use Rattle.collect.proofs.heap.Order.{pos-heap}
+use Rattle.collect.proofs.heap.Places.{place-up, place-next}
+use Rattle.collect.proofs.heap.Spots.{whole-l, spot-ahead}
+use Rattle.collect.proofs.turn.Telling.{is-live}
 
 -- the chain flag of the cell whose turn it is
 pub chain-is : (g : Heap) (c : ℕ) {s : List ℕ} {w : ℕ} → Sweeping g s (pos g c) → w ≡ secondWord s c

@@ -15,15 +15,17 @@ use Rattle.words.specs.Second.{decode, full, fullWord}
 use Rattle.meaning.specs.Limits.{firstHeapCell}
 use Rattle.meaning.proofs.sound.Cells.{limit-fits}
 use Rattle.collect.specs.Cells.{Link, ChainCell, linked, cell, ptr}
-use Rattle.collect.specs.Chain.{Heap, holder, Proper, pos, turn, place, last, sweepCell, oldCell, SweptTo}
+use Rattle.collect.specs.Heap.{Heap, holder, Proper, pos, turn, place}
+use Rattle.collect.specs.Chain.{last, sweepCell, oldCell, SweptTo}
 use Rattle.collect.specs.Step.{Linked, Laid}
-use Rattle.collect.specs.Passes.{Frame, Linkable, Links, Standable, Stood, Sweeping}
-use Rattle.collect.specs.Passes.{Turn, MyTurn, Releases, Turned, Untouched, HoldsRegisters}
-use Rattle.collect.proofs.Order.{pos-reg, holder-full, holder-live, pos-holder, ri-other}
-use Rattle.collect.proofs.Places.{place-own, place-up}
-use Rattle.collect.proofs.Spots.{later-l, spot-ahead}
-use Rattle.collect.proofs.Turning.{own, turn-held, turn-laid, known-on}
-use Rattle.collect.proofs.Telling.{reg-undone}
+use Rattle.collect.specs.Phases.{Frame, Sweeping, Turn}
+use Rattle.collect.specs.Passes.{Linkable, Links, Standable, Stood, MyTurn, Releases, Turned, Untouched}
+use Rattle.collect.specs.Passes.{HoldsRegisters}
+use Rattle.collect.proofs.heap.Order.{pos-reg, holder-full, holder-live, pos-holder, ri-other}
+use Rattle.collect.proofs.heap.Places.{place-own, place-up}
+use Rattle.collect.proofs.heap.Spots.{later-l, spot-ahead}
+use Rattle.collect.proofs.turn.Turning.{own, turn-held, turn-laid, known-on}
+use Rattle.collect.proofs.turn.Telling.{reg-undone}
 use Rattle.collect.proofs.Puts.{cell-put, cell-put-other}
 
 -- ---- what `stand` leaves

@@ -14,14 +14,14 @@ use native.Mathlib.Decide.{decLt}
 use lib.Dec.{ltb, eqb}
 use borrow.Author.Tests.{eqb-true, lt-ltb, le-ltb, lt-leb}
 use Rattle.collect.specs.Cells.{ChainCell, val}
-use Rattle.collect.specs.Chain.{Heap, holder, Proper, pos, turn, place, span, last, mended}
-use Rattle.collect.specs.Chain.{sweepCell, oldCell, placedCell, SweptTo}
+use Rattle.collect.specs.Heap.{Heap, holder, Proper, pos, turn, place, span}
+use Rattle.collect.specs.Chain.{last, mended, sweepCell, oldCell, placedCell, SweptTo}
 use Rattle.meaning.proofs.Counting.{both-true}
-use Rattle.collect.proofs.Order.{pos-low, pos-free}
-use Rattle.collect.proofs.Places.{place-packed, place-kept, place-run}
-use Rattle.collect.proofs.Spots.{holds, last-zero, last-miss, past-l, past-r, other-l, other-r, whole-l, ahead-r}
-use Rattle.collect.proofs.Spots.{spot-past, spot-ahead}
-use Rattle.collect.proofs.Mending.{heldL-yes, heldR-yes}
+use Rattle.collect.proofs.heap.Order.{pos-low, pos-free}
+use Rattle.collect.proofs.heap.Places.{place-packed, place-kept, place-run}
+use Rattle.collect.proofs.heap.Spots.{holds, last-zero, last-miss, past-l, past-r, other-l, other-r, whole-l, ahead-r}
+use Rattle.collect.proofs.heap.Spots.{spot-past, spot-ahead}
+use Rattle.collect.proofs.heap.Mending.{heldL-yes, heldR-yes}
 
 pub last-none : (g : Heap) (c j : ℕ) → ((b : ℕ) → holder g b ≡ true → g .ri b ≢ c) → last g c j ≡ val (g .li c)
 last-none g c zero n = last-zero g c

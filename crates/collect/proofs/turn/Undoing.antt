@@ -14,16 +14,16 @@ use native.Mathlib.Decide.{decLt, ℕ-discrete}
 use lib.Dec.{eqb}
 use borrow.Author.Tests.{eqb-true, eq-eqb}
 use Rattle.collect.specs.Cells.{ChainCell, val}
-use Rattle.collect.specs.Chain.{Heap, holder, Proper, pos, turn, place, span, last, mended}
-use Rattle.collect.specs.Chain.{sweepL, sweepCell, oldCell, spot, Stands, SweptTo, Known}
+use Rattle.collect.specs.Heap.{Heap, holder, Proper, pos, turn, place, span}
+use Rattle.collect.specs.Chain.{last, mended, sweepL, sweepCell, oldCell, spot, Stands, SweptTo, Known}
 use Rattle.collect.specs.Step.{Unlinked}
 use Rattle.meaning.proofs.Counting.{both-true}
-use Rattle.collect.proofs.Order.{turn-pos, pos-turn, pos-other, pos-holder, holder-live, ri-other, ri-live}
-use Rattle.collect.proofs.Places.{place-own, place-up, place-run}
-use Rattle.collect.proofs.Spots.{holds, last-miss, ahead-r, next-l, later-l, past-l, past-r}
-use Rattle.collect.proofs.Spots.{other-l, other-r, spot-ahead, spot-past, spot-other}
-use Rattle.collect.proofs.Mending.{mended-same, mended-off, mended-yes, mended-no, heldL-same, heldR-same}
-use Rattle.collect.proofs.Mending.{heldL-yes, heldL-no, heldR-yes, heldR-no}
+use Rattle.collect.proofs.heap.Order.{turn-pos, pos-turn, pos-other, pos-holder, holder-live, ri-other, ri-live}
+use Rattle.collect.proofs.heap.Places.{place-own, place-up, place-run}
+use Rattle.collect.proofs.heap.Spots.{holds, last-miss, ahead-r, next-l, later-l, past-l, past-r}
+use Rattle.collect.proofs.heap.Spots.{other-l, other-r, spot-ahead, spot-past, spot-other}
+use Rattle.collect.proofs.heap.Mending.{mended-same, mended-off, mended-yes, mended-no, heldL-same, heldR-same}
+use Rattle.collect.proofs.heap.Mending.{heldL-yes, heldL-no, heldR-yes, heldR-no}
 
 module _ (g : Heap) (s : Proper g) (m : ℕ) where
   abbrev j : ℕ

@@ -16,9 +16,10 @@ use Rattle.words.specs.Second.{Second, full}
 use Rattle.words.proofs.Plain.{plain-word, plain-code}
 use Rattle.meaning.specs.Sound as S
 use Rattle.collect.specs.Cells.{ChainCell, cell, val, mk}
-use Rattle.collect.specs.Chain.{Heap, holder, place, placedCell}
+use Rattle.collect.specs.Heap.{Heap, holder, place}
+use Rattle.collect.specs.Chain.{placedCell}
 use Rattle.collect.specs.Step.{lowered}
-use Rattle.collect.proofs.Order.{holder-br, holder-full}
+use Rattle.collect.proofs.heap.Order.{holder-br, holder-full}
 
 -- its second word's fields
 abbrev pub fieldsOf : ChainCell → Second

@@ -13,11 +13,11 @@ use native.Mathlib.Decide.{decLt, ℕ-discrete}
 use lib.Dec.{ltb, eqb}
 use borrow.Author.Tests.{eqb-true, lt-ltb, le-ltb, eq-eqb, ne-eqb}
 use Rattle.collect.specs.Cells.{Link, val, ptr}
-use Rattle.collect.specs.Chain.{Heap, holder, Proper, pos, turn, place, last, heldL, heldR, sweepL, sweepR}
-use Rattle.collect.specs.Chain.{spot, Stands}
+use Rattle.collect.specs.Heap.{Heap, holder, Proper, pos, turn, place}
+use Rattle.collect.specs.Chain.{last, heldL, heldR, sweepL, sweepR, spot, Stands}
 use Rattle.meaning.proofs.Counting.{both-true}
-use Rattle.collect.proofs.Order.{pos-heap, turn-pos}
-use Rattle.collect.proofs.Places.{place-own, place-up, place-less}
+use Rattle.collect.proofs.heap.Order.{pos-heap, turn-pos}
+use Rattle.collect.proofs.heap.Places.{place-own, place-up, place-less}
 
 -- the cell at place x in the order is a holder of m
 abbrev pub holds : Heap → ℕ → ℕ → Bool

@@ -14,7 +14,7 @@ use native.Mathlib.Decide.{decLt}
 use lib.Dec.{ltb, eqb}
 use borrow.Author.Tests.{lt-ltb, le-ltb}
 use Rattle.words.specs.Second.{full}
-use Rattle.collect.specs.Chain.{Heap, holder, Proper, pos, turn}
+use Rattle.collect.specs.Heap.{Heap, holder, Proper, pos, turn}
 use Rattle.meaning.proofs.Counting.{both-true}
 
 -- ---- the order

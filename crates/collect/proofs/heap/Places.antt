@@ -14,7 +14,7 @@ use native.Mathlib.Omega.{arith}
 use native.Mathlib.Decide.{ℕ-discrete}
 use lib.Dec.{ltb}
 use borrow.Author.Tests.{lt-ltb, le-ltb}
-use Rattle.collect.specs.Chain.{Heap, holder, Proper, place, span}
+use Rattle.collect.specs.Heap.{Heap, holder, Proper, place, span}
 
 module _ (g : Heap) (s : Proper g) where
   -- ---- new addresses

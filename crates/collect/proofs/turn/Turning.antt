@@ -13,14 +13,14 @@ use native.Mathlib.Decide.{decLt, ℕ-discrete}
 use lib.Dec.{ltb, leb·suc-suc}
 use borrow.Author.Tests.{le-ltb, le-leb, lt-leb, ne-eqb}
 use Rattle.collect.specs.Cells.{ChainCell, val, mk}
-use Rattle.collect.specs.Chain.{Heap, holder, Proper, pos, turn, place, last, mended, heldL, heldR}
-use Rattle.collect.specs.Chain.{sweepCell, oldCell, spot, Stands, SweptTo, Known}
+use Rattle.collect.specs.Heap.{Heap, holder, Proper, pos, turn, place}
+use Rattle.collect.specs.Chain.{last, mended, heldL, heldR, sweepCell, oldCell, spot, Stands, SweptTo, Known}
 use Rattle.collect.specs.Step.{Laid, Linked}
-use Rattle.collect.proofs.Order.{turn-pos, pos-other, pos-holder, holder-live, ri-other, ri-live}
-use Rattle.collect.proofs.Places.{place-own}
-use Rattle.collect.proofs.Spots.{last-hit, last-miss, last-zero, ahead-r, next-l, later-l, whole-l}
-use Rattle.collect.proofs.Spots.{past-l, past-r, other-l, other-r, spot-ahead, spot-past, spot-same, spot-other}
-use Rattle.collect.proofs.Mending.{heldL-no, heldR-no}
+use Rattle.collect.proofs.heap.Order.{turn-pos, pos-other, pos-holder, holder-live, ri-other, ri-live}
+use Rattle.collect.proofs.heap.Places.{place-own}
+use Rattle.collect.proofs.heap.Spots.{last-hit, last-miss, last-zero, ahead-r, next-l, later-l, whole-l}
+use Rattle.collect.proofs.heap.Spots.{past-l, past-r, other-l, other-r, spot-ahead, spot-past, spot-same, spot-other}
+use Rattle.collect.proofs.heap.Mending.{heldL-no, heldR-no}
 
 module _ (g : Heap) (s : Proper g) (m : ℕ) where
   abbrev j : ℕ

@@ -11,7 +11,8 @@ use native.Mathlib.Omega.{arith}
 use lib.Dec.{leb}
 use borrow.Author.Tests.{le-ltb, lt-leb, le-leb}
 use Rattle.collect.specs.Cells.{val}
-use Rattle.collect.specs.Chain.{Heap, pos, place, span, last, mended, heldL, heldR}
+use Rattle.collect.specs.Heap.{Heap, pos, place, span}
+use Rattle.collect.specs.Chain.{last, mended, heldL, heldR}
 use Rattle.meaning.proofs.Counting.{leb-suc}
 
 module _ (g : Heap) (j : ℕ) where

@@ -9,10 +9,11 @@ use native.Mathlib.Omega.{arith}
 use native.Mathlib.Decide.{decLt, ℕ-discrete}
 use borrow.Author.Tests.{lt-leb, lt-ltb}
 use Rattle.collect.specs.Cells.{ChainCell}
-use Rattle.collect.specs.Chain.{Heap, holder, Proper, pos, last, mended, Known}
-use Rattle.collect.proofs.Order.{pos-reg, pos-heap, holder-low, ri-live}
-use Rattle.collect.proofs.Spots.{last-some}
-use Rattle.collect.proofs.Undoing.{Undone, unlink-none, chain-head}
+use Rattle.collect.specs.Heap.{Heap, holder, Proper, pos}
+use Rattle.collect.specs.Chain.{last, mended, Known}
+use Rattle.collect.proofs.heap.Order.{pos-reg, pos-heap, holder-low, ri-live}
+use Rattle.collect.proofs.heap.Spots.{last-some}
+use Rattle.collect.proofs.turn.Undoing.{Undone, unlink-none, chain-head}
 
 module _ (g : Heap) (s : Proper g) (m : ℕ) where
   abbrev j : ℕ
