@@ -19,7 +19,8 @@ use Rattle.collect.specs.Chain.{last, mended, sweepCell, oldCell, placed
 use Rattle.meaning.proofs.Counting.{both-true}
 use Rattle.collect.proofs.heap.Order.{pos-low, pos-free}
 use Rattle.collect.proofs.heap.Places.{place-packed, place-kept, place-run}
-use Rattle.collect.proofs.heap.Spots.{holds, last-zero, last-miss, past-l, past-r, other-l, other-r, whole-l, ahead-r}
+use Rattle.collect.proofs.heap.Spots.{holds, last-zero, last-miss, past-l, past-r, other-l, other-r, whole-l}
+use Rattle.collect.proofs.heap.Spots.{ahead-r}
 use Rattle.collect.proofs.heap.Spots.{spot-past, spot-ahead}
 use Rattle.collect.proofs.heap.Mending.{heldL-yes, heldR-yes}
 

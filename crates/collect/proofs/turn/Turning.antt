@@ -19,7 +19,8 @@ use Rattle.collect.specs.Step.{Laid, Linked}
 use Rattle.collect.proofs.heap.Order.{turn-pos, pos-other, pos-holder, holder-live, ri-other, ri-live}
 use Rattle.collect.proofs.heap.Places.{place-own}
 use Rattle.collect.proofs.heap.Spots.{last-hit, last-miss, last-zero, ahead-r, next-l, later-l, whole-l}
-use Rattle.collect.proofs.heap.Spots.{past-l, past-r, other-l, other-r, spot-ahead, spot-past, spot-same, spot-other}
+use Rattle.collect.proofs.heap.Spots.{past-l, past-r, other-l, other-r, spot-ahead, spot-past, spot-same}
+use Rattle.collect.proofs.heap.Spots.{spot-other}
 use Rattle.collect.proofs.heap.Mending.{heldL-no, heldR-no}
 
 module _ (g : Heap) (s : Proper g) (m : ℕ) where
