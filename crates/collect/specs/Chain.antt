@@ -1,5 +1,5 @@
--- A sound store apart from its words, and its cells in closed form while the sweep links and mends them (000, 3.2 to
--- 3.5). A holder of cell k is a register or reached cell, a bracket with contents, whose right end is k. The chain of k
+-- A sound store apart from its words, and its cells in closed form while the sweep links and mends them (SCOPE 3.4).
+-- A holder of cell k is a register or reached cell, a bracket with contents, whose right end is k. The chain of k
 -- starts in k's left field, runs through the right fields of k's holders, from the last linked to the first, and ends
 -- in k's own left end or code. In order:
 --   Heap       the store

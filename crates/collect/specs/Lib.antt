@@ -3,7 +3,7 @@
 --   Chain    the cells in closed form while chains stand
 --   Step     what one step makes of them
 --   Passes   what the passes ask for and leave
---   Answers  document 01's number and values for each case of the answer
+--   Answers  SCOPE's number and values for each case of the answer
 --   Unique   the claim that collecting's statement leaves no second outcome
 -- Assumes nothing.
 pub mod Cells

@@ -1,5 +1,5 @@
--- One call: the table of operand words, what each operation does to the words, and the rule for room ("Calls",
--- "Numbers that come back"). A call is planned on the store as lent: to act in the store as it is, in the store
+-- One call: the table of operand words, what each operation does to the words, and the rule for room (SCOPE 4).
+-- A call is planned on the store as lent: to act in the store as it is, in the store
 -- collected, or where there is room for n new cells. An action says what it does to the words, and `carry` alone has
 -- the rule for room. Assumes nothing.
 use mathlib.Core.Bool.{Bool, true, false, cond, _&&_, _||_}

@@ -1,5 +1,5 @@
 -- Verdicts, and the public functions that work on a store alone: the check, a fresh store, collecting, the look
--- ("Numbers that come back"). The tests are chains of `cond` in the order in which the code makes them.
+-- (SCOPE 5.1 to 5.5). The tests are chains of `cond` in the order in which the code makes them.
 -- Assumes nothing.
 use mathlib.Core.Bool.{Bool, true, false, cond}
 use mathlib.Core.List.{List, [], _∷_, _++_}
