@@ -1,4 +1,4 @@
-// Building: what a call that lays new cells does, in the order of document 01. Room is made for them, they are laid
+// Building: what a call that lays new cells does, in the order of SCOPE 4.2. Room is made for them, they are laid
 // from `top` upward, and a register is set to them. For the calls, and for whoever else lays cells in a store.
 pub mod cells;
 pub mod laying;

@@ -1,4 +1,4 @@
--- Numbers in decimal, as bytes ("one line `status value` a call, then `top N`"). Assumes nothing.
+-- Numbers in decimal, as bytes (SCOPE 6.3). Assumes nothing.
 use mathlib.Core.Bool.{true, false}
 use mathlib.Core.List.{List, [], _∷_, _++_}
 use Prim.Native.Nat.{ℕ, zero, suc, _+_, _/_, _%_}

@@ -1,4 +1,4 @@
--- Words as little-endian bytes ("a little-endian word for the capacity"). Assumes nothing.
+-- Words as little-endian bytes (SCOPE 6.1). Assumes nothing.
 use mathlib.Core.List.{List, [], _∷_}
 use Prim.Native.Nat.{ℕ, _+_, _*_, _/_, _%_}
 

@@ -1,5 +1,5 @@
--- One call's answer and a batch's, as the definitions have them: document 01's number and values for each case
--- ("Numbers that come back").
+-- One call's answer and a batch's, as the definitions have them: SCOPE's number and values for each case
+-- (4.5, 4.6, 5.1).
 -- Assumes nothing.
 use mathlib.Core.Path.{_≡_}
 use mathlib.Core.List.{List}

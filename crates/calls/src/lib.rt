@@ -1,5 +1,5 @@
 // A batch of calls on a lent store. The store, the call list and the answer space are tested first, in the order of
-// document 01, and a refused batch leaves everything as it is lent. Else each call is carried out after the one before
+// SCOPE 5.1, and a refused batch leaves everything as it is lent. Else each call is carried out after the one before
 // it, and its status and value are written into the answers; what is left of the answers is zeroed.
 ghost use mathlib.Core.Path.{_≡_};
 ghost use Prim.Native.Nat.{_+_, _*_, _/_, _%_, _≤_, _<_};

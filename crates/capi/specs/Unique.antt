@@ -1,4 +1,4 @@
--- The claims that a statement of this crate leaves no second outcome ("What the proofs have to nail"): the answer, and
+-- The claims that a statement of this crate leaves no second outcome (SCOPE 8.5): the answer, and
 -- every word of the slices lent. Proved in proofs/Final.antt.
 -- Assumes nothing.
 use mathlib.Core.Path.{_≡_}

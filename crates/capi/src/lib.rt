@@ -1,5 +1,5 @@
 // The store for C and Rust. A slice crosses as a pointer and a count of words. No enum and no slice can come back: an
-// answer is a struct of document 01's numbers, and a look is a place. Each exported function is one call of a proved
+// answer is a struct of SCOPE's numbers (5), and a look is a place. Each exported function is one call of a proved
 // one, and takes whatever it is handed.
 use calls::Ran;
 use collect::Collected;

@@ -1,4 +1,4 @@
--- The claim of specs/Unique.antt: the answer is got back from what document 01 says of it. Assumes nothing.
+-- The claim of specs/Unique.antt: the answer is got back from what SCOPE says of it. Assumes nothing.
 use mathlib.Core.Path.{_≡_, refl, sym, ap, _∙_}
 use mathlib.Core.List.{List}
 use Prim.Native.Nat.{ℕ}

@@ -1,4 +1,4 @@
--- Document 01's number and values for each case of collecting's answer ("Also public: .. collecting alone").
+-- SCOPE's number and values for each case of collecting's answer (5.4).
 -- Assumes nothing.
 use mathlib.Core.List.{List}
 use Prim.Native.Nat.{ℕ}

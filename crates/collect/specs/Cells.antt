@@ -1,4 +1,4 @@
--- A cell as the chains see it: two flags and two links, each an address or other number with its chain flag (000, 3.2).
+-- A cell as the chains see it: two flags and two links, each an address or other number and its chain flag (SCOPE 3.4).
 -- Assumes nothing.
 use mathlib.Core.Bool.{Bool, true, false}
 use mathlib.Core.List.{List}

@@ -1,4 +1,4 @@
--- The cells in closed form while the sweep links and mends them (000, 3.2 to 3.5). The chain of k starts in k's left
+-- The cells in closed form while the sweep links and mends them (SCOPE 3.4). The chain of k starts in k's left
 -- field, runs through the right fields of k's holders, from the last linked to the first, and ends in k's own left end
 -- or code. In order:
 --   last       the chain of a cell, from its head;  mended  whether a holder is off its chain

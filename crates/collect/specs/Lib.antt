@@ -5,7 +5,7 @@
 --   Step     what one step makes of them
 --   Phases   the phases of the sweep
 --   Passes   what the functions ask for and leave
---   Answers  document 01's number and values for each case of the answer
+--   Answers  SCOPE's number and values for each case of the answer
 --   Unique   the claim that collecting's statement leaves no second outcome
 -- Assumes nothing.
 pub mod Cells

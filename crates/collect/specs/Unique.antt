@@ -1,4 +1,4 @@
--- The claim that collecting's statement leaves no second outcome ("What the proofs have to nail"). Proved in
+-- The claim that collecting's statement leaves no second outcome (SCOPE 8.5). Proved in
 -- proofs/Final.antt.
 -- Assumes nothing.
 use mathlib.Core.Path.{_≡_}

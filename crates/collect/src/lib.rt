@@ -1,4 +1,4 @@
-// The collector by chains (000, 3.2 to 3.5), in place, without a second array and without recursion. References in the
+// The collector by chains (SCOPE 3.4), in place, without a second array and without recursion. References in the
 // heap point down and registers never move, so one sweep down can find what is reached, link and mend; one pass up then
 // moves the cells.
 //

@@ -1,5 +1,5 @@
 -- What each operation does to the words, where it acts: an action takes the words and `top`, and leaves them with a
--- verdict ("Calls"). Assumes nothing.
+-- verdict (SCOPE 4.2). Assumes nothing.
 use mathlib.Core.Bool.{cond}
 use mathlib.Core.List.{List}
 use Prim.Native.Nat.{ℕ, zero, suc, _+_, _-_}

@@ -1,4 +1,4 @@
--- A batch of calls as it is lent: the store, `top`, the call list and the answer space ("Numbers that come back").
+-- A batch of calls as it is lent: the store, `top`, the call list and the answer space (SCOPE 5.1, 5.6).
 -- Assumes nothing.
 use mathlib.Core.Path.{_≡_}
 use mathlib.Core.Bool.{Bool, false, cond}

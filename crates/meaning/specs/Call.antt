@@ -1,4 +1,4 @@
--- One call ("Calls"). It is planned on the store as lent: to act in the store as it is, in the store collected, or
+-- One call (SCOPE 4). It is planned on the store as lent: to act in the store as it is, in the store collected, or
 -- where there is room for n new cells. `carryOut` alone has the rule for room. Assumes nothing.
 use mathlib.Core.Bool.{Bool, true, cond}
 use mathlib.Core.List.{List}

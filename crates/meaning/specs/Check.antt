@@ -1,4 +1,4 @@
--- The check, and collecting alone, which refuses what it refuses ("Numbers that come back"). The tests are chains of
+-- The check, and collecting alone, which refuses what it refuses (SCOPE 5.1, 5.2, 5.4). The tests are chains of
 -- `cond` in the order in which the code makes them. Assumes nothing.
 use mathlib.Core.Bool.{Bool, true, false, cond}
 use mathlib.Core.List.{List}

@@ -1,4 +1,4 @@
--- The store that collecting leaves, word for word ("What a store means").
+-- The store that collecting leaves, word for word (SCOPE 3.1).
 -- Assumes nothing.
 use mathlib.Core.Bool.{Bool, true, false}
 use mathlib.Core.List.{List, [], _∷_, _++_}

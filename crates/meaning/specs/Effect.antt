@@ -1,4 +1,4 @@
--- What a call does, in expressions: the table of "Calls", and the order of its statuses. `e` has the expression that
+-- What a call does, in expressions: the table of SCOPE 4.1, and the order of 4.5. `e` has the expression that
 -- each register denotes before the call, `fs` what else it may depend on. Assumes nothing.
 use mathlib.Core.Bool.{Bool, true, false, cond}
 use mathlib.Core.List.{List}

@@ -1,6 +1,6 @@
 -- Expressions: nothing, or a first term and the rest. A term is a symbol, by its code, or a pair of parentheses around
 -- an expression. (First term and rest in one type, since a list of terms inside a term is not to be had.)
--- Assumes nothing.
+-- SCOPE 2.1. Assumes nothing.
 use Prim.Native.Nat.{ℕ, zero, suc}
 
 pub data Expr : Type 0 where

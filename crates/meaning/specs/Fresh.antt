@@ -1,4 +1,4 @@
--- A fresh store: every register empty, nothing occupied ("Numbers that come back"). Assumes nothing.
+-- A fresh store: every register empty, nothing occupied (SCOPE 1.5, 5.3). Assumes nothing.
 use mathlib.Core.Bool.{cond}
 use mathlib.Core.List.{List, [], _∷_, _++_}
 use Prim.Native.Nat.{ℕ, zero, suc, _-_, _*_}

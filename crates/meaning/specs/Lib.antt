@@ -1,4 +1,4 @@
--- What has to be believed of the store, in the words of document 01. In order:
+-- What has to be believed of the store, in SCOPE's words. In order:
 --   Limits     the numbers
 --   Expr       expressions
 --   Sound      cells, their two words, and what makes a store sound

@@ -8,7 +8,7 @@ use lib.Dec.{leb}
 abbrev pub firstHeapCell : ℕ
 firstHeapCell = 16
 
--- The greatest capacity of a store, in cells. No law unfolds it but the one that bounds it.
+-- The greatest capacity of a store, in cells. `limit-fits` bounds it; length_ok, program-cells and Worked unfold it.
 unfoldable pub limit : ℕ
 limit = 4096
 

@@ -1,4 +1,4 @@
--- The look: the part of the lent store that holds a register's cells ("Numbers that come back"). Assumes nothing.
+-- The look: the part of the lent store that holds a register's cells (SCOPE 5.5). Assumes nothing.
 use mathlib.Core.Bool.{cond}
 use mathlib.Core.List.{List}
 use Prim.Native.Nat.{ℕ, _+_, _-_, _*_}

@@ -1,4 +1,4 @@
--- The expression that a register denotes ("What a store means").
+-- The expression that a register denotes (SCOPE 2.2).
 -- Assumes nothing.
 use mathlib.Core.List.{List}
 use Prim.Native.Nat.{ℕ, zero, suc, _-_}

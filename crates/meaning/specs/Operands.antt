@@ -1,5 +1,5 @@
--- The twelve operations, the table of their operand words, and what is wrong with a call's own words ("Calls",
--- "Numbers that come back"). Assumes nothing.
+-- The twelve operations, the table of their operand words, and what is wrong with a call's own words (SCOPE 4.1,
+-- 4.5). Assumes nothing.
 use mathlib.Core.Bool.{Bool, true, false, cond, _&&_, _||_}
 use mathlib.Core.List.{List, [], _∷_}
 use Prim.Native.Nat.{ℕ, _+_, _*_}

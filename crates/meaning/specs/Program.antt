@@ -1,4 +1,4 @@
--- What the program writes for what it reads, byte for byte ("The program reads standard input").
+-- What the program writes for what it reads, byte for byte (SCOPE 6).
 -- Assumes nothing.
 use mathlib.Core.Bool.{cond, _||_}
 use mathlib.Core.List.{List, [], _∷_, _++_}

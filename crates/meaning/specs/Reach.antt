@@ -1,4 +1,4 @@
--- Which heap cells are reached, by the wording and as a list that is computed; live ("What a store means").
+-- Which heap cells are reached, by the wording and as a list that is computed; live (SCOPE 2.3).
 -- Assumes nothing.
 use mathlib.Core.Bool.{Bool, true, false, _&&_, _||_}
 use mathlib.Core.List.{List, [], _∷_}

@@ -1,4 +1,4 @@
--- Stores to try, P1 to P8, as one table with one test of a row. The rows are for a heap that begins at cell F.
+-- The rows of SCOPE 7.1, P1 to P8, as one table with one test of a row. The rows are for a heap that begins at cell F.
 -- Assumes nothing.
 use mathlib.Core.Bool.{Bool, true, false, _&&_}
 use mathlib.Core.List.{List, [], _∷_, _++_}
@@ -59,7 +59,7 @@ p1Lines =
     48 ∷
     10 ∷ 49 ∷ 54 ∷ 32 ∷ 48 ∷ 10 ∷ 48 ∷ 32 ∷ 48 ∷ 10 ∷ 48 ∷ 32 ∷ 51 ∷ 10 ∷ 116 ∷ 111 ∷ 112 ∷ 32 ∷ []
 
--- (B C D)(A B C) of 001, section 2, before and after it is collected
+-- (B C D)(A B C) of Abramov and Romanenko 1988, 2.2, before and after it is collected
 unfoldable pub p2 : ℕ → List ℕ
 p2 F =
     (5 + F) ∷ bracketTo (6 + F) ∷ emptyRegisters (F - 1) ++
@@ -105,7 +105,7 @@ rows F =
     runsTo (lone F 7) (1 + F) (5 ∷ 0 ∷ 0 ∷ 0 ∷ []) (0 ∷ 0 ∷ []) (lone F 7) (1 + F) ∷
     -- P8
     runsTo (fresh F F) F (12 ∷ 99 ∷ 0 ∷ 0 ∷ []) (10 ∷ 0 ∷ []) (fresh F F) F ∷
-    -- of the rows marked "run only": CLEAR of the last register, of one more, and with a third word of 1
+    -- of the rows of SCOPE 7.2: CLEAR of the last register, of one more, and with a third word of 1
     runsTo (fresh F F) F (0 ∷ (F - 1) ∷ 0 ∷ 0 ∷ 0 ∷ F ∷ 0 ∷ 0 ∷ 0 ∷ 0 ∷ 1 ∷ 0 ∷ []) (0 ∷ 0 ∷ 11 ∷ 0 ∷ 12 ∷ 0 ∷ [])
     (fresh F F) F ∷ []
 

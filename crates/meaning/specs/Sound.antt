@@ -1,4 +1,4 @@
--- A store's cells, and what makes a store sound ("The store, word by word").
+-- A store's cells, and what makes a store sound (SCOPE 1.1 to 1.4).
 -- `top` is the first cell that is not occupied, F the first heap cell: the registers are cells 0 to F - 1.
 -- Assumes nothing.
 use mathlib.Core.Path.{_≡_}

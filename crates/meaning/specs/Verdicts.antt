@@ -1,4 +1,4 @@
--- Verdicts: the numbers that come back, alone and with the store as it is left ("Numbers that come back").
+-- Verdicts: the numbers that come back, alone and with the store as it is left (SCOPE 4.6, 5.1).
 -- Assumes nothing.
 use mathlib.Core.List.{List}
 use Prim.Native.Nat.{ℕ, zero, suc}

@@ -1,4 +1,4 @@
--- Demand 3: collections never show ("What the proofs have to nail"). Two sound stores of equal capacity that are
+-- Demand 3: collections never show (SCOPE 8.3, 8.4). Two sound stores of equal capacity that are
 -- alike, given lists of requests that are equal once COLLECT is struck out, each list cut into batches in its own way,
 -- none of them refused: all other answers are equal, and one more collection of each makes the stores equal word for
 -- word. Assumes nothing.

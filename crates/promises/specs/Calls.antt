@@ -1,6 +1,6 @@
 -- Demand 2, calls: on a sound store each call, whatever its four words are, does to the registers what it says of
--- expressions, with the status, the value, the `top` and the words that document 01 gives it ("Calls", "Numbers that
--- come back"). Assumes nothing.
+-- expressions, with the status, the value, the `top` and the words that SCOPE gives it (4.1 to 4.6, 5.6;
+-- 8.2). Assumes nothing.
 use mathlib.Core.Path.{_≡_}
 use mathlib.Core.Logic.{_⊎_, _≢_}
 use mathlib.Core.Bool.{Bool, false, cond}

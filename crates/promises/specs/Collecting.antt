@@ -1,6 +1,6 @@
 -- Demand 2, collecting: exactly the reached cells are kept, in their old order, packed from the first heap cell on,
 -- with both ends of every reference moved and sharing kept; the rest is zero, and every register denotes what it did
--- ("What a store means"). Assumes nothing.
+-- (SCOPE 3.1, 3.2; 8.2). Assumes nothing.
 use mathlib.Core.Path.{_≡_}
 use mathlib.Core.List.{List}
 use Prim.Native.Nat.{ℕ, _+_, _-_, _≤_, _<_}

@@ -1,4 +1,4 @@
--- The claims that a customer reads, over the definitions of `meaning` alone; proofs/Final.antt proves each. In order:
+-- The claims that a customer reads, over `words`, `bytes` and `meaning` alone; proofs/Final.antt proves each. In order:
 --   Table       demand 1: every answer is from its table, and a refusal leaves everything as it was lent
 --   Requests    what may be asked of a store, and what is answered
 --   Collecting  demand 2: what a collection keeps, and where

@@ -1,5 +1,5 @@
--- Demand 1: whatever words are handed in, each public function answers with a number from its table ("Numbers that come
--- back"), in the table's order, and a refusal leaves everything as it was lent.
+-- Demand 1: whatever words are handed in, each public function answers with a number from its table (SCOPE 4.5, 5),
+-- in the table's order, and a refusal leaves everything as it was lent.
 -- Assumes nothing.
 use mathlib.Core.Path.{_≡_}
 use mathlib.Core.Logic.{_⊎_, _≢_}

@@ -1,4 +1,4 @@
--- The claims of specs/Unique.antt. Each answer is got back from what document 01 says of it, by a function on the left
+-- The claims of specs/Unique.antt. Each answer is got back from what SCOPE says of it, by a function on the left
 -- of its statement.
 -- Assumes nothing.
 use mathlib.Core.Path.{_≡_, refl, sym, ap, _∙_}

@@ -1,4 +1,4 @@
--- Document 01's number and values for each case of an answer ("Numbers that come back").
+-- SCOPE's number and values for each case of an answer (5.1 to 5.5).
 -- Assumes nothing.
 use mathlib.Core.Path.{_≡_}
 use mathlib.Core.List.{List}

@@ -1,4 +1,4 @@
--- The claims that a statement of this crate leaves no second outcome ("What the proofs have to nail"), and that `look`
+-- The claims that a statement of this crate leaves no second outcome (SCOPE 8.5), and that `look`
 -- shows the words of the place that `span` names. Proved in proofs/Final.antt.
 -- Assumes nothing.
 use mathlib.Core.Path.{_≡_}

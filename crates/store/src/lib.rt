@@ -1,5 +1,5 @@
 // A store lent as a slice of words: its check, a fresh store, a look at a register; and, for the crates above, what a
-// cell of a sound store holds. The numbers of document 01 that an answer stands for are in specs/Answers.antt.
+// cell of a sound store holds. The numbers of SCOPE 5.1 that an answer stands for are in specs/Answers.antt.
 ghost use mathlib.Core.Path.{_≡_};
 ghost use Prim.Native.Nat.{_+_, _*_, _≤_, _<_};
 ghost use lib.Dec.{eqb};

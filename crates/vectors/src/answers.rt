@@ -1,4 +1,4 @@
-// Document 01's numbers for the answers, in code: status, value and `top`.
+// SCOPE's numbers for the answers (5.1), in code: status, value and `top`.
 use calls::Ran;
 use store::Checked;
 use store::Made;

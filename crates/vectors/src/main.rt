@@ -1,4 +1,4 @@
-// The rows marked "run only" in document 01, and more at every edge. Each row writes a line: its name, then the number
+// The rows of SCOPE 7.2, and more at every edge. Each row writes a line: its name, then the number
 // and the value that came back, then `top`, then the answers or words that it is about.
 mod answers;
 mod batches;

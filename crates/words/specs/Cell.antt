@@ -1,14 +1,14 @@
--- The two words of a cell of a store, read and replaced. Cell c is words 2c and 2c + 1 ("The store, word by word").
+-- The two words of a cell of a store, read and replaced. Cell c is words 2c and 2c + 1 (SCOPE 1.1).
 -- Assumes nothing.
 use mathlib.Core.List.{List}
 use Prim.Native.Nat.{ℕ, _+_, _*_}
 use lib.ListN.{getD, set}
 
--- its first word, li of 000
+-- its first word, li (SCOPE 1.2)
 abbrev pub firstWord : List ℕ → ℕ → ℕ
 firstWord ws c = getD ws (2 * c) 0
 
--- its second word, with the fields br, used, lc, rc and ri of 000
+-- its second word, with the fields br, used, lc, rc and ri
 abbrev pub secondWord : List ℕ → ℕ → ℕ
 secondWord ws c = getD ws (2 * c + 1) 0
 

@@ -1,5 +1,5 @@
--- A cell's second word as a record of its five fields, and the two ways between them ("The store, word by word";
--- 000, 3.1). Assumes nothing.
+-- A cell's second word as a record of its five fields, and the two ways between them (SCOPE 1.2; Abramov and
+-- Romanenko 1988, 3.1). Assumes nothing.
 use mathlib.Core.Bool.{Bool, true, false, not, _&&_}
 use Prim.Native.Nat.{ℕ, _+_, _*_, _/_, _%_, _^_}
 use lib.Dec.{eqb}

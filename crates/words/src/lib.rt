@@ -60,7 +60,7 @@ pub fn set_left_chain(w: u32) -> u32
     w | LEFT_CHAIN
 }
 
-// Two steps of a chain hand a link, an address with its chain flag, from one field to another (000, 3.4).
+// Two steps of a chain hand a link, an address with its chain flag, from one field to another (SCOPE 3.4).
 
 // w with the right end a, chained on if the left end of the cell with the second word b was: lc(b) becomes rc(w).
 pub fn take_left_link(w: u32, a: u32, b: u32) -> u32

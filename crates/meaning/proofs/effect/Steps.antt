@@ -142,7 +142,7 @@ module _ (F : ℕ) (ws : List ℕ) (top : ℕ) (p : 0 < F) (s : Sound F ws top) 
   perform-meets o q =
       carry-meets F ws top p s (does o e fs d a b) (unfit-small o e fs d a b) (planOf o F ws top d a b) (plan-does o q)
 
-  -- ---- the rule for room, in the paper's words: F + live for room + need exceeds the capacity
+  -- ---- the rule for room, in the words of SCOPE 4.4: F + live for room + need exceeds the capacity
 
   abbrev short : Op → ℕ → Bool
   short o n = ltb (capacity ws) (F + live F (soughtBy o d a b ws) top + n)

@@ -1,4 +1,4 @@
--- Stores are alike, in document 01's words, exactly when their canonical words are equal, and so exactly when
+-- Stores are alike, in the words of SCOPE 8.4, exactly when their canonical words are equal, and so exactly when
 -- collecting makes them equal. Assumes nothing.
 use mathlib.Core.Path.{_≡_, refl, sym, ap, ap₂, _∙_, subst}
 use mathlib.Core.Logic.{_⊎_, inl, inr}

@@ -1,4 +1,4 @@
--- Demand 2, calls: what `meaning` shows of a call through its plan, in document 01's words; and a batch, call by call.
+-- Demand 2, calls: what `meaning` shows of a call through its plan, in the words of SCOPE 4; and a batch, call by call.
 -- Assumes nothing.
 use mathlib.Core.Path.{_≡_, refl, sym, ap, _∙_, subst}
 use mathlib.Core.Logic.{_≢_}
