@@ -8,7 +8,7 @@ use native.Mathlib.Nat.{add-zero}
 use native.Mathlib.Omega.{arith}
 use lib.ListN.{length, getD}
 use Rattle.meaning.specs.Operands.{uses, opAt, names, isOperand}
-use Rattle.meaning.proofs.operands.Uses.{index-opAt}
+use Rattle.meaning.proofs.operands.Uses.{index-opAt, three}
 
 abbrev pub rows : List ℕ → List (List ℕ)
 rows [] = []
@@ -32,13 +32,10 @@ rows-at (x ∷ y ∷ z ∷ xs) (suc o) k h l =
 -- ---- a test over the three words of a call
 
 module _ (o d a b : ℕ) where
-  abbrev pub three : (ℕ → ℕ → Bool) → Bool
-  three wrong = wrong (getD uses (3 * o) 0) d || wrong (getD uses (3 * o + 1) 0) a || wrong (getD uses (3 * o + 2) 0) b
-
   -- from the row that was read
   pub three-read : (wrong : ℕ → ℕ → Bool) {x y z r : Bool} → 3 * o + 2 < length uses
       → x ≡ wrong (getD (getD (rows uses) o []) 0 0) d → y ≡ wrong (getD (getD (rows uses) o []) 1 0) a
-      → z ≡ wrong (getD (getD (rows uses) o []) 2 0) b → r ≡ (x || y || z) → three wrong ≡ r
+      → z ≡ wrong (getD (getD (rows uses) o []) 2 0) b → r ≡ (x || y || z) → three wrong o d a b ≡ r
   three-read wrong h p q t k =
       let u = rows-at uses o 0 h (omega arith) in
       let v = rows-at uses o 1 h (omega arith) in

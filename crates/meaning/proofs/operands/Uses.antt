@@ -8,7 +8,7 @@ use native.Mathlib.Omega.{arith}
 use lib.Dec.{ltb, eqb}
 use lib.ListN.{getD}
 use native.Mathlib.Nat.{eq-or-lt-of-le, le-of-suc-le-suc}
-use borrow.Author.Tests.{leb-false, ltb-false, eqb-true, eq-eqb}
+use borrow.Author.Tests.{leb-false, ltb-true, ltb-false, eqb-true, eq-eqb}
 use Rattle.meaning.specs.Limits.{codeTest}
 use Rattle.meaning.specs.Sound.{IsCode}
 use Rattle.meaning.specs.Operands.{Op, ops, opAt, uses, index, useD, useA, useB, names, isOperand, wrong11}
@@ -36,15 +36,49 @@ pub index-opAt : (o : ℕ) → o < 12 → index (opAt o) ≡ o
 unfolding opAt ops
 index-opAt o h = eqb-true (index (opAt o)) o (all-at (λ x. eqb (index (opAt x)) x) 12 o refl h)
 
+-- ---- what is wrong with a call's own words, by cases
+
+-- a test over the three words of a call
+abbrev pub three : (ℕ → ℕ → Bool) → ℕ → ℕ → ℕ → ℕ → Bool
+three wrong o d a b =
+    wrong (getD uses (3 * o) 0) d || wrong (getD uses (3 * o + 1) 0) a || wrong (getD uses (3 * o + 2) 0) b
+
+pub data Faults (F o d a b : ℕ) : ℕ → Type 0 where
+  ten : 11 < o → Faults F o d a b 10
+  eleven : o ≤ 11 → three (wrong11 F) o d a b ≡ true → Faults F o d a b 11
+  twelve : o ≤ 11 → three (wrong11 F) o d a b ≡ false → three wrong12 o d a b ≡ true → Faults F o d a b 12
+  thirteen : o ≤ 11 → three (wrong11 F) o d a b ≡ false → three wrong12 o d a b ≡ false
+      → three wrong13 o d a b ≡ true → Faults F o d a b 13
+  none : o ≤ 11 → three (wrong11 F) o d a b ≡ false → three wrong12 o d a b ≡ false
+      → three wrong13 o d a b ≡ false → Faults F o d a b 0
+
+pub faults : (F o d a b : ℕ) → Faults F o d a b (fault F o d a b)
+unfolding fault
+faults F o d a b =
+    go (ltb 11 o) (three (wrong11 F) o d a b) (three wrong12 o d a b) (three wrong13 o d a b) refl refl refl refl
+  where
+    go : (q r s t : Bool) → ltb 11 o ≡ q → three (wrong11 F) o d a b ≡ r → three wrong12 o d a b ≡ s
+        → three wrong13 o d a b ≡ t → Faults F o d a b (cond q 10 (cond r 11 (cond s 12 (cond t 13 0))))
+    go true r s t e f g h = ten (ltb-true 11 o e)
+    go false true s t e f g h = eleven (ltb-false 11 o e) f
+    go false false true t e f g h = twelve (ltb-false 11 o e) f g
+    go false false false true e f g h = thirteen (ltb-false 11 o e) f g h
+    go false false false false e f g h = none (ltb-false 11 o e) f g h
+
 -- ---- a call whose own words are right
 
 or-false : (a b : Bool) → (a || b) ≡ false → (a ≡ false) × (b ≡ false)
 or-false true b q = absurd (true≢false q)
 or-false false b q = (refl, q)
 
-cond-zero : (t : Bool) (n x : ℕ) → cond t (suc n) x ≡ 0 → (t ≡ false) × (x ≡ 0)
-cond-zero true n x q = absurd (omega arith)
-cond-zero false n x q = (refl, q)
+three-false : (wrong : ℕ → ℕ → Bool) (o d a b : ℕ) → three wrong o d a b ≡ false
+    → (wrong (getD uses (3 * o) 0) d ≡ false) × (wrong (getD uses (3 * o + 1) 0) a ≡ false)
+    × (wrong (getD uses (3 * o + 2) 0) b ≡ false)
+three-false wrong o d a b e =
+    let y = or-false (wrong (getD uses (3 * o) 0) d || wrong (getD uses (3 * o + 1) 0) a)
+        (wrong (getD uses (3 * o + 2) 0) b) e in
+    let z = or-false (wrong (getD uses (3 * o) 0) d) (wrong (getD uses (3 * o + 1) 0) a) (y .0) in
+    (z .0, z .1, y .1)
 
 pub record WordsRight (F : ℕ) (o : Op) (d a b : ℕ) : Type 0 where
   pub d11 : wrong11 F (useD o) d ≡ false
@@ -53,31 +87,28 @@ pub record WordsRight (F : ℕ) (o : Op) (d a b : ℕ) : Type 0 where
   pub a13 : wrong13 (useA o) a ≡ false
 
 pub right : (F o d a b : ℕ) → fault F o d a b ≡ 0 → WordsRight F (opAt o) d a b
-unfolding fault
-right F o d a b q =
-    let u = getD uses (3 * o) 0 in
-    let v = getD uses (3 * o + 1) 0 in
-    let w = getD uses (3 * o + 2) 0 in
-    let x₁₀ = cond-zero (ltb 11 o) 9 (cond (wrong11 F u d || wrong11 F v a || wrong11 F w b) 11
-    (cond (wrong12 u d || wrong12 v a || wrong12 w b) 12 (cond (wrong13 u d || wrong13 v a || wrong13 w b) 13 0)))
-    q in
-    let x₁₁ = cond-zero (wrong11 F u d || wrong11 F v a || wrong11 F w b) 10
-    (cond (wrong12 u d || wrong12 v a || wrong12 w b) 12 (cond (wrong13 u d || wrong13 v a || wrong13 w b) 13 0))
-    (x₁₀ .1) in
-    let x₁₂ = cond-zero (wrong12 u d || wrong12 v a || wrong12 w b) 11
-    (cond (wrong13 u d || wrong13 v a || wrong13 w b) 13 0) (x₁₁ .1) in
-    let x₁₃ = cond-zero (wrong13 u d || wrong13 v a || wrong13 w b) 12 0 (x₁₂ .1) in
-    let y = or-false (wrong11 F u d || wrong11 F v a) (wrong11 F w b) (x₁₁ .0) in
-    let z = or-false (wrong11 F u d) (wrong11 F v a) (y .0) in
-    let y₁₃ = or-false (wrong13 u d || wrong13 v a) (wrong13 w b) (x₁₃ .0) in
-    let z₁₃ = or-false (wrong13 u d) (wrong13 v a) (y₁₃ .0) in
-    let t = index-opAt o (omega (arith, ltb-false 11 o (x₁₀ .0))) in
-    record {
-      d11 = rw t (z .0);
-      a11 = rw t (z .1);
-      b11 = rw t (y .1);
-      a13 = rw t (z₁₃ .1);
-    }
+right F o d a b = go (faults F o d a b)
+  where
+    go : {f : ℕ} → Faults F o d a b f → f ≡ 0 → WordsRight F (opAt o) d a b
+    go (ten h) z = absurd (omega arith)
+    go (eleven h x) z = absurd (omega arith)
+    go (twelve h x y) z = absurd (omega arith)
+    go (thirteen h x y w) z = absurd (omega arith)
+    go (none h x y w) z =
+        let q = three-false (wrong11 F) o d a b x in
+        let c = three-false wrong13 o d a b w in
+        let t = index-opAt o (omega arith) in
+        record { d11 = rw t (q .0); a11 = rw t (q .1); b11 = rw t (q .2); a13 = rw t (c .1) }
+
+pub op-small : (F o d a b : ℕ) → fault F o d a b ≡ 0 → o < 12
+op-small F o d a b = go (faults F o d a b)
+  where
+    go : {f : ℕ} → Faults F o d a b f → f ≡ 0 → o < 12
+    go (ten h) z = absurd (omega arith)
+    go (eleven h x) z = omega arith
+    go (twelve h x y) z = omega arith
+    go (thirteen h x y w) z = omega arith
+    go (none h x y w) z = omega arith
 
 pub is-register : (F w : ℕ) → wrong11 F 1 w ≡ false → w < F
 unfolding wrong11
@@ -126,17 +157,12 @@ module _ (o : Op) (d a b : ℕ) where
       go true e k = is-register F d (rw (eqb-true (useD o) 1 e) at (q .d11))
       go false e k = absurd (true≢false k)
 
-cond-small : (t : Bool) (n x m : ℕ) → n ≤ m → x ≤ m → cond t n x ≤ m
-cond-small true n x m h g = h
-cond-small false n x m h g = g
-
 pub fault-small : (F o d a b : ℕ) → fault F o d a b ≤ 13
-unfolding fault
-fault-small F o d a b =
-    let u = getD uses (3 * o) 0 in
-    let v = getD uses (3 * o + 1) 0 in
-    let w = getD uses (3 * o + 2) 0 in
-    cond-small (ltb 11 o) 10 _ 13 (omega arith)
-    (cond-small (wrong11 F u d || wrong11 F v a || wrong11 F w b) 11 _ 13 (omega arith)
-    (cond-small (wrong12 u d || wrong12 v a || wrong12 w b) 12 _ 13 (omega arith)
-    (cond-small (wrong13 u d || wrong13 v a || wrong13 w b) 13 0 13 (omega arith) (omega arith))))
+fault-small F o d a b = go (faults F o d a b)
+  where
+    go : {f : ℕ} → Faults F o d a b f → f ≤ 13
+    go (ten h) = omega arith
+    go (eleven h x) = omega arith
+    go (twelve h x y) = omega arith
+    go (thirteen h x y w) = omega arith
+    go (none h x y w) = omega arith

@@ -8,14 +8,14 @@ use Prim.Native.Nat.{ℕ, zero, suc, _+_, _<_}
 use native.Mathlib.Nat.{add-zero}
 use native.Mathlib.Omega.{arith}
 use lib.Dec.{ltb}
-use borrow.Author.Tests.{ltb-false, le-ltb}
+use borrow.Author.Tests.{le-ltb}
 use Rattle.meaning.specs.Sound.{empty, at, capacity, Sound, size}
 use Rattle.meaning.specs.Meaning.{meaning}
 use Rattle.meaning.specs.Reach.{live}
 use Rattle.meaning.specs.Collected.{collected, collectedTop}
 use Rattle.meaning.specs.Verdicts.{Done, done, refused, only}
 use Rattle.meaning.specs.Operands.{Op, CLEAR, COPY, SYMBOL, WRAP, JOIN, HEAD, REST, OPEN, LENGTH, FIRST, LIVE, COLLECT}
-use Rattle.meaning.specs.Operands.{ops, uses, opAt, fault}
+use Rattle.meaning.specs.Operands.{ops, uses, opAt}
 use Rattle.meaning.specs.Actions.{put, share, head, rest, openFirst, codeFirst, newRun, newSymbol, newBracket}
 use Rattle.meaning.specs.Call.{keeps, soughtBy, joinNeed, joinPlan, lacks, roomWords, roomTop, withRoom, planOf}
 use Rattle.meaning.specs.Call.{carryOut, perform}
@@ -41,14 +41,6 @@ asking P x y z w (suc (suc (suc (suc k)))) h = absurd (omega arith)
 pub orElse-zero : (f t : ℕ) → orElse f t ≡ 0 → f ≡ 0
 orElse-zero zero t e = refl
 orElse-zero (suc f) t e = e
-
-pub op-small : (F o d a b : ℕ) → fault F o d a b ≡ 0 → o < 12
-unfolding fault
-op-small F o d a b q = go (ltb 11 o) _ refl q
-  where
-    go : (t : Bool) (n : ℕ) → ltb 11 o ≡ t → cond t 10 n ≡ 0 → o < 12
-    go true n e r = absurd (omega arith)
-    go false n e r = omega (arith, ltb-false 11 o e)
 
 module _ (F : ℕ) (ws : List ℕ) (top : ℕ) (p : 0 < F) (s : Sound F ws top) where
   -- without need there is no collecting

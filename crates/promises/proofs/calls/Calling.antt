@@ -17,7 +17,7 @@ use Rattle.meaning.specs.Operands.{ops, opAt, uses, wrong11, wrong12, wrong13, 
 use Rattle.meaning.specs.Call.{planOf, perform, stepAfter, step}
 use Rattle.meaning.specs.Effect.{effect, liveForRoom, callStatus}
 use Rattle.meaning.specs.Batch.{ended}
-use Rattle.meaning.proofs.operands.Uses.{right}
+use Rattle.meaning.proofs.operands.Uses.{right, op-small}
 use Rattle.meaning.proofs.call.Plans.{planTop, topAfter, WordsAfter}
 use Rattle.meaning.proofs.effect.Steps.{Steps, step-meets, no-need}
 use Rattle.meaning.proofs.batch.Batches.{fours-of}
@@ -26,7 +26,7 @@ use Rattle.promises.specs.Requests.{Request, call, requested, requests}
 use Rattle.promises.proofs.alike.Requests.{ran, runs-ran, ran-length, requests-length}
 use Rattle.promises.specs.Calls.{Did, actedOn, actedTop, OnlyThere, CallsDo, CallsAnswer, Answered, none, next}
 use Rattle.promises.specs.Calls.{BatchesRun}
-use Rattle.promises.proofs.calls.Acting.{orElse-zero, op-small, stays, plan-top, plan-words, asked-words}
+use Rattle.promises.proofs.calls.Acting.{orElse-zero, stays, plan-top, plan-words, asked-words}
 
 -- ---- a call, whatever its words are
 

@@ -2,32 +2,25 @@
 -- Assumes nothing.
 use mathlib.Core.Path.{refl}
 use mathlib.Core.Logic.{inl, inr}
-use mathlib.Core.Bool.{Bool, true, false, cond, _||_}
+use mathlib.Core.Bool.{Bool, true, false, cond}
 use mathlib.Core.List.{List, [], _∷_}
-use Prim.Native.Nat.{ℕ, _+_, _*_}
-use lib.Dec.{ltb}
-use lib.ListN.{getD}
+use Prim.Native.Nat.{ℕ}
 use Rattle.meaning.specs.Expr.{Expr, nothing, symbol, parens}
 use Rattle.meaning.specs.Operands.{Op, CLEAR, COPY, SYMBOL, WRAP, JOIN, HEAD, REST, OPEN, LENGTH, FIRST, LIVE, COLLECT}
-use Rattle.meaning.specs.Operands.{uses, wrong11, wrong12, wrong13, fault}
+use Rattle.meaning.specs.Operands.{fault}
 use Rattle.meaning.specs.Effect.{Facts, does, onEmpty, onOpen, onFirst, orElse}
+use Rattle.meaning.proofs.operands.Uses.{Faults, ten, eleven, twelve, thirteen, none, faults}
 use Rattle.promises.specs.Table.{OneOf}
 
 pub fault-number : (F o d a b : ℕ) → OneOf (fault F o d a b) (0 ∷ 10 ∷ 11 ∷ 12 ∷ 13 ∷ [])
-unfolding fault
-fault-number F o d a b =
-    let u = getD uses (3 * o) 0 in
-    let v = getD uses (3 * o + 1) 0 in
-    let w = getD uses (3 * o + 2) 0 in
-    go (ltb 11 o) (wrong11 F u d || wrong11 F v a || wrong11 F w b) (wrong12 u d || wrong12 v a || wrong12 w b)
-    (wrong13 u d || wrong13 v a || wrong13 w b)
+fault-number F o d a b = go (faults F o d a b)
   where
-    go : (q r s t : Bool) → OneOf (cond q 10 (cond r 11 (cond s 12 (cond t 13 0)))) (0 ∷ 10 ∷ 11 ∷ 12 ∷ 13 ∷ [])
-    go true r s t = inr (inl refl)
-    go false true s t = inr (inr (inl refl))
-    go false false true t = inr (inr (inr (inl refl)))
-    go false false false true = inr (inr (inr (inr (inl refl))))
-    go false false false false = inl refl
+    go : {f : ℕ} → Faults F o d a b f → OneOf f (0 ∷ 10 ∷ 11 ∷ 12 ∷ 13 ∷ [])
+    go (ten h) = inr (inl refl)
+    go (eleven h x) = inr (inr (inl refl))
+    go (twelve h x y) = inr (inr (inr (inl refl)))
+    go (thirteen h x y w) = inr (inr (inr (inr (inl refl))))
+    go (none h x y w) = inl refl
 
 empty-number : (e : Expr) → OneOf (onEmpty e) (0 ∷ 14 ∷ 15 ∷ [])
 empty-number nothing = inr (inl refl)

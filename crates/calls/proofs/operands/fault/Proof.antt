@@ -9,13 +9,14 @@ use borrow.Author.Tests.{lt-ltb, le-ltb}
 use borrow.Author.Needs.{needs}
 use Rattle.meaning.specs.Limits.{firstHeapCell}
 use Rattle.meaning.specs.Operands.{uses, wrong11, wrong12, wrong13, fault}
-use Rattle.meaning.proofs.operands.Table.{rows, three, three-read}
+use Rattle.meaning.proofs.operands.Uses.{three}
+use Rattle.meaning.proofs.operands.Table.{rows, three-read}
 use Rattle.calls.proofs.operands.fault.Statement.{statement}
 use Rattle.calls.proofs.operands.fault.Tie as tie
 
 -- what a test over the three words finds, by the row that was read
 abbrev found : (ℕ → ℕ → Bool) → tie.Start → Bool
-found wrong s = three (s .args .o) (s .args .d) (s .args .a) (s .args .b) wrong
+found wrong s = three wrong (s .args .o) (s .args .d) (s .args .a) (s .args .b)
 
 -- where the operation's number was tested, and where the function begins, from each test on
 abbrev numbered : tie.After-any → tie.Else1
