@@ -1,21 +1,21 @@
 -- A batch that is not refused runs in a sound store, call by call as it has to, and leaves a sound store. A list may
--- be cut anywhere.
+-- be cut anywhere. A batch that is lent as it asks is not refused.
 -- Assumes nothing.
-use mathlib.Core.Path.{_≡_, refl, ap}
+use mathlib.Core.Path.{_≡_, refl, sym, ap, _∙_}
 use mathlib.Core.Bool.{Bool, true, false, cond}
-use mathlib.Core.List.{List, [], _∷_, _++_}
-use Prim.Native.Nat.{ℕ, zero, suc, _+_, _-_, _*_, _/_, _%_, _<_}
+use mathlib.Core.List.{List, [], _∷_, _++_, append-nil}
+use Prim.Native.Nat.{ℕ, zero, suc, _+_, _-_, _*_, _/_, _%_, _≤_, _<_}
 use native.Mathlib.Omega.{arith}
 use lib.Dec.{leb, eqb}
 use lib.ListN.{length}
-use borrow.Author.Tests.{eqb-true}
+use borrow.Author.Tests.{eqb-true, le-leb}
 use Rattle.meaning.specs.Limits.{callsLimit}
 use Rattle.meaning.specs.Sound.{Sound}
 use Rattle.meaning.specs.Check.{only, check, onZero}
 use Rattle.meaning.specs.Call.{step}
-use Rattle.meaning.specs.Batch.{Ran, then, runs, asLent, ended, callsTest, batchOf, batch}
+use Rattle.meaning.specs.Batch.{Ran, then, runs, Outcome, asLent, ended, callsTest, batchOf, batch}
 use Rattle.meaning.proofs.Steps.{Batch, called, Fours, none, four}
-use Rattle.meaning.proofs.Checking.{check-sound}
+use Rattle.meaning.proofs.Checking.{check-sound, sound-check}
 
 -- a length that is a multiple of four
 pub fours : (n : ℕ) (cs : List ℕ) → length cs ≡ 4 * n → Fours cs
@@ -74,3 +74,43 @@ module _ (F : ℕ) (p : 0 < F) (ws : List ℕ) (top : ℕ) (calls out : List ℕ
       one zero e r = two (check-sound F ws top e) (leb (length calls) callsLimit) (eqb (length calls % 4) 0)
           (leb (2 * (length calls / 4)) (length out)) refl refl refl r
       one (suc n) e r = absurd (omega arith)
+
+-- two answers a call
+pub runs-length : (F : ℕ) (ws : List ℕ) (top : ℕ) (cs : List ℕ)
+    → length (runs F ws top cs .answers) ≡ 2 * (length cs / 4)
+runs-length F ws top [] = refl
+runs-length F ws top (o ∷ []) = refl
+runs-length F ws top (o ∷ d ∷ []) = refl
+runs-length F ws top (o ∷ d ∷ a ∷ []) = refl
+runs-length F ws top (o ∷ d ∷ a ∷ b ∷ cs) =
+    let c = step F ws top o d a b in
+    omega (arith, runs-length F (c .words) (c .top) cs)
+
+-- the answers of a batch that has just room for them
+ended-answers : (r : Ran) (out : List ℕ) → length out ≡ length (r .answers) → ended r out .answers ≡ r .answers
+unfolding ended
+ended-answers r out e =
+    let z : length out - length (r .answers) ≡ 0 = omega arith in
+    rw z (append-nil (r .answers))
+
+-- a batch that is lent as it asks, with just room for its answers, is run to its end
+module _ (F : ℕ) (ws : List ℕ) (top : ℕ) (cs out : List ℕ) (s : Sound F ws top) (short : length cs ≤ callsLimit)
+    (whole : length cs % 4 ≡ 0) (space : length out ≡ 2 * (length cs / 4)) where
+  pub batch-ended : batch F ws top cs out ≡ ended (runs F ws top cs) out
+  unfolding batch batchOf callsTest
+  batch-ended =
+      rw (
+        sound-check F ws top s,
+        le-leb (length cs) callsLimit short,
+        whole,
+        le-leb (2 * (length cs / 4)) (length out) (omega arith),
+      )
+
+  pub batch-answers : batch F ws top cs out .answers ≡ runs F ws top cs .answers
+  batch-answers =
+      ap (λ (o : Outcome). o .answers) batch-ended
+      ∙ ended-answers (runs F ws top cs) out (space ∙ sym (runs-length F ws top cs))
+
+  pub batch-top : batch F ws top cs out .top ≡ runs F ws top cs .top
+  unfolding ended
+  batch-top = ap (λ (o : Outcome). o .top) batch-ended

@@ -20,6 +20,7 @@
 --   Plans       a plan carried out; the rule for room; the store in which room is sought
 --   Steps       any call; a batch, call by call
 --   Batches     a batch that is not refused; a list cut anywhere
+--   Program     the program's tests in their order; how much of its input counts
 --   Worked      the table of worked stores is right
 -- Assumes nothing.
 pub mod Lists
@@ -43,4 +44,5 @@ pub mod Uses
 pub mod Plans
 pub mod Steps
 pub mod Batches
+pub mod Program
 pub mod Worked

@@ -12,6 +12,7 @@
 --   Calling    demand 2, calls and batches
 --   Gathering  demand 2, collecting
 --   Rules, Numbers, Tables   demand 1
+--   Program    the program
 --   Once       one outcome
 -- Assumes nothing.
 pub mod Canons
@@ -31,5 +32,6 @@ pub mod Gathering
 pub mod Rules
 pub mod Numbers
 pub mod Tables
+pub mod Program
 pub mod Once
 pub mod Final

@@ -1,8 +1,8 @@
 -- A batch on a fresh store is not refused, and what it leaves is what the program has to write.
 -- Assumes nothing.
 use mathlib.Core.Path.{_≡_, refl, sym, ap, ap₂, _∙_}
-use mathlib.Core.List.{List, [], _∷_, _++_, append-nil}
-use Prim.Native.Nat.{ℕ, _+_, _-_, _*_, _/_, _%_, _≤_}
+use mathlib.Core.List.{List, [], _++_}
+use Prim.Native.Nat.{ℕ, _+_, _*_, _/_, _≤_}
 use native.Mathlib.Omega.{arith}
 use lib.ListN.{length, take, replicate, length-replicate}
 use lib.Seq.{length-take-le}
@@ -10,11 +10,11 @@ use borrow.Author.Tests.{le-ltb, le-leb}
 use Rattle.meaning.specs.Limits.{firstCell, limit, callsLimit, programCells, programBytes}
 use Rattle.meaning.specs.Sound.{Sound, capacity}
 use Rattle.meaning.specs.Check.{Done, done, lengthTest, fresh, freshIn}
-use Rattle.meaning.specs.Batch.{Ran, runs, Outcome, ended, callsTest, batchOf, batch}
-use Rattle.meaning.specs.Call.{step}
+use Rattle.meaning.specs.Batch.{runs, Outcome, batch}
 use Rattle.meaning.specs.Program.{linesOf, written, served}
 use Rattle.meaning.proofs.Fresh.{fresh-sound}
-use Rattle.meaning.proofs.Checking.{sound-check}
+use Rattle.meaning.proofs.Batches.{batch-answers, batch-top}
+use Rattle.meaning.proofs.Program.{program-cells}
 use Rattle.serve.specs.Lines.{topLine}
 use Rattle.serve.specs.Lent.{Lent, Served, programAnswers}
 use Rattle.store.specs.Answers.{madeIn}
@@ -46,45 +46,6 @@ ran-answers (Ended t) ws top answers = refl
 ran-answers (Refused u) ws top answers = refl
 ran-answers BadCalls ws top answers = refl
 ran-answers ShortAnswers ws top answers = refl
-
--- ---- two answers a call
-
-runs-length : (F : ℕ) (ws : List ℕ) (top : ℕ) (cs : List ℕ) → length (runs F ws top cs .answers) ≡ 2 * (length cs / 4)
-runs-length F ws top [] = refl
-runs-length F ws top (o ∷ []) = refl
-runs-length F ws top (o ∷ d ∷ []) = refl
-runs-length F ws top (o ∷ d ∷ a ∷ []) = refl
-runs-length F ws top (o ∷ d ∷ a ∷ b ∷ cs) =
-    let c = step F ws top o d a b in
-    omega (arith, runs-length F (c .words) (c .top) cs)
-
--- the answers of a batch that has just room for them
-ended-answers : (r : Ran) (out : List ℕ) → length out ≡ length (r .answers) → ended r out .answers ≡ r .answers
-unfolding ended
-ended-answers r out e =
-    let z : length out - length (r .answers) ≡ 0 = omega arith in
-    rw z (append-nil (r .answers))
-
-module _ (F : ℕ) (ws : List ℕ) (top : ℕ) (cs out : List ℕ) (s : Sound F ws top) (short : length cs ≤ callsLimit)
-    (whole : length cs % 4 ≡ 0) (space : length out ≡ 2 * (length cs / 4)) where
-  batch-ended : batch F ws top cs out ≡ ended (runs F ws top cs) out
-  unfolding batch batchOf callsTest
-  batch-ended =
-      rw (
-        sound-check F ws top s,
-        le-leb (length cs) callsLimit short,
-        whole,
-        le-leb (2 * (length cs / 4)) (length out) (omega arith),
-      )
-
-  batch-answers : batch F ws top cs out .answers ≡ runs F ws top cs .answers
-  batch-answers =
-      ap (λ (o : Outcome). o .answers) batch-ended
-      ∙ ended-answers (runs F ws top cs) out (space ∙ sym (runs-length F ws top cs))
-
-  batch-top : batch F ws top cs out .top ≡ runs F ws top cs .top
-  unfolding ended
-  batch-top = ap (λ (o : Outcome). o .top) batch-ended
 
 -- ---- the whole
 
@@ -120,10 +81,6 @@ module _ (ws cs out : List ℕ) (l : Lent ws cs out) where
         rw (a, n)
 
 -- ---- what the program lends
-
-program-cells : programCells ≤ limit
-unfolding programCells limit
-program-cells = omega arith
 
 pub cells-fit : (n : ℕ) → n ≤ programCells → 2 * n ≤ 2 * programCells
 cells-fit n h = omega arith

@@ -2,11 +2,9 @@
 --   Spacing  what the lines of the output are made of, and how many bytes they take
 --   Inputs   the input's words as calls
 --   Batched  a batch on a fresh store
---   Tests    the program's tests in their order
 --   Final    the claim that there is one outcome
 -- Assumes nothing.
 pub mod Spacing
 pub mod Inputs
 pub mod Batched
-pub mod Tests
 pub mod Final
