@@ -10,7 +10,7 @@
 -- Assumes nothing.
 use mathlib.Core.Path.{_≡_}
 use mathlib.Core.List.{List, [], _∷_, _++_}
-use Prim.Native.Nat.{ℕ, _+_, _-_, _*_, _/_, _%_, _≤_}
+use Prim.Native.Nat.{ℕ, zero, suc, _+_, _-_, _*_, _/_, _%_, _≤_}
 use lib.Dec.{T}
 use lib.ListN.{length, getD, take, drop, replicate}
 use Rattle.bytes.specs.Little.{wordsOf}
@@ -92,6 +92,11 @@ ProgramReads = (F : ℕ) (input : List ℕ) → program F (take (programBytes + 
 abbrev pub top16 : List ℕ
 top16 = 116 ∷ 111 ∷ 112 ∷ 32 ∷ 49 ∷ 54 ∷ 10 ∷ []
 
+-- the line `0 0`, n times
+abbrev pub doneLines : ℕ → List ℕ
+doneLines zero = []
+doneLines (suc n) = 48 ∷ 32 ∷ 48 ∷ 10 ∷ doneLines n
+
 abbrev pub zeros : ℕ → List ℕ
 zeros n = replicate n 0
 
@@ -106,13 +111,16 @@ programRows =
     writes (0 ∷ 16 ∷ 0 ∷ 0 ∷ []) top16 ∷
     writes (1 ∷ 16 ∷ 0 ∷ 0 ∷ []) refusedOne ∷
     writes (0 ∷ 0 ∷ 0 ∷ 16 ∷ []) refusedOne ∷
-    -- 5, 8 and 19 bytes are a broken call; 20 are CLEAR 0; 21 and 16,389 are again broken
+    -- 5, 8 and 19 bytes are a broken call, 20 are CLEAR 0, 21 are broken
     writes (20 ∷ 0 ∷ 0 ∷ 0 ∷ 0 ∷ []) refusedFour ∷
     writes (20 ∷ 0 ∷ 0 ∷ 0 ∷ zeros 4) refusedFour ∷
     writes (20 ∷ 0 ∷ 0 ∷ 0 ∷ zeros 15) refusedFour ∷
-    writes (20 ∷ 0 ∷ 0 ∷ 0 ∷ zeros 16) (48 ∷ 32 ∷ 48 ∷ 10 ∷ top16) ∷
+    writes (20 ∷ 0 ∷ 0 ∷ 0 ∷ zeros 16) (doneLines 1 ++ top16) ∷
     writes (20 ∷ 0 ∷ 0 ∷ 0 ∷ zeros 17) refusedFour ∷
+    -- 16,388 bytes are CLEAR 0 1,024 times; 16,389 are broken, and 16,404 are whole calls, but too many
+    writes (20 ∷ 0 ∷ 0 ∷ 0 ∷ zeros 16384) (doneLines 1024 ++ top16) ∷
     writes (20 ∷ 0 ∷ 0 ∷ 0 ∷ zeros 16385) refusedFour ∷
+    writes (20 ∷ 0 ∷ 0 ∷ 0 ∷ zeros 16400) refusedFour ∷
     -- bad both ways: 1
     writes (15 ∷ 0 ∷ 0 ∷ 0 ∷ 0 ∷ []) refusedOne ∷
     writes (15 ∷ 0 ∷ 0 ∷ 0 ∷ zeros 16385) refusedOne ∷
