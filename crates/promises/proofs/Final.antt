@@ -5,12 +5,15 @@ use Rattle.promises.specs.Table.{CallAnswers}
 use Rattle.promises.specs.Collecting.{LiveCounts, CollectingKeeps}
 use Rattle.promises.specs.Calls.{CallsDo, CallsAnswer, BatchesRun}
 use Rattle.promises.specs.Alike.{AlikeIsCollected, CollectionsNeverShow}
+use Rattle.promises.specs.Program.{ProgramWrites, ProgramReads, ProgramRows}
 use Rattle.promises.specs.Unique.{OneAnswer, OneCheck, OneFresh, OneCollected, OneLook, OneCollect, OneBatch}
+use Rattle.promises.specs.Unique.{OneProgram}
 use Rattle.promises.proofs.table.Tables as tables
 use Rattle.promises.proofs.collecting.Keeping as keeping
 use Rattle.promises.proofs.calls.Calling as calling
 use Rattle.promises.proofs.alike.Alikes as alikes
 use Rattle.promises.proofs.alike.Striking as struck
+use Rattle.promises.proofs.program.Written as program
 use Rattle.promises.proofs.unique.Outcomes as once
 
 -- ---- demand 1
@@ -58,6 +61,17 @@ alike-is-collected = alikes.alike-is-collected
 pub collections-never-show : CollectionsNeverShow
 collections-never-show = struck.collections-never-show
 
+-- ---- the program
+
+pub program-writes : ProgramWrites
+program-writes = program.program-writes
+
+pub program-reads : ProgramReads
+program-reads = program.program-reads
+
+pub program-rows : ProgramRows
+program-rows = program.program-rows
+
 -- ---- one outcome
 
 pub one-answer : OneAnswer
@@ -80,3 +94,6 @@ one-collect = once.one-collect
 
 pub one-batch : OneBatch
 one-batch = once.one-batch
+
+pub one-program : OneProgram
+one-program = program.one-program

@@ -4,5 +4,6 @@ pub mod table
 pub mod collecting
 pub mod calls
 pub mod alike
+pub mod program
 pub mod unique
 pub mod Final

@@ -4,6 +4,7 @@
 --   Collecting  demand 2: what a collection keeps, and where
 --   Calls       demand 2: what each call does, and a batch call by call
 --   Alike       demand 3: collections never show
+--   Program     what the program writes for what it reads
 --   Unique      no claim leaves a second outcome
 -- Everything is over the first heap cell F, which is more than 0.
 -- Assumes nothing.
@@ -12,4 +13,5 @@ pub mod Requests
 pub mod Collecting
 pub mod Calls
 pub mod Alike
+pub mod Program
 pub mod Unique

@@ -1,5 +1,5 @@
--- One outcome: what the claims say of a check, a fresh store, a collection, a look and a batch leaves no second answer
--- and no second word (SCOPE 8.5). The contracts of the code are equations, of answers by their
+-- One outcome: what the claims say of a check, a fresh store, a collection, a look, a batch and the program leaves no
+-- second answer, word or byte (SCOPE 8.5). The contracts of the code are equations, of answers by their
 -- numbers and values: two outcomes of one equation are equal. Assumes nothing.
 use mathlib.Core.Path.{_≡_}
 use mathlib.Core.List.{List}
@@ -11,6 +11,7 @@ use Rattle.meaning.specs.Batch.{Outcome}
 use Rattle.promises.specs.Table.{CheckTable, FreshTable, CollectTable, LookTable, BatchTable}
 use Rattle.promises.specs.Calls.{BatchRun}
 use Rattle.promises.specs.Collecting.{CollectedFrom}
+use Rattle.promises.specs.Program.{ProgramTable}
 
 -- an answer of which the promise says its number and values: two answers with the same numbers and values are one
 abbrev pub OneAnswer : Type 1
@@ -46,3 +47,7 @@ abbrev pub OneBatch : Type 0
 OneBatch =
     (F : ℕ) (ws : List ℕ) (top : ℕ) (calls out : List ℕ) (r q : Outcome)
     → BatchPromise F ws top calls out r → BatchPromise F ws top calls out q → r ≡ q
+
+-- the bytes that the program writes
+abbrev pub OneProgram : Type 0
+OneProgram = (F : ℕ) (input x y : List ℕ) → ProgramTable F input x → ProgramTable F input y → x ≡ y

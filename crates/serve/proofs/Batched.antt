@@ -1,21 +1,21 @@
 -- A batch on a fresh store is not refused, and what it leaves is what the program has to write.
 -- Assumes nothing.
 use mathlib.Core.Path.{_≡_, refl, sym, ap, ap₂, _∙_}
-use mathlib.Core.List.{List, [], _++_, append-nil}
+use mathlib.Core.List.{List, [], _++_}
 use Prim.Native.Nat.{ℕ, _+_, _-_, _*_, _/_, _≤_}
 use native.Mathlib.Omega.{arith}
 use lib.ListN.{length, take, replicate, length-replicate}
 use lib.Seq.{length-take-le}
-use Rattle.meaning.specs.Limits.{firstHeapCell, limit, callsLimit, programCells, programBytes}
+use Rattle.meaning.specs.Limits.{firstHeapCell, callsLimit, programCells, programBytes}
 use Rattle.meaning.specs.Sound.{Sound, capacity}
 use Rattle.meaning.specs.Verdicts.{Done, done}
 use Rattle.meaning.specs.Fresh.{fresh, freshIn}
-use Rattle.meaning.specs.Batch.{Ran, runs, Outcome, ended, AllowedCalls, batch}
+use Rattle.meaning.specs.Batch.{Ran, runs, Outcome, batch}
 use Rattle.meaning.specs.Program.{linesOf, written, output}
 use Rattle.meaning.proofs.fresh.Fresh.{fresh-sound}
 use Rattle.meaning.proofs.check.Checking.{yes-length}
-use Rattle.meaning.proofs.batch.Batches.{runs-length}
-use Rattle.meaning.proofs.batch.Cases.{batch-run}
+use Rattle.meaning.proofs.batch.Cases.{batch-answers, batch-top}
+use Rattle.meaning.proofs.program.Tests.{program-cells}
 use Rattle.serve.specs.Lines.{topLine}
 use Rattle.serve.specs.Needs.{BatchFits, CallsFit, programAnswers}
 use Rattle.store.specs.Answers.{madeIn}
@@ -47,26 +47,6 @@ ran-answers (Ended t) ws top answers = refl
 ran-answers (Refused u) ws top answers = refl
 ran-answers BadCalls ws top answers = refl
 ran-answers ShortAnswers ws top answers = refl
-
--- ---- a batch that is run
-
--- the answers of a batch that has just room for them
-ended-answers : (r : Ran) (out : List ℕ) → length out ≡ length (r .answers) → ended r out .answers ≡ r .answers
-unfolding ended
-ended-answers r out e =
-    let z : length out - length (r .answers) ≡ 0 = omega arith in
-    rw z (append-nil (r .answers))
-
-module _ (F : ℕ) (ws : List ℕ) (top : ℕ) (cs out : List ℕ) (s : Sound F ws top) (list : AllowedCalls (length cs))
-    (space : length out ≡ 2 * (length cs / 4)) where
-  batch-answers : batch F ws top cs out .answers ≡ runs F ws top cs .answers
-  batch-answers =
-      ap (λ (o : Outcome). o .answers) (batch-run F ws top cs out s list (omega arith))
-      ∙ ended-answers (runs F ws top cs) out (space ∙ sym (runs-length F ws top cs))
-
-  batch-top : batch F ws top cs out .top ≡ runs F ws top cs .top
-  unfolding ended
-  batch-top = ap (λ (o : Outcome). o .top) (batch-run F ws top cs out s list (omega arith))
 
 -- ---- the whole
 
@@ -102,10 +82,6 @@ module _ (ws cs out : List ℕ) (l : BatchFits ws cs out) where
         rw (a, n)
 
 -- ---- what the program lends
-
-program-cells : programCells ≤ limit
-unfolding programCells limit
-program-cells = omega arith
 
 pub cells-fit : (n : ℕ) → n ≤ programCells → 2 * n ≤ 2 * programCells
 cells-fit n h = omega arith

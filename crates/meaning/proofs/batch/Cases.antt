@@ -1,10 +1,10 @@
 -- A batch by its tests: each one that fails is one refusal, and past the last the calls run.
 -- Assumes nothing.
-use mathlib.Core.Path.{_≡_, refl}
+use mathlib.Core.Path.{_≡_, refl, sym, ap, _∙_}
 use mathlib.Core.Logic.{_≢_}
 use mathlib.Core.Bool.{Bool, true, false, cond, false≢true}
-use mathlib.Core.List.{List}
-use Prim.Native.Nat.{ℕ, zero, suc, _*_, _/_, _%_, _≤_, _<_}
+use mathlib.Core.List.{List, append-nil}
+use Prim.Native.Nat.{ℕ, zero, suc, _-_, _*_, _/_, _%_, _≤_, _<_}
 use native.Mathlib.Omega.{arith}
 use lib.Dec.{leb, eqb}
 use lib.ListN.{length}
@@ -13,8 +13,9 @@ use Rattle.meaning.specs.Limits.{callsLimit}
 use Rattle.meaning.specs.Sound.{Sound}
 use Rattle.meaning.specs.Verdicts.{only, onZero}
 use Rattle.meaning.specs.Check.{check}
-use Rattle.meaning.specs.Batch.{Outcome, runs, asLent, ended, AllowedCalls, callsTest, batchOf, batch}
+use Rattle.meaning.specs.Batch.{Ran, Outcome, runs, asLent, ended, AllowedCalls, callsTest, batchOf, batch}
 use Rattle.meaning.proofs.check.Checking.{check-sound, sound-check}
+use Rattle.meaning.proofs.batch.Batches.{runs-length}
 
 -- ---- the call list
 
@@ -97,3 +98,22 @@ module _ (F : ℕ) (ws : List ℕ) (top : ℕ) (calls out : List ℕ) where
       go r (badCalls s b) e z = absurd (omega arith)
       go r (shortAnswers s a h) e z = absurd (omega arith)
       go r (run s a h) e z = (s, a, e)
+
+-- ---- with just room for the answers
+
+ended-answers : (r : Ran) (out : List ℕ) → length out ≡ length (r .answers) → ended r out .answers ≡ r .answers
+unfolding ended
+ended-answers r out e =
+    let z : length out - length (r .answers) ≡ 0 = omega arith in
+    rw z (append-nil (r .answers))
+
+module _ (F : ℕ) (ws : List ℕ) (top : ℕ) (calls out : List ℕ) (s : Sound F ws top)
+    (list : AllowedCalls (length calls)) (space : length out ≡ 2 * (length calls / 4)) where
+  pub batch-answers : batch F ws top calls out .answers ≡ runs F ws top calls .answers
+  batch-answers =
+      ap (λ (o : Outcome). o .answers) (batch-run F ws top calls out s list (omega arith))
+      ∙ ended-answers (runs F ws top calls) out (space ∙ sym (runs-length F ws top calls))
+
+  pub batch-top : batch F ws top calls out .top ≡ runs F ws top calls .top
+  unfolding ended
+  batch-top = ap (λ (o : Outcome). o .top) (batch-run F ws top calls out s list (omega arith))

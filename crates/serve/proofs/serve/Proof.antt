@@ -1,8 +1,8 @@
 -- `serve::serve` meets its contract: the tests are made in the order of the definition. Assumes nothing.
 use native.Mathlib.Omega.{arith}
-use Rattle.meaning.specs.Limits.{programCells, programBytes}
-use Rattle.serve.proofs.Spacing.{refusal-short}
+use Rattle.meaning.specs.Limits.{firstHeapCell, programCells, programBytes}
 use Rattle.meaning.proofs.program.Tests.{too-short, too-small, too-large, too-long, broken, right}
+use Rattle.serve.proofs.Spacing.{refusal-short}
 use borrow.Author.Needs.{needs}
 use Rattle.serve.proofs.serve.Statement.{statement}
 use Rattle.serve.proofs.serve.Tie as tie
@@ -14,7 +14,7 @@ returns : tie.Need-returns
 returns c =
     let args = c .before .before .before .before .args in
     let if1 = c .before .before .if1 in
-    rw (too-short (args .input .now) (if1 .taken)) (c .refuse .ensures)
+    rw (too-short firstHeapCell (args .input .now) (if1 .taken)) (c .refuse .ensures)
 
 refuse-requires-2 : tie.Need-refuse-requires-2
 refuse-requires-2 c κs = omega (arith, refusal-short 1 (omega arith), c .refuse-arg2 .given .0 .1)
@@ -25,7 +25,8 @@ returns-2 c =
     let if1 = c .before .before .before .before .if1 in
     let word = c .before .before .before .word in
     let if2 = c .before .before .if2 in
-    rw (too-small (args .input .now) (if1 .left) (word .result) (word .ensures) (if2 .taken)) (c .refuse2 .ensures)
+    rw (too-small firstHeapCell (args .input .now) (if1 .left) (word .result) (word .ensures) (if2 .taken))
+    (c .refuse2 .ensures)
 
 refuse-requires-3 : tie.Need-refuse-requires-3
 refuse-requires-3 c κs = omega (arith, refusal-short 1 (omega arith), c .refuse-arg3 .given .0 .1)
@@ -38,7 +39,7 @@ returns-3 c =
     let word = c .before .before .before .before .word in
     let if2 = c .before .before .before .if2 in
     let if3 = c .before .before .if3 in
-    rw (too-large (args .input .now) (if1 .left) (word .result) (word .ensures) (if2 .left) (if3 .taken))
+    rw (too-large firstHeapCell (args .input .now) (if1 .left) (word .result) (word .ensures) (if2 .left) (if3 .taken))
     (c .refuse3 .ensures)
 
 refuse-requires-4 : tie.Need-refuse-requires-4
@@ -53,7 +54,7 @@ returns-4 c =
     let if2 = c .before .before .before .before .if2 in
     let if3 = c .before .before .before .if3 in
     let if4 = c .before .before .if4 in
-    rw (too-long (args .input .now) (if1 .left) (word .result) (word .ensures) (if2 .left) (if3 .left)
+    rw (too-long firstHeapCell (args .input .now) (if1 .left) (word .result) (word .ensures) (if2 .left) (if3 .left)
     (if4 .taken))
     (c .refuse4 .ensures)
 
@@ -70,8 +71,8 @@ returns-5 c =
     let if3 = c .before .before .before .before .if3 in
     let if4 = c .before .before .before .if4 in
     let if5 = c .before .before .if5 in
-    rw (broken (args .input .now) (if1 .left) (word .result) (word .ensures) (if2 .left) (if3 .left) (if4 .left)
-    (omega (arith, if5 .taken)))
+    rw (broken firstHeapCell (args .input .now) (if1 .left) (word .result) (word .ensures) (if2 .left) (if3 .left)
+    (if4 .left) (omega (arith, if5 .taken)))
     (c .refuse5 .ensures)
 
 serve-calls-requires : tie.Need-serve-calls-requires
@@ -95,8 +96,8 @@ returns-6 c =
     let if3 = c .before .before .before .before .if3 in
     let if4 = c .before .before .before .if4 in
     let if5 = c .before .before .if5 in
-    rw (right (args .input .now) (if1 .left) (word .result) (word .ensures) (if2 .left) (if3 .left) (if4 .left)
-    (omega (arith, if5 .left)))
+    rw (right firstHeapCell (args .input .now) (if1 .left) (word .result) (word .ensures) (if2 .left) (if3 .left)
+    (if4 .left) (omega (arith, if5 .left)))
     (c .serve-calls .ensures)
 
 pub serve-spec : {M : Type 1} → statement M

@@ -1,0 +1,2 @@
+-- The program. Assumes nothing.
+pub mod Written
