@@ -4,7 +4,8 @@
 //! differs is made smaller by dropping calls, then printed. In order:
 //!
 //! - [`worked`]: rows that are worked out by hand.
-//! - [`face`]: the safe wrapper, its enums and its iterator.
+//! - [`face`]: the safe wrapper, its enums and its stores.
+//! - [`terms`]: its iterator, and terms written and compared.
 //! - [`batches`]: random stores, sound and damaged, with random lists and answer spaces.
 //! - [`meaning`]: call for call against expressions with no addresses.
 //! - [`alike`]: stores that differ in dead cells, collections and cuts between batches only.
@@ -20,4 +21,5 @@ mod face;
 mod meaning;
 mod shrink;
 mod tally;
+mod terms;
 mod worked;
