@@ -1,7 +1,7 @@
 //! The C functions of the linked library, each behind a safe function on slices.
 //!
 //! This is the only file with `unsafe` in it. The declarations repeat `include/zelmotar.h`; nothing
-//! checks one against the other but the tests (rust/tests/c, `tools/rust-test`).
+//! checks one against the other but the tests (`tests/c`, `tools/rust-test`).
 
 /// What a function of the library answers, in numbers.
 ///
