@@ -32,11 +32,11 @@
  *
  * What they cost:
  *
- *   - Time. Each but zelmotar_fresh first goes over all n words to check them, so a batch of many calls costs
- *     less than many batches of one. What comes on top is said with each function. No step is repeated
- *     for sharing: no function takes longer than a fixed time for each word lent, cell and call, but for
- *     JOIN, which copies cells, and for LIVE, COLLECT and calls that collect, which go over the store.
- *   - Stack. STACK_LINE
+ *   - Time. Each first goes over all n words: zelmotar_fresh writes them, the others check them. So one batch of
+ *     many calls costs less than many batches of one. What comes on top is said with each function; none takes
+ *     longer because cells are shared.
+ *   - Stack. zelmotar_run uses at most 480 bytes, zelmotar_collect 168, the others 112, memset's own included:
+ *     measured on x86-64 and 64-bit Arm by painting the stack (tests/c/stack.c). It does not depend on the store.
  */
 #ifndef ZELMOTAR_H
 #define ZELMOTAR_H
@@ -181,7 +181,7 @@ ZELMOTAR_USE_RESULT zelmotar_answer zelmotar_check(const uint32_t *words, size_t
 
 /* Writes a fresh store: sixteen empty registers and zeros after them, whatever the words held.
  *
- * Writes all n words, or none. Reads none.
+ * Writes all n words, or none.
  * Answers ZELMOTAR_DONE with value 0 and top 16, or ZELMOTAR_BAD_LENGTH with value 0 and top 0. */
 ZELMOTAR_USE_RESULT zelmotar_answer zelmotar_fresh(uint32_t *words, size_t n);
 
