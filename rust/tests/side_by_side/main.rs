@@ -11,7 +11,8 @@
 //! - [`alike`]: stores that differ in dead cells, collections and cuts between batches only.
 //! - [`bytes`]: raw bytes as store, calls and answer space.
 //!
-//! [`case`], [`shrink`] and [`tally`] serve these.
+//! [`case`], [`pages`], [`shrink`] and [`tally`] serve these. Cases lend their words between pages that
+//! fault when touched.
 
 mod alike;
 mod batches;
@@ -19,6 +20,7 @@ mod bytes;
 mod case;
 mod face;
 mod meaning;
+mod pages;
 mod shrink;
 mod tally;
 mod terms;
