@@ -52,6 +52,7 @@ extern "C" {
 #define ZELMOTAR_VERSION_MAJOR 0
 #define ZELMOTAR_VERSION_MINOR 1
 #define ZELMOTAR_VERSION_PATCH 0
+#define ZELMOTAR_VERSION "0.1.0"
 
 /* Put before a function whose answer must be looked at: compilers that can warn of an answer that is dropped
  * do so. Define it as nothing to have no such warnings. */
@@ -72,24 +73,25 @@ extern "C" {
 #define ZELMOTAR_MOST_CALL_WORDS 4096  /* words of the longest call list, 1,024 calls */
 #define ZELMOTAR_MOST_CODE 0x0fffffffu /* the largest code of a symbol, 268,435,455 */
 
-/* A cell's second word. The three middle bits are zero between calls. */
-#define ZELMOTAR_BRACKET 0x80000000u     /* set in a bracket or register, and alone if it is empty */
-#define ZELMOTAR_USED 0x40000000u        /* zero */
-#define ZELMOTAR_LEFT_CHAIN 0x20000000u  /* zero */
-#define ZELMOTAR_RIGHT_CHAIN 0x10000000u /* zero */
+/* A cell's second word. Bits 30 to 28 are for collections, and zero between calls. */
+#define ZELMOTAR_BRACKET 0x80000000u     /* bit 31: a bracket or register; nothing else is set if it is empty */
+#define ZELMOTAR_USED 0x40000000u        /* bit 30 */
+#define ZELMOTAR_LEFT_CHAIN 0x20000000u  /* bit 29 */
+#define ZELMOTAR_RIGHT_CHAIN 0x10000000u /* bit 28 */
 #define ZELMOTAR_RIGHT_END 0x0fffffffu   /* the bits of the right end */
 
 /* The two words of cell c in the words w, to read or to assign. */
 #define ZELMOTAR_FIRST_WORD(w, c) ((w)[2 * (size_t)(c)])
 #define ZELMOTAR_SECOND_WORD(w, c) ((w)[2 * (size_t)(c) + 1])
 
-/* Cell c of a sound store, taken apart. Its kind is one of the first two; an empty bracket is a bracket. */
+/* Cell c of a sound store, taken apart. Its kind is one of the first two; an empty bracket is a bracket. Only a
+ * symbol has a code, and only a bracket that is not empty has ends. */
 #define ZELMOTAR_IS_SYMBOL(w, c) (ZELMOTAR_SECOND_WORD(w, c) == 0)
 #define ZELMOTAR_IS_BRACKET(w, c) ((ZELMOTAR_SECOND_WORD(w, c) & ZELMOTAR_BRACKET) != 0)
 #define ZELMOTAR_IS_EMPTY(w, c) (ZELMOTAR_SECOND_WORD(w, c) == ZELMOTAR_BRACKET)
-#define ZELMOTAR_CODE(w, c) ZELMOTAR_FIRST_WORD(w, c)       /* of a symbol */
-#define ZELMOTAR_LEFT(w, c) ZELMOTAR_FIRST_WORD(w, c)       /* of a bracket that is not empty */
-#define ZELMOTAR_RIGHT(w, c) (ZELMOTAR_SECOND_WORD(w, c) & ZELMOTAR_RIGHT_END) /* likewise */
+#define ZELMOTAR_CODE(w, c) ZELMOTAR_FIRST_WORD(w, c)
+#define ZELMOTAR_LEFT(w, c) ZELMOTAR_FIRST_WORD(w, c)
+#define ZELMOTAR_RIGHT(w, c) (ZELMOTAR_SECOND_WORD(w, c) & ZELMOTAR_RIGHT_END)
 
 /* The two words of a cell, made: uint32_t cell[2] = {ZELMOTAR_SYMBOL_CELL(65)}; */
 #define ZELMOTAR_SYMBOL_CELL(code) (uint32_t)(code), 0u

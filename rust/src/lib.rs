@@ -33,7 +33,7 @@
 //! # Without an allocator
 //!
 //! The package uses `core` alone if its feature `alloc`, which is on by default, is turned off. What goes
-//! with it: [`Store::new`], [`Store::run`] and [`Store::run_all`], and that terms are written out and
+//! with it: `Store::new`, `Store::run` and `Store::run_all`, and that terms are written out and
 //! compared. A store in lent words, [`Store::call`] and [`Store::run_words`] allocate nothing.
 //!
 //! # Linking
@@ -55,12 +55,16 @@ mod equal;
 #[allow(unsafe_code)]
 mod ffi;
 mod status;
+#[cfg(feature = "alloc")]
+mod stopped;
 mod store;
 mod terms;
 
-pub use answer::{Answer, Fault, Refusal, Stopped};
+pub use answer::{Answer, Fault, Refusal};
 pub use call::Call;
 pub use status::{status_text, Status, STATUSES};
+#[cfg(feature = "alloc")]
+pub use stopped::Stopped;
 pub use store::Store;
 pub use terms::{Term, Terms};
 

@@ -174,6 +174,7 @@ static void version(const char *package)
     char here[40];
     snprintf(here, sizeof here, "%d.%d.%d", ZELMOTAR_VERSION_MAJOR, ZELMOTAR_VERSION_MINOR, ZELMOTAR_VERSION_PATCH);
     EXPECT(strcmp(here, package) == 0);
+    EXPECT(strcmp(ZELMOTAR_VERSION, package) == 0);
 }
 
 int main(int count, char **list)
