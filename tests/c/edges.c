@@ -9,6 +9,7 @@
 #define _DEFAULT_SOURCE
 #include <signal.h>
 #include <sys/mman.h>
+#include <sys/resource.h>
 #include <sys/wait.h>
 #include <unistd.h>
 
@@ -143,11 +144,12 @@ static void edges(void)
 /* Whether a process of its own, doing what is asked, is ended by a fault. */
 static int faults(void (*act)(void))
 {
+    const struct rlimit no_core = {0, 0};
     int status = 0;
     pid_t child = fork();
     if (child == 0) {
-        signal(SIGSEGV, SIG_DFL), signal(SIGBUS, SIG_DFL);
-        act();
+        if (setrlimit(RLIMIT_CORE, &no_core) == 0)
+            act();
         _exit(0);
     }
     return child > 0 && waitpid(child, &status, 0) == child && WIFSIGNALED(status) &&

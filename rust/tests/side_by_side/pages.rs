@@ -93,8 +93,11 @@ fn the_pages_on_both_sides_fault() {
     for (place, faults) in
         [(-1, true), (0, false), (WORDS as isize - 1, false), (WORDS as isize, true)]
     {
-        let mut command = Command::new(&this);
-        command.args(["--exact", "pages::the_pages_on_both_sides_fault"]);
+        // Through the shell, which can see to it that no core file is left.
+        let mut command = Command::new("sh");
+        command
+            .args(["-c", "ulimit -c 0; exec \"$0\" --exact pages::the_pages_on_both_sides_fault"]);
+        command.arg(&this);
         let status = command.env(ASKED, place.to_string()).output().expect("it is run").status;
         assert_eq!(status.signal().is_some(), faults, "word {place}: {status}");
     }
