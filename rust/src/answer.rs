@@ -8,7 +8,24 @@ use crate::{status_text, Call};
 
 /// The answer to one call of a batch.
 ///
-/// It is written as `done`, `done: 65` or `refused: no room`.
+/// It is written as `done`, `done: 65` or `refused: no room`. The compiler warns of one that is dropped:
+///
+/// ```compile_fail
+/// #![deny(unused_must_use)]
+/// # fn main() -> Result<(), zelmotar::Refusal> {
+/// zelmotar::Store::fresh([0; 32])?.call(zelmotar::Call::Live)?;
+/// # Ok(())
+/// # }
+/// ```
+///
+/// ```
+/// #![deny(unused_must_use)]
+/// # fn main() -> Result<(), zelmotar::Refusal> {
+/// let answer = zelmotar::Store::fresh([0; 32])?.call(zelmotar::Call::Live)?;
+/// assert_eq!(answer.to_string(), "done: 0");
+/// # Ok(())
+/// # }
+/// ```
 #[derive(Clone, Copy, Debug, PartialEq, Eq, Hash)]
 #[must_use = "a call may be refused, and the calls after it still go on"]
 pub enum Answer {
@@ -128,8 +145,8 @@ impl Error for Fault {}
 
 /// Why a whole request is refused: the first that applies.
 ///
-/// After a refusal the words, the answer space and `top` are as they came. More refusals will come with
-/// more requests, and a damaged cell will be told with its rule.
+/// After a refusal the words, the answer space and `top` are as they came. More requests will bring more
+/// refusals, and a damaged cell will come with the rule that it breaks: a match has a case for the rest.
 #[derive(Clone, Copy, Debug, PartialEq, Eq, Hash)]
 #[must_use]
 #[non_exhaustive]
