@@ -35,8 +35,9 @@
  *   - Time. Each first goes over all n words: zelmotar_fresh writes them, the others check them. So one batch of
  *     many calls costs less than many batches of one. What comes on top is said with each function; none takes
  *     longer because cells are shared.
- *   - Stack. zelmotar_run uses at most 480 bytes, zelmotar_collect 168, the others 112, memset's own included:
- *     measured on x86-64 and 64-bit Arm by painting the stack (tests/c/stack.c). It does not depend on the store.
+ *   - Stack. zelmotar_run uses under 512 bytes, zelmotar_collect under 192, the others under 128, memset's own
+ *     included: measured on x86-64 and 64-bit Arm by painting the stack (tests/c/stack.c). It does not depend on
+ *     the store.
  */
 #ifndef ZELMOTAR_H
 #define ZELMOTAR_H

@@ -4,8 +4,8 @@
  *
  * A function is called on a stack of its own, which is painted beforehand; the lowest byte that lost its paint
  * says how deep the call went. The same call of a function that does nothing is taken off. The return address
- * counts where the processor puts it on the stack. Prints a line for each function, and fails if one uses more
- * than zelmotar.h says. For Linux and its like. */
+ * counts where the processor puts it on the stack. Prints a line for each function, and fails if one uses as
+ * much as zelmotar.h says that it stays under. For Linux and its like. */
 #define _DEFAULT_SOURCE
 #include <ucontext.h>
 
@@ -17,7 +17,7 @@
 enum { CHECK, FRESH, COLLECT, RUN, LOOK, FUNCTIONS };
 
 static const char *const names[FUNCTIONS] = {"check", "fresh", "collect", "run", "look"};
-static const size_t most[FUNCTIONS] = {112, 112, 168, 480, 112};
+static const size_t under[FUNCTIONS] = {128, 128, 192, 512, 128}; /* as zelmotar.h says */
 
 static struct test_case c;
 static uint32_t words[MOST_STORE], answers[MOST_ANSWERS];
@@ -132,7 +132,7 @@ int main(int count_given, char **list)
     }
     for (i = 0; i < FUNCTIONS; i++) {
         printf("zelmotar_%-7s %4u bytes of stack\n", names[i], (unsigned)deepest[i]);
-        EXPECT(deepest[i] > 0 && deepest[i] <= most[i]);
+        EXPECT(deepest[i] > 0 && deepest[i] < under[i]);
     }
     return expect_end();
 }
