@@ -1,19 +1,27 @@
 /* A feed's readings in a store: a bracket of feed, unit and value for each, side by side in one register.
  *
- * Shows the five functions in use. The store is small on purpose, so that it collects itself while the
- * readings come in, and at last has no room for one more. */
+ * Shows the five functions in use, with every status looked at: that of each request and that of each call in
+ * it. The store is small on purpose, so that it collects itself while the readings come in, and at last has no
+ * room for one more. */
 #include <stdio.h>
+#include <stdlib.h>
 
 #include "zelmotar.h"
 
-#define CELLS 48
+#define WORDS 96 /* 48 cells */
 #define MILLIAMPS 2
 
-/* A bracket in a cell's second word. */
-#define BRACKET 2147483648u
-
-static uint32_t store[2 * CELLS];
+static uint32_t store[WORDS];
 static size_t top;
+
+/* Ends the program unless a status is the one that is expected. */
+static void demand(const char *what, uint32_t status, uint32_t expected)
+{
+    if (status == expected)
+        return;
+    fprintf(stderr, "%s: status %u, %s\n", what, (unsigned)status, zelmotar_status_text(status));
+    exit(1);
+}
 
 /* The calls that add one reading to register 0; registers 1 and 2 are put to use and cleared again. */
 static void spell_reading(uint32_t calls[9][4], uint32_t feed, uint32_t value)
@@ -29,17 +37,21 @@ static void spell_reading(uint32_t calls[9][4], uint32_t feed, uint32_t value)
             calls[i][j] = spelt[i][j];
 }
 
-/* Runs one call and gives its value. */
+/* Runs one call that cannot be refused and gives its value. */
 static uint32_t ask(uint32_t operation, uint32_t a)
 {
     uint32_t call[4] = {0, 0, 0, 0}, answers[2];
+    zelmotar_answer answer;
     call[0] = operation;
     call[2] = a;
-    top = zelmotar_run(store, 2 * CELLS, top, call, 4, answers, 2).top;
+    answer = zelmotar_run(store, WORDS, top, call, 4, answers, 2);
+    demand("asking", answer.status, ZELMOTAR_DONE);
+    demand("the call that asks", answers[0], ZELMOTAR_DONE);
+    top = answer.top;
     return answers[1];
 }
 
-/* Adds a reading and says so. Gives the first status that is not 0, if there is one.
+/* Adds a reading and says so. Gives the first status of a call that is not 0, if there is one.
  *
  * A refused call does not stop those after it. Still no part of a reading gets into register 0: the JOIN
  * onto it needs more cells than any call before it, so it is refused whenever one of them is. */
@@ -50,9 +62,8 @@ static uint32_t add_reading(uint32_t feed, uint32_t value)
     zelmotar_answer answer;
     int i;
     spell_reading(calls, feed, value);
-    answer = zelmotar_run(store, 2 * CELLS, top, calls[0], 36, answers, 18);
-    if (answer.status != ZELMOTAR_DONE)
-        return answer.status;
+    answer = zelmotar_run(store, WORDS, top, calls[0], 36, answers, 18);
+    demand("adding a reading", answer.status, ZELMOTAR_DONE);
     top = answer.top;
     for (i = 0; i < 9; i++)
         if (answers[2 * i] != ZELMOTAR_DONE)
@@ -62,38 +73,50 @@ static uint32_t add_reading(uint32_t feed, uint32_t value)
     return ZELMOTAR_DONE;
 }
 
-/* Prints the readings of register 0 from the lent cells. */
+/* Prints the readings of register 0 from the lent cells. A look has no status; on a store that is not sound it
+ * would be empty, as it is for an empty register, so the check comes first. */
 static void print_readings(void)
 {
-    zelmotar_span span = zelmotar_look(store, 2 * CELLS, top, 0);
-    size_t i;
-    for (i = span.from; i < span.to; i += 2) {
-        size_t l = store[i], r = store[i + 1] - BRACKET, c;
-        printf("cell %2u: (", (unsigned)(i / 2));
-        for (c = l; c <= r; c++)
-            printf("%s%u", c == l ? "" : " ", (unsigned)store[2 * c]);
+    zelmotar_span span;
+    size_t c, part;
+    demand("the check", zelmotar_check(store, WORDS, top).status, ZELMOTAR_DONE);
+    span = zelmotar_look(store, WORDS, top, 0);
+    for (c = span.from / 2; c < span.to / 2; c++) {
+        printf("cell %2u: (", (unsigned)c);
+        for (part = ZELMOTAR_LEFT(store, c); part <= ZELMOTAR_RIGHT(store, c); part++)
+            printf("%s%u", part == ZELMOTAR_LEFT(store, c) ? "" : " ", (unsigned)ZELMOTAR_CODE(store, part));
         printf(")\n");
     }
 }
 
+/* Adds readings until one is refused, which must be for room. */
+static void fill(void)
+{
+    uint32_t status = ZELMOTAR_DONE, hour;
+    for (hour = 0; status == ZELMOTAR_DONE; hour++)
+        status = add_reading(7, 120 + 5 * hour);
+    demand("the last reading", status, ZELMOTAR_NO_ROOM);
+    printf("reading %u is refused: %s\n", (unsigned)hour, zelmotar_status_text(status));
+}
+
 int main(void)
 {
-    zelmotar_answer answer = zelmotar_fresh(store, 2 * CELLS);
-    uint32_t status = answer.status, hour;
+    zelmotar_answer answer = zelmotar_fresh(store, WORDS);
+    demand("a fresh store", answer.status, ZELMOTAR_DONE);
     top = answer.top;
-    for (hour = 0; status == ZELMOTAR_DONE && hour < 24; hour++)
-        status = add_reading(7, 120 + 5 * hour);
-    printf("reading %u is refused: status %u\n", (unsigned)hour, (unsigned)status);
+    fill();
 
-    answer = zelmotar_collect(store, 2 * CELLS, top);
+    answer = zelmotar_collect(store, WORDS, top);
+    demand("collecting", answer.status, ZELMOTAR_DONE);
     top = answer.top;
-    printf("collected: status %u, %u cells live, top %u\n", (unsigned)answer.status, (unsigned)answer.value,
-           (unsigned)top);
+    printf("collected: %u cells live, top %u\n", (unsigned)answer.value, (unsigned)top);
     printf("register 0 has %u readings\n", (unsigned)ask(ZELMOTAR_LENGTH, 0));
     print_readings();
 
-    store[2 * 20 + 1] = 1;
-    answer = zelmotar_check(store, 2 * CELLS, top);
-    printf("after a stray write: status %u, cell %u\n", (unsigned)answer.status, (unsigned)answer.value);
+    ZELMOTAR_SECOND_WORD(store, 20) = 1;
+    answer = zelmotar_check(store, WORDS, top);
+    demand("the check after a stray write", answer.status, ZELMOTAR_DAMAGED);
+    printf("after a stray write: %s, the first is cell %u\n", zelmotar_status_text(answer.status),
+           (unsigned)answer.value);
     return 0;
 }

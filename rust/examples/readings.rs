@@ -6,7 +6,7 @@
 
 use std::error::Error;
 
-use zelmotar::{Answer, Call, Store, Term, Terms};
+use zelmotar::{Call, Store, Term, Terms};
 
 const DAY: u32 = 0;
 const HOUR: u32 = 1;
@@ -73,14 +73,6 @@ fn readings_of(hour: u32) -> [Reading; 3] {
     ]
 }
 
-/// Runs calls and fails on the first that is refused.
-fn run_all(store: &mut Store, calls: &[Call]) -> Result<(), Box<dyn Error>> {
-    match store.run(calls)?.into_iter().find_map(Answer::fault) {
-        Some(fault) => Err(fault.into()),
-        None => Ok(()),
-    }
-}
-
 fn print_feed(feed: u32, day: Terms) {
     let readings = day.filter_map(Reading::of).filter(|reading| reading.feed == feed);
     let amounts: Vec<u64> = readings.map(Reading::milliamps).collect();
@@ -94,9 +86,9 @@ fn main() -> Result<(), Box<dyn Error>> {
         let mut calls = vec![Call::Clear { d: HOUR }];
         calls.extend(readings_of(hour).into_iter().flat_map(Reading::calls));
         calls.push(Call::Join { d: DAY, a: DAY, b: HOUR });
-        run_all(&mut store, &calls)?;
+        store.run_all(&calls)?;
     }
-    run_all(&mut store, &[HOUR, READING, PART].map(|d| Call::Clear { d }))?;
+    store.run_all(&[HOUR, READING, PART].map(|d| Call::Clear { d }))?;
     println!(
         "the day has {} readings; the first is ({})",
         store.look(0).len(),

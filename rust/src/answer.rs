@@ -1,13 +1,33 @@
 //! What comes back: answers to calls, and refusals of a whole request.
 
-use std::error::Error;
-use std::fmt;
+use core::error::Error;
+use core::fmt;
 
 use crate::ffi::Reply;
-use crate::Call;
+use crate::{status_text, Call};
 
 /// The answer to one call of a batch.
+///
+/// It is written as `done`, `done: 65` or `refused: no room`. The compiler warns of one that is dropped:
+///
+/// ```compile_fail
+/// #![deny(unused_must_use)]
+/// # fn main() -> Result<(), zelmotar::Refusal> {
+/// zelmotar::Store::fresh([0; 32])?.call(zelmotar::Call::Live)?;
+/// # Ok(())
+/// # }
+/// ```
+///
+/// ```
+/// #![deny(unused_must_use)]
+/// # fn main() -> Result<(), zelmotar::Refusal> {
+/// let answer = zelmotar::Store::fresh([0; 32])?.call(zelmotar::Call::Live)?;
+/// assert_eq!(answer.to_string(), "done: 0");
+/// # Ok(())
+/// # }
+/// ```
 #[derive(Clone, Copy, Debug, PartialEq, Eq, Hash)]
+#[must_use = "a call may be refused, and the calls after it still go on"]
 pub enum Answer {
     /// The call is done, and has no value.
     Done,
@@ -51,10 +71,21 @@ impl Answer {
     }
 }
 
+impl fmt::Display for Answer {
+    fn fmt(&self, f: &mut fmt::Formatter<'_>) -> fmt::Result {
+        match self {
+            Answer::Done => f.write_str(status_text(0)),
+            Answer::Value(value) => write!(f, "{}: {value}", status_text(0)),
+            Answer::Refused(fault) => write!(f, "refused: {fault}"),
+        }
+    }
+}
+
 /// Why one call is refused: the first that applies.
 ///
 /// All but [`Room`](Fault::Room) leave every word of the store as it was.
 #[derive(Clone, Copy, Debug, PartialEq, Eq, Hash)]
+#[must_use]
 pub enum Fault {
     /// 10: the operation is over 11. No [`Call`] has such an operation.
     Operation,
@@ -103,17 +134,10 @@ impl Fault {
     }
 }
 
+/// The text of its number in [`STATUSES`](crate::STATUSES).
 impl fmt::Display for Fault {
     fn fmt(&self, f: &mut fmt::Formatter<'_>) -> fmt::Result {
-        f.write_str(match self {
-            Fault::Operation => "the operation is over 11",
-            Fault::Register => "a register is over 15",
-            Fault::StrayWord => "a word that the call does not use is not 0",
-            Fault::Code => "the symbol's code is over 268435455",
-            Fault::Empty => "the register is empty",
-            Fault::Kind => "the first term is of the wrong kind",
-            Fault::Room => "the store has no room, though collected",
-        })
+        f.write_str(status_text(self.number()))
     }
 }
 
@@ -121,14 +145,18 @@ impl Error for Fault {}
 
 /// Why a whole request is refused: the first that applies.
 ///
-/// After a refusal the words, the answer space and `top` are as they came.
+/// After a refusal the words, the answer space and `top` are as they came. More requests will bring more
+/// refusals, and a damaged cell will come with the rule that it breaks: a match has a case for the rest.
 #[derive(Clone, Copy, Debug, PartialEq, Eq, Hash)]
+#[must_use]
+#[non_exhaustive]
 pub enum Refusal {
     /// 1: the number of words is odd, under 32 or over 8,192.
     Length,
     /// 2: `top` is under 16 or over the capacity.
     Top,
     /// 3: a cell breaks its rule.
+    #[non_exhaustive]
     Damaged {
         /// The first damaged cell, the one with the lowest address.
         cell: u32,
@@ -151,6 +179,14 @@ impl Refusal {
         }
     }
 
+    /// The damaged cell, if that is the refusal.
+    pub const fn cell(self) -> Option<u32> {
+        match self {
+            Refusal::Damaged { cell } => Some(cell),
+            _ => None,
+        }
+    }
+
     /// The refusal in a reply, if it is one.
     ///
     /// # Panics
@@ -169,14 +205,13 @@ impl Refusal {
     }
 }
 
+/// The text of its number in [`STATUSES`](crate::STATUSES), and the damaged cell where there is one.
 impl fmt::Display for Refusal {
     fn fmt(&self, f: &mut fmt::Formatter<'_>) -> fmt::Result {
-        match self {
-            Refusal::Length => f.write_str("a store has an even number of words, 32 to 8192"),
-            Refusal::Top => f.write_str("top is not between 16 and the capacity"),
-            Refusal::Damaged { cell } => write!(f, "cell {cell} is damaged"),
-            Refusal::Calls => f.write_str("a batch has at most 1024 calls of four words each"),
-            Refusal::Answers => f.write_str("the answer space is under two words a call"),
+        f.write_str(status_text(self.number()))?;
+        match self.cell() {
+            Some(cell) => write!(f, ": cell {cell}"),
+            None => Ok(()),
         }
     }
 }

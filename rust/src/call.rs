@@ -1,4 +1,8 @@
-//! Calls, and the four words that each is sent as.
+//! Calls, the four words that each is sent as, and the line that each is written as.
+
+use core::fmt;
+
+use crate::Fault;
 
 /// One call on a store.
 ///
@@ -11,6 +15,8 @@
 ///
 /// assert_eq!(Call::Join { d: 2, a: 0, b: 1 }.words(), [4, 2, 0, 1]);
 /// assert_eq!(Call::Length { a: 7 }.words(), [8, 0, 7, 0]);
+/// assert_eq!(Call::Length { a: 7 }.to_string(), "LENGTH 7");
+/// assert_eq!(Call::try_from([8, 0, 7, 0]), Ok(Call::Length { a: 7 }));
 /// ```
 #[derive(Clone, Copy, Debug, PartialEq, Eq, Hash)]
 pub enum Call {
@@ -89,6 +95,25 @@ pub enum Call {
     Collect,
 }
 
+/// What an operation makes of the three words after its number.
+type Form = fn(u32, u32, u32) -> Call;
+
+/// Each operation in order: its name, which of d, a and b it uses, and the call.
+const OPERATIONS: [(&str, [bool; 3], Form); 12] = [
+    ("CLEAR", [true, false, false], |d, _, _| Call::Clear { d }),
+    ("COPY", [true, true, false], |d, a, _| Call::Copy { d, a }),
+    ("SYMBOL", [true, true, false], |d, code, _| Call::Symbol { d, code }),
+    ("WRAP", [true, true, false], |d, a, _| Call::Wrap { d, a }),
+    ("JOIN", [true, true, true], |d, a, b| Call::Join { d, a, b }),
+    ("HEAD", [true, true, false], |d, a, _| Call::Head { d, a }),
+    ("REST", [true, true, false], |d, a, _| Call::Rest { d, a }),
+    ("OPEN", [true, true, false], |d, a, _| Call::Open { d, a }),
+    ("LENGTH", [false, true, false], |_, a, _| Call::Length { a }),
+    ("FIRST", [false, true, false], |_, a, _| Call::First { a }),
+    ("LIVE", [false, false, false], |_, _, _| Call::Live),
+    ("COLLECT", [false, false, false], |_, _, _| Call::Collect),
+];
+
 impl Call {
     /// The call as the store reads it: operation, d, a and b. A word that is not used is 0.
     pub const fn words(self) -> [u32; 4] {
@@ -108,8 +133,58 @@ impl Call {
         }
     }
 
+    /// The name of the operation, as `SYMBOL`.
+    pub const fn name(self) -> &'static str {
+        OPERATIONS[self.words()[0] as usize].0
+    }
+
     /// Whether a value comes back when the call is done.
     pub const fn has_value(self) -> bool {
         matches!(self, Call::Length { .. } | Call::First { .. } | Call::Live | Call::Collect)
+    }
+}
+
+impl From<Call> for [u32; 4] {
+    fn from(call: Call) -> Self {
+        call.words()
+    }
+}
+
+/// The call that [`words`](Call::words) gives as these four.
+///
+/// Two faults can be in words that are in no `Call`, and they are the errors: [`Fault::Operation`], and
+/// else [`Fault::StrayWord`]. A register or a code out of range is left to the store to refuse.
+///
+/// ```
+/// use zelmotar::{Call, Fault};
+///
+/// assert_eq!(Call::try_from([4, 2, 0, 1]), Ok(Call::Join { d: 2, a: 0, b: 1 }));
+/// assert_eq!(Call::try_from([12, 0, 0, 0]), Err(Fault::Operation));
+/// assert_eq!(Call::try_from([0, 0, 1, 0]), Err(Fault::StrayWord));
+/// assert_eq!(Call::try_from([0, 16, 0, 0]), Ok(Call::Clear { d: 16 }));
+/// ```
+impl TryFrom<[u32; 4]> for Call {
+    type Error = Fault;
+
+    fn try_from([operation, d, a, b]: [u32; 4]) -> Result<Self, Fault> {
+        let row = usize::try_from(operation).ok().and_then(|number| OPERATIONS.get(number));
+        let (_, uses, form) = row.ok_or(Fault::Operation)?;
+        match uses.iter().zip([d, a, b]).any(|(&used, word)| !used && word != 0) {
+            true => Err(Fault::StrayWord),
+            false => Ok(form(d, a, b)),
+        }
+    }
+}
+
+/// The name and the operands, as in a batch that is written as text: `SYMBOL 0 65`, `LIVE`.
+impl fmt::Display for Call {
+    fn fmt(&self, f: &mut fmt::Formatter<'_>) -> fmt::Result {
+        let [operation, operands @ ..] = self.words();
+        let (name, uses, _) = OPERATIONS[operation as usize];
+        f.write_str(name)?;
+        for (_, operand) in uses.iter().zip(operands).filter(|(&used, _)| used) {
+            write!(f, " {operand}")?;
+        }
+        Ok(())
     }
 }

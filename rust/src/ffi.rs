@@ -1,13 +1,14 @@
 //! The C functions of the linked library, each behind a safe function on slices.
 //!
 //! This is the only file with `unsafe` in it. The declarations repeat `include/zelmotar.h`; nothing
-//! checks one against the other but the tests.
+//! checks one against the other but the tests (`tests/c`, `tools/rust-test`).
 
 /// What a function of the library answers, in numbers.
 ///
 /// It is laid out as `zelmotar_answer` of the C header.
 #[repr(C)]
 #[derive(Clone, Copy, Debug, PartialEq, Eq)]
+#[must_use = "the status says whether anything was done"]
 pub struct Reply {
     /// 0 for done, else the number of the refusal.
     pub status: u32,
@@ -22,6 +23,7 @@ pub struct Reply {
 /// It is laid out as `zelmotar_span` of the C header.
 #[repr(C)]
 #[derive(Clone, Copy, Debug, PartialEq, Eq)]
+#[must_use]
 pub struct Span {
     /// The offset of the first word.
     pub from: usize,

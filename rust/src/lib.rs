@@ -14,9 +14,9 @@
 //! ```
 //! use zelmotar::{Answer, Call, Store};
 //!
-//! # fn main() -> Result<(), zelmotar::Refusal> {
+//! # fn main() -> Result<(), Box<dyn std::error::Error>> {
 //! let mut store = Store::new(64)?;
-//! let answers = store.run(&[
+//! let answers = store.run_all(&[
 //!     Call::Symbol { d: 0, code: 65 },
 //!     Call::Symbol { d: 1, code: 66 },
 //!     Call::Join { d: 2, a: 0, b: 1 },
@@ -30,23 +30,41 @@
 //! # }
 //! ```
 //!
+//! # Without an allocator
+//!
+//! The package uses `core` alone if its feature `alloc`, which is on by default, is turned off. What goes
+//! with it: `Store::new`, `Store::run` and `Store::run_all`, and that terms are written out and
+//! compared. A store in lent words, [`Store::call`] and [`Store::run_words`] allocate nothing.
+//!
 //! # Linking
 //!
 //! The build looks for `libzelmotar.a` in the folder that the environment variable `ZELMOTAR_LIB`
 //! names, else in `target/native` of the repository, where `tools/archive` puts it.
 
+#![no_std]
 #![warn(missing_docs)]
 #![deny(unsafe_code)]
 
+#[cfg(feature = "alloc")]
+extern crate alloc;
+
 mod answer;
 mod call;
+#[cfg(feature = "alloc")]
+mod equal;
 #[allow(unsafe_code)]
 mod ffi;
+mod status;
+#[cfg(feature = "alloc")]
+mod stopped;
 mod store;
 mod terms;
 
 pub use answer::{Answer, Fault, Refusal};
 pub use call::Call;
+pub use status::{status_text, Status, STATUSES};
+#[cfg(feature = "alloc")]
+pub use stopped::Stopped;
 pub use store::Store;
 pub use terms::{Term, Terms};
 
@@ -84,4 +102,4 @@ pub const MAX_CELLS: usize = 4096;
 pub const MAX_CALLS: usize = 1024;
 
 /// The largest code of a symbol.
-pub const MAX_CODE: u32 = 268_435_455;
+pub const MAX_CODE: u32 = 0x0fff_ffff;

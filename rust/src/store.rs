@@ -1,7 +1,19 @@
 //! A store with the words that it stands in.
 
+#[cfg(feature = "alloc")]
+use alloc::{vec, vec::Vec};
+
 use crate::ffi;
-use crate::{Answer, Call, Refusal, Terms, MAX_CELLS};
+use crate::{Answer, Call, Refusal, Terms};
+#[cfg(feature = "alloc")]
+use crate::{Stopped, MAX_CALLS, MAX_CELLS};
+
+/// What holds the words where a store's type does not say it: a vector, or without an allocator words
+/// that are lent for good.
+#[cfg(feature = "alloc")]
+type Words = Vec<u32>;
+#[cfg(not(feature = "alloc"))]
+type Words = &'static mut [u32];
 
 /// An expression store: its words, owned or borrowed, and its `top`.
 ///
@@ -9,7 +21,13 @@ use crate::{Answer, Call, Refusal, Terms, MAX_CELLS};
 /// borrows them, or anything else that lends a slice, such as an array.
 ///
 /// Nothing in a `Store` is trusted. Every request has the library check the words first, so a store
-/// made of damaged words is refused and does no harm.
+/// made of damaged words is refused and does no harm. The check takes time with the number of words,
+/// and a batch of many calls has it once.
+///
+/// # Panics
+///
+/// A request panics if the linked library answers a number that is no status of the store's, so that
+/// something else is linked in its place, or if `W` lends another slice each time that it is asked.
 ///
 /// ```
 /// use zelmotar::{Answer, Call, Store};
@@ -28,17 +46,22 @@ use crate::{Answer, Call, Refusal, Terms, MAX_CELLS};
 /// # }
 /// ```
 #[derive(Clone, Debug, PartialEq, Eq, Hash)]
-pub struct Store<W = Vec<u32>> {
+pub struct Store<W = Words> {
     words: W,
     top: usize,
 }
 
+#[cfg(feature = "alloc")]
 impl Store<Vec<u32>> {
     /// A fresh store of `capacity` cells that owns its words.
     ///
     /// # Errors
     ///
     /// [`Refusal::Length`] if the capacity is under 16 or over [`MAX_CELLS`].
+    ///
+    /// # Panics
+    ///
+    /// As every request: see [`Store`].
     ///
     /// ```
     /// use zelmotar::{Refusal, Store};
@@ -63,7 +86,9 @@ impl<W> Store<W> {
     ///
     /// let (mut words, top) = Store::new(16)?.into_parts();
     /// words[6] = 5;
-    /// assert_eq!(Store::from_parts(words, top).check(), Err(Refusal::Damaged { cell: 3 }));
+    /// let refusal = Store::from_parts(words, top).check().unwrap_err();
+    /// assert_eq!(refusal.cell(), Some(3));
+    /// assert_eq!(refusal.to_string(), "a cell breaks its rule: cell 3");
     /// # Ok::<(), Refusal>(())
     /// ```
     pub fn from_parts(words: W, top: usize) -> Self {
@@ -88,6 +113,10 @@ impl<W: AsRef<[u32]> + AsMut<[u32]>> Store<W> {
     ///
     /// [`Refusal::Length`] if the number of words is odd, under 32 or over 8,192. A borrowed slice
     /// is then as it was.
+    ///
+    /// # Panics
+    ///
+    /// As every request: see [`Store`].
     pub fn fresh(mut words: W) -> Result<Self, Refusal> {
         let reply = ffi::fresh(words.as_mut());
         Refusal::of(reply)?;
@@ -109,6 +138,10 @@ impl<W: AsRef<[u32]> + AsMut<[u32]>> Store<W> {
     /// # Errors
     ///
     /// [`Refusal::Length`], [`Refusal::Top`] or [`Refusal::Damaged`], in this order.
+    ///
+    /// # Panics
+    ///
+    /// As every request: see [`Store`].
     pub fn check(&self) -> Result<(), Refusal> {
         Refusal::of(ffi::check(self.words(), self.top))
     }
@@ -122,12 +155,16 @@ impl<W: AsRef<[u32]> + AsMut<[u32]>> Store<W> {
     ///
     /// As for [`check`](Store::check); the store is then as it was.
     ///
+    /// # Panics
+    ///
+    /// As every request: see [`Store`].
+    ///
     /// ```
     /// use zelmotar::{Call, Store};
     ///
-    /// # fn main() -> Result<(), zelmotar::Refusal> {
+    /// # fn main() -> Result<(), Box<dyn std::error::Error>> {
     /// let mut store = Store::new(64)?;
-    /// store.run(&[Call::Symbol { d: 0, code: 1 }, Call::Symbol { d: 0, code: 2 }])?;
+    /// store.run_all(&[Call::Symbol { d: 0, code: 1 }, Call::Symbol { d: 0, code: 2 }])?;
     /// assert_eq!(store.top(), 18);
     /// assert_eq!(store.collect()?, 1);
     /// assert_eq!(store.top(), 17);
@@ -144,13 +181,17 @@ impl<W: AsRef<[u32]> + AsMut<[u32]>> Store<W> {
 
     /// Runs a batch of calls and gives one answer for each.
     ///
-    /// A refused call does not stop the calls after it. The store collects itself where a call
-    /// would not fit otherwise, and only there.
+    /// A refused call does not stop the calls after it; with [`run_all`](Store::run_all) it does. The
+    /// store collects itself where a call would not fit otherwise, and only there.
     ///
     /// # Errors
     ///
     /// As for [`check`](Store::check), or [`Refusal::Calls`] for more than
     /// [`MAX_CALLS`](crate::MAX_CALLS) calls; no call is run then and the store is as it was.
+    ///
+    /// # Panics
+    ///
+    /// As every request: see [`Store`].
     ///
     /// ```
     /// use zelmotar::{Answer, Call, Fault, Store};
@@ -165,6 +206,7 @@ impl<W: AsRef<[u32]> + AsMut<[u32]>> Store<W> {
     /// # Ok(())
     /// # }
     /// ```
+    #[cfg(feature = "alloc")]
     pub fn run(&mut self, calls: &[Call]) -> Result<Vec<Answer>, Refusal> {
         let words: Vec<u32> = calls.iter().flat_map(|call| call.words()).collect();
         let mut space = vec![0; 2 * calls.len()];
@@ -176,11 +218,80 @@ impl<W: AsRef<[u32]> + AsMut<[u32]>> Store<W> {
             .collect())
     }
 
-    /// Runs one call and gives its answer.
+    /// Runs calls up to the first that is refused, and gives one answer for each.
+    ///
+    /// The list may be as long as one likes. What is left is what the calls would leave one by one; yet
+    /// the words are checked, and copied in case a call is refused, once for [`MAX_CALLS`] calls.
+    ///
+    /// # Errors
+    ///
+    /// [`Stopped::Store`] as for [`check`](Store::check), and the store is then as it was.
+    /// [`Stopped::Call`] says which call is refused; those before it are done.
+    ///
+    /// # Panics
+    ///
+    /// As every request: see [`Store`].
+    ///
+    /// ```
+    /// use zelmotar::{Call, Fault, Stopped, Store};
+    ///
+    /// # fn main() -> Result<(), zelmotar::Refusal> {
+    /// let mut store = Store::new(64)?;
+    /// let calls = [
+    ///     Call::Symbol { d: 0, code: 65 },
+    ///     Call::Open { d: 1, a: 0 },
+    ///     Call::Clear { d: 0 },
+    /// ];
+    /// let stopped = store.run_all(&calls).unwrap_err();
+    /// assert_eq!(stopped, Stopped::Call { at: 1, call: calls[1], fault: Fault::Kind });
+    /// assert_eq!(
+    ///     stopped.to_string(),
+    ///     "call 1, OPEN 1 0: its first term is of the other kind"
+    /// );
+    /// assert_eq!(store.look(0).to_string(), "65");
+    /// # Ok(())
+    /// # }
+    /// ```
+    #[cfg(feature = "alloc")]
+    pub fn run_all(&mut self, calls: &[Call]) -> Result<Vec<Answer>, Stopped> {
+        let mut answers = Vec::with_capacity(calls.len());
+        loop {
+            let rest = &calls[answers.len()..];
+            answers.extend(self.run_to_refusal(&rest[..rest.len().min(MAX_CALLS)])?);
+            if let Some(&Answer::Refused(fault)) = answers.last() {
+                let at = answers.len() - 1;
+                return Err(Stopped::Call { at, call: calls[at], fault });
+            }
+            if answers.len() == calls.len() {
+                return Ok(answers);
+            }
+        }
+    }
+
+    /// Runs a batch up to the first call that is refused, and gives the answers up to that one's.
+    #[cfg(feature = "alloc")]
+    fn run_to_refusal(&mut self, calls: &[Call]) -> Result<Vec<Answer>, Refusal> {
+        let (words, top) = (self.words().to_vec(), self.top);
+        let answers = self.run(calls)?;
+        let Some(at) = answers.iter().position(|answer| !answer.is_done()) else {
+            return Ok(answers);
+        };
+        // The calls after the refused one have been run too. So the store goes back to what it was, and
+        // forward up to the refused one, which is run again since it may have collected the store.
+        self.words.as_mut().copy_from_slice(&words);
+        self.top = top;
+        self.run(&calls[..=at])
+    }
+
+    /// Runs one call and gives its answer. It allocates nothing.
     ///
     /// # Errors
     ///
     /// As for [`check`](Store::check).
+    ///
+    /// # Panics
+    ///
+    /// As every request: see [`Store`].
     pub fn call(&mut self, call: Call) -> Result<Answer, Refusal> {
         let mut space = [0; 2];
         self.run_words(&call.words(), &mut space)?;
@@ -195,6 +306,10 @@ impl<W: AsRef<[u32]> + AsMut<[u32]>> Store<W> {
     /// As for [`check`](Store::check), then [`Refusal::Calls`] if the list is over 4,096 words or
     /// not a multiple of four, or [`Refusal::Answers`] if `answers` is under two words a call.
     /// Store and answers are then as they were.
+    ///
+    /// # Panics
+    ///
+    /// As every request: see [`Store`].
     ///
     /// ```
     /// use zelmotar::Store;
@@ -218,12 +333,17 @@ impl<W: AsRef<[u32]> + AsMut<[u32]>> Store<W> {
     /// There are none if the register is empty or over 15, or the store is not sound;
     /// [`check`](Store::check) tells which.
     pub fn look(&self, register: usize) -> Terms<'_> {
-        let span = ffi::look(self.words(), self.top, register);
-        Terms::new(self.words(), span.from, span.to)
+        let words = self.words();
+        let span = ffi::look(words, self.top, register);
+        Terms::new(words, span.from, span.to)
     }
 }
 
 /// The answer to `call` in its two words.
+///
+/// # Panics
+///
+/// If the status is no number of the library's, so that something else is linked in its place.
 fn read(call: Call, answer: &[u32]) -> Answer {
     Answer::from_words(call, answer[0], answer[1]).unwrap_or_else(|| {
         panic!("the linked library answers {}, which is no status of zelmotar", answer[0])

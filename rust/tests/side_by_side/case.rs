@@ -1,10 +1,12 @@
 //! One store with one call list and one answer space, run by the library and by the model.
 
 use std::fmt;
+use std::ops::Range;
 
 use zelmotar::raw;
 use zelmotar_model::{plain, random};
 
+use crate::pages::{next_is_high, Pages, WORDS};
 use crate::shrink::shrunk;
 
 /// What goes into the five functions of the library.
@@ -27,36 +29,43 @@ pub struct Ran {
     pub freed: bool,
 }
 
-/// Words on either side of a lent slice, which nobody may write.
+/// Words beside a lent slice, which nobody may write.
 const GUARD: [u32; 4] = [0x0bad_cafe, 0xffff_ffff, 0, 0x8000_0010];
 
-/// A slice between guards. An empty one has none: its pointer then leads nowhere, which the library
-/// has to bear.
+/// A slice with a page that faults when touched on one side, and guard words on the other. The two take
+/// turns. An empty one leads to such a page too, or to the guard.
 struct Guarded {
-    buffer: Vec<u32>,
-    guard: usize,
+    pages: Pages,
+    /// The slice and the guard words, as places in the pages.
+    lent: Range<usize>,
+    guard: Range<usize>,
 }
 
 impl Guarded {
     fn around(words: &[u32]) -> Guarded {
-        match words {
-            [] => Guarded { buffer: Vec::new(), guard: 0 },
-            _ => Guarded { buffer: [&GUARD, words, &GUARD].concat(), guard: GUARD.len() },
-        }
+        let (mut pages, count, width) = (Pages::take(), words.len(), GUARD.len());
+        let (lent, guard) = match next_is_high() {
+            true => (WORDS - count..WORDS, WORDS - count - width..WORDS - count),
+            false => (0..count, count..count + width),
+        };
+        pages.words()[lent.clone()].copy_from_slice(words);
+        pages.words()[guard.clone()].copy_from_slice(&GUARD);
+        Guarded { pages, lent, guard }
     }
 
     fn lent(&mut self) -> &mut [u32] {
-        let end = self.buffer.len() - self.guard;
-        &mut self.buffer[self.guard..end]
+        &mut self.pages.words()[self.lent.clone()]
     }
 
-    /// The words, once the guards are seen to be whole.
+    /// The words, once the guard is seen to be whole.
     fn opened(mut self, what: &str) -> Result<Vec<u32>, String> {
-        let guards = [&self.buffer[..self.guard], &self.buffer[self.buffer.len() - self.guard..]];
-        if guards.iter().any(|guard| !guard.is_empty() && **guard != GUARD) {
-            return Err(format!("{what}: words outside the lent slice are written"));
+        let whole = self.pages.words()[self.guard.clone()] == GUARD;
+        let words = self.lent().to_vec();
+        self.pages.spare();
+        match whole {
+            true => Ok(words),
+            false => Err(format!("{what}: words outside the lent slice are written")),
         }
-        Ok(self.lent().to_vec())
     }
 }
 

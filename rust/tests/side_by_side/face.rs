@@ -1,9 +1,10 @@
-//! The safe wrapper: its enums, its stores and its iterator.
+//! The safe wrapper: its calls, its answers, its stores, and a list that stops at a refusal.
 
-use zelmotar::{Answer, Call, Fault, Refusal, Store, Term, Terms, MAX_CALLS, MAX_CELLS};
+use zelmotar::{
+    status_text, Answer, Call, Fault, Refusal, Stopped, Store, MAX_CALLS, MAX_CELLS, STATUSES,
+};
 use zelmotar_model::make::{self, Runs};
 use zelmotar_model::random::Random;
-use zelmotar_model::trees::{self, Pool, Trees};
 
 fn fresh(capacity: usize) -> Store {
     Store::new(capacity).expect("the capacity is allowed")
@@ -28,8 +29,70 @@ fn every_call_in_words() {
     ];
     for (number, (call, words)) in rows.into_iter().enumerate() {
         assert_eq!(call.words(), words);
+        assert_eq!(<[u32; 4]>::from(call), words);
+        assert_eq!(Call::try_from(words), Ok(call));
         assert_eq!(call.words()[0] as usize, number);
         assert_eq!(call.has_value(), number >= 8);
+    }
+}
+
+/// Words of every size, in all places that a call has.
+#[test]
+fn words_are_a_call_exactly_if_it_gives_them_back() {
+    let mut random = Random::of("calls of words");
+    let mut told = [0; 3];
+    for _ in 0..100_000 {
+        let operation = random.pick(&[0, 1, 2, 3, 4, 5, 6, 7, 8, 9, 10, 11, 12, 13, u32::MAX]);
+        let words = [operation, 0, 0, 0].map(|word| match random.below(3) {
+            0 => word,
+            1 => word.wrapping_add(random.below(2) as u32),
+            _ => random.pick(&[word, 15, 16, u32::MAX]),
+        });
+        let kind = match Call::try_from(words) {
+            Ok(call) => {
+                assert_eq!(call.words(), words);
+                0
+            }
+            Err(Fault::Operation) => {
+                assert!(words[0] > 11);
+                1
+            }
+            Err(fault) => {
+                assert_eq!(fault, Fault::StrayWord);
+                let mut answers = [0; 2];
+                fresh(16).run_words(&words, &mut answers).expect("the store is sound");
+                // A bad register goes before a stray word.
+                assert!(matches!(answers, [11 | 12, 0]), "{words:?} {answers:?}");
+                2
+            }
+        };
+        told[kind] += 1;
+    }
+    assert!(told.iter().all(|&count| count > 1_000), "{told:?}");
+}
+
+#[test]
+fn every_call_as_a_line() {
+    let lines = [
+        "CLEAR 7",
+        "COPY 7 8",
+        "SYMBOL 7 8",
+        "WRAP 7 8",
+        "JOIN 7 8 9",
+        "HEAD 7 8",
+        "REST 7 8",
+        "OPEN 7 8",
+        "LENGTH 8",
+        "FIRST 8",
+        "LIVE",
+        "COLLECT",
+    ];
+    for (operation, line) in (0..).zip(lines) {
+        let uses = |word, letter| if line.contains(letter) { word } else { 0 };
+        let call = Call::try_from([operation, uses(7, '7'), uses(8, '8'), uses(9, '9')]);
+        let call = call.expect("no word is stray");
+        assert_eq!(call.to_string(), line);
+        assert!(line.starts_with(call.name()));
     }
 }
 
@@ -38,10 +101,29 @@ fn every_fault_by_number() {
     for (number, fault) in (10..).zip(Fault::ALL) {
         assert_eq!(fault.number(), number);
         assert_eq!(Answer::from_words(Call::Live, number, 0), Some(Answer::Refused(fault)));
-        assert!(!fault.to_string().is_empty());
+        assert_eq!(fault.to_string(), status_text(number));
+        assert_eq!(Answer::Refused(fault).to_string(), format!("refused: {fault}"));
     }
+    assert_eq!(Answer::Done.to_string(), "done");
+    assert_eq!(Answer::Value(65).to_string(), "done: 65");
     assert_eq!(Answer::from_words(Call::Live, 9, 0), None);
     assert_eq!(Answer::from_words(Call::Live, 17, 0), None);
+}
+
+#[test]
+fn every_status_has_its_own_number_name_and_text() {
+    for (i, status) in STATUSES.iter().enumerate() {
+        assert_eq!(status_text(status.number), status.text);
+        for other in &STATUSES[..i] {
+            assert!(other.number < status.number, "{other:?} {status:?}");
+            assert!(other.name != status.name && other.text != status.text);
+        }
+    }
+    let numbers: Vec<u32> = STATUSES.iter().map(|status| status.number).collect();
+    assert_eq!(numbers, [0, 1, 2, 3, 4, 5, 10, 11, 12, 13, 14, 15, 16]);
+    for number in [6, 9, 17, u32::MAX] {
+        assert_eq!(status_text(number), "no such status");
+    }
 }
 
 #[test]
@@ -77,17 +159,12 @@ fn every_refusal_by_name() {
         fresh(16).run(&vec![Call::Live; MAX_CALLS + 1]).map(drop),
         fresh(16).run_words(&Call::Live.words(), &mut [0]),
     ];
-    let expected = [
-        Refusal::Length,
-        Refusal::Top,
-        Refusal::Damaged { cell: 0 },
-        Refusal::Calls,
-        Refusal::Answers,
-    ];
-    for ((number, expected), refusal) in (1..).zip(expected).zip(refusals) {
-        assert_eq!(refusal, Err(expected));
-        assert_eq!(expected.number(), number);
-        assert!(!expected.to_string().is_empty());
+    for (number, refusal) in (1..).zip(refusals) {
+        let refusal = refusal.expect_err("each is refused");
+        assert_eq!(refusal.number(), number);
+        assert_eq!(refusal.cell(), if number == 3 { Some(0) } else { None });
+        let cell = if number == 3 { ": cell 0" } else { "" };
+        assert_eq!(refusal.to_string(), status_text(number).to_owned() + cell);
     }
     assert_eq!(
         fresh(16).run(&vec![Call::Live; MAX_CALLS]).map(|answers| answers.len()),
@@ -107,7 +184,7 @@ fn capacities_at_the_border() {
 fn borrowed_words_stay_with_their_owner() {
     let mut words = [7; 40];
     let mut store = Store::fresh(&mut words[..]).expect("the length is allowed");
-    store.call(Call::Symbol { d: 3, code: 5 }).expect("the store is sound");
+    assert_eq!(store.call(Call::Symbol { d: 3, code: 5 }), Ok(Answer::Done));
     let (_, top) = store.into_parts();
     assert_eq!((top, &words[32..34]), (17, &[5, 0][..]));
     let store = Store::from_parts(words, top);
@@ -121,83 +198,65 @@ fn a_refused_request_changes_nothing() {
     words[39] = 1;
     let mut store = Store::from_parts(words, 20);
     let before = store.clone();
-    assert_eq!(store.collect(), Err(Refusal::Damaged { cell: 19 }));
-    assert_eq!(store.run(&[Call::Live]), Err(Refusal::Damaged { cell: 19 }));
+    let damaged = store.check().expect_err("cell 19 is no symbol");
+    assert_eq!(damaged.cell(), Some(19));
+    assert_eq!(store.collect(), Err(damaged));
+    assert_eq!(store.run(&[Call::Live]), Err(damaged));
+    assert_eq!(store.run_all(&[Call::Live]), Err(Stopped::Store(damaged)));
+    assert_eq!(store.run_all(&[]), Err(Stopped::Store(damaged)));
     assert_eq!(store, before);
     assert_eq!(store.look(0).len(), 0);
     let top = Store::from_parts(store.into_parts().0, usize::MAX);
     assert_eq!(top.check(), Err(Refusal::Top));
 }
 
-#[test]
-fn looks_that_are_empty() {
-    let mut store = fresh(20);
-    store.call(Call::Symbol { d: 0, code: 5 }).expect("the store is sound");
-    assert_eq!(store.look(0).cells(), [5, 0]);
-    for register in [1, 15, 16, usize::MAX] {
-        assert_eq!(store.look(register).cells(), []);
-        assert!(
-            store.look(register).next().is_none() && store.look(register).next_back().is_none()
-        );
-    }
-}
-
-/// Holds terms against an expression, down to at most `left` terms.
-fn same_terms(terms: Terms, pool: &Pool, expression: &[trees::Name], left: &mut usize) {
-    assert_eq!(terms.len(), expression.len());
-    for (term, &name) in terms.zip(expression) {
-        if *left == 0 {
-            return;
-        }
-        *left -= 1;
-        match (term, pool.term(name)) {
-            (Term::Symbol(code), trees::Term::Symbol(expected)) => assert_eq!(code, *expected),
-            (Term::Bracket(inside), trees::Term::Parens(expected)) => {
-                same_terms(inside, pool, expected, left)
-            }
-            (term, expected) => panic!("{term:?} is not {expected:?}"),
+/// Runs calls one by one up to the first that is refused.
+fn one_by_one(store: &mut Store, calls: &[Call]) -> Result<Vec<Answer>, Stopped> {
+    let mut answers = Vec::new();
+    for (at, &call) in calls.iter().enumerate() {
+        match store.call(call)? {
+            Answer::Refused(fault) => return Err(Stopped::Call { at, call, fault }),
+            answer => answers.push(answer),
         }
     }
+    Ok(answers)
 }
 
 #[test]
-fn terms_are_those_of_the_model() {
-    let mut random = Random::of("terms");
-    for _ in 0..3_000 {
+fn a_list_stops_at_a_refusal_and_says_which() {
+    let mut random = Random::of("lists that stop");
+    let (mut ends, mut stops, mut full) = (0, 0, 0);
+    for _ in 0..20_000 {
         let capacity = random.within(16..=40);
         let (words, top) = make::sound(&mut random, capacity, Runs::Short);
-        let trees = Trees::denoted_by(&words, top);
-        let store = Store::from_parts(words, top);
-        for (register, expression) in trees.registers.iter().enumerate() {
-            same_terms(store.look(register), &trees.pool, expression, &mut 500);
+        let mut store = Store::from_parts(words, top);
+        let mut other = store.clone();
+        let calls: Vec<Call> = (0..random.below(12))
+            .filter_map(|_| Call::try_from(make::call(&mut random)).ok())
+            .collect();
+        let outcome = store.run_all(&calls);
+        assert_eq!(outcome, one_by_one(&mut other, &calls), "{calls:?}");
+        assert_eq!(store, other, "{calls:?}");
+        match outcome {
+            Ok(_) => ends += 1,
+            Err(Stopped::Call { fault: Fault::Room, .. }) => full += 1,
+            Err(_) => stops += 1,
         }
     }
+    assert!(ends > 100 && stops > 100 && full > 100, "{ends} {stops} {full}");
 }
 
 #[test]
-fn terms_from_both_ends() {
-    let mut store = fresh(32);
-    let mut calls: Vec<Call> = Vec::new();
-    for code in 1..=4 {
-        calls.extend([Call::Symbol { d: 1, code }, Call::Join { d: 0, a: 0, b: 1 }]);
-    }
-    store.run(&calls).expect("the store is sound");
-    let mut terms = store.look(0);
-    assert!(matches!(terms.next(), Some(Term::Symbol(1))));
-    assert!(matches!(terms.next_back(), Some(Term::Symbol(4))));
-    assert_eq!(
-        (terms.len(), terms.to_string(), format!("{terms:?}")),
-        (2, "2 3".into(), "Terms(2 3)".into())
-    );
-    assert_eq!(terms.rev().count(), 2);
-}
-
-#[test]
-fn brackets_some_thousand_deep_are_written_out() {
-    let mut store = fresh(MAX_CELLS);
-    for _ in 0..4 {
-        store.run(&[Call::Wrap { d: 0, a: 0 }; 1020]).expect("the store is sound");
-    }
-    assert_eq!(store.top(), MAX_CELLS);
-    assert_eq!(store.look(0).to_string(), "(".repeat(4080) + &")".repeat(4080));
+fn a_list_may_be_longer_than_a_batch() {
+    let mut calls = vec![Call::Symbol { d: 0, code: 5 }; 2 * MAX_CALLS + 5];
+    let mut store = fresh(64);
+    assert_eq!(store.run_all(&calls).map(|answers| answers.len()), Ok(calls.len()));
+    let at = MAX_CALLS + 3;
+    calls[at] = Call::First { a: 1 };
+    calls[at + 1] = Call::Clear { d: 0 };
+    let stopped = store.run_all(&calls);
+    assert_eq!(stopped, Err(Stopped::Call { at, call: Call::First { a: 1 }, fault: Fault::Empty }));
+    assert_eq!(store.look(0).to_string(), "5");
+    let text = stopped.unwrap_err().to_string();
+    assert_eq!(text, "call 1027, FIRST 1: the register is empty");
 }

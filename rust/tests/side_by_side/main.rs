@@ -4,13 +4,15 @@
 //! differs is made smaller by dropping calls, then printed. In order:
 //!
 //! - [`worked`]: rows that are worked out by hand.
-//! - [`face`]: the safe wrapper, its enums and its iterator.
+//! - [`face`]: the safe wrapper, its enums and its stores.
+//! - [`terms`]: its iterator, and terms written and compared.
 //! - [`batches`]: random stores, sound and damaged, with random lists and answer spaces.
 //! - [`meaning`]: call for call against expressions with no addresses.
 //! - [`alike`]: stores that differ in dead cells, collections and cuts between batches only.
 //! - [`bytes`]: raw bytes as store, calls and answer space.
 //!
-//! [`case`], [`shrink`] and [`tally`] serve these.
+//! [`case`], [`pages`], [`shrink`] and [`tally`] serve these. Cases lend their words between pages that
+//! fault when touched.
 
 mod alike;
 mod batches;
@@ -18,6 +20,8 @@ mod bytes;
 mod case;
 mod face;
 mod meaning;
+mod pages;
 mod shrink;
 mod tally;
+mod terms;
 mod worked;

@@ -1,0 +1,39 @@
+//! The numbers, names and texts of the package as lines. `tests/c/table.c` prints those of the C header,
+//! and `tools/rust-test` holds one against the other.
+
+use std::mem::{offset_of, size_of};
+
+use zelmotar::raw::{Reply, Span};
+use zelmotar::{status_text, Call, MAX_CALLS, MAX_CELLS, MAX_CODE, REGISTERS, STATUSES};
+
+/// A call of each operation, in order.
+fn operations() -> impl Iterator<Item = Call> {
+    (0..).map_while(|operation| Call::try_from([operation, 0, 0, 0]).ok())
+}
+
+fn print_layout() {
+    print!("answer of {} bytes:", size_of::<Reply>());
+    print!(" status at {}", offset_of!(Reply, status));
+    print!(" value at {}", offset_of!(Reply, value));
+    println!(" top at {}", offset_of!(Reply, top));
+    print!("span of {} bytes:", size_of::<Span>());
+    println!(" from at {} to at {}", offset_of!(Span, from), offset_of!(Span, to));
+}
+
+fn main() {
+    println!("version {}", env!("CARGO_PKG_VERSION"));
+    println!("registers {REGISTERS}");
+    println!("most cells {MAX_CELLS}");
+    println!("most calls {MAX_CALLS}");
+    println!("most code {MAX_CODE}");
+    for status in STATUSES {
+        println!("status {} {}: {}", status.number, status.name, status.text);
+    }
+    for call in operations() {
+        println!("operation {} {}", call.words()[0], call.name());
+    }
+    for number in (0..100).chain([u32::MAX]) {
+        println!("{number} says {}", status_text(number));
+    }
+    print_layout();
+}

@@ -1,0 +1,41 @@
+//! A program with neither the standard library nor an allocator, as on a controller. `tools/rust-test`
+//! compiles it with rustc alone, against the package built without its feature `alloc`: if the package
+//! drew in either, this would not compile, for want of an allocator or with two panic handlers.
+//!
+//! Its exit status is 0 if the store answers as it should, else the number of the step that did not.
+
+#![no_std]
+#![no_main]
+
+use core::panic::PanicInfo;
+
+use zelmotar::{Answer, Call, Store, Term};
+
+#[panic_handler]
+fn panic(_: &PanicInfo) -> ! {
+    loop {}
+}
+
+/// The number of the first step that goes wrong, or 0.
+fn steps() -> i32 {
+    let mut words = [0; 64];
+    let Ok(mut store) = Store::fresh(&mut words[..]) else {
+        return 1;
+    };
+    let calls = [Call::Symbol { d: 0, code: 65 }, Call::Wrap { d: 1, a: 0 }, Call::Live];
+    let expected = [Answer::Done, Answer::Done, Answer::Value(2)];
+    for (i, (call, answer)) in calls.into_iter().zip(expected).enumerate() {
+        if store.call(call) != Ok(answer) {
+            return 2 + i as i32;
+        }
+    }
+    match store.look(1).next() {
+        Some(Term::Bracket(inside)) if inside.len() == 1 => 0,
+        _ => 9,
+    }
+}
+
+#[no_mangle]
+extern "C" fn main() -> i32 {
+    steps()
+}

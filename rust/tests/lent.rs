@@ -1,0 +1,85 @@
+//! A store in lent words, with nothing that allocates: what is left of the package without its feature
+//! `alloc`. The tests are run with it and without.
+
+use zelmotar::{raw, status_text, Answer, Call, Fault, Refusal, Store, Term};
+
+#[test]
+fn a_store_in_an_array() {
+    let mut words = [7; 40];
+    let mut store = Store::fresh(&mut words[..]).expect("the length is allowed");
+    assert_eq!(store.call(Call::Symbol { d: 0, code: 65 }), Ok(Answer::Done));
+    assert_eq!(store.call(Call::Wrap { d: 1, a: 0 }), Ok(Answer::Done));
+    assert_eq!(store.call(Call::Open { d: 1, a: 0 }), Ok(Answer::Refused(Fault::Kind)));
+    let mut terms = store.look(1);
+    let Some(Term::Bracket(mut inside)) = terms.next() else {
+        panic!("register 1 holds a bracket");
+    };
+    assert!(matches!(inside.next(), Some(Term::Symbol(65))));
+    assert!(terms.next().is_none() && inside.next().is_none());
+    assert_eq!((store.collect(), store.top()), (Ok(2), 18));
+}
+
+#[test]
+fn a_batch_in_words() {
+    let mut store = Store::fresh([0; 32]).expect("the length is allowed");
+    let mut answers = [9; 6];
+    store.run_words(&[10, 0, 0, 0, 2, 0, 1, 0], &mut answers).expect("the store is sound");
+    assert_eq!(answers, [0, 0, 16, 0, 0, 0]);
+    assert_eq!(store.run_words(&[0; 4], &mut []), Err(Refusal::Answers));
+}
+
+#[test]
+fn a_static_store_needs_no_other_type() {
+    // Without an allocator `Store` alone means one whose words are lent for good.
+    #[cfg(not(feature = "alloc"))]
+    fn lent_for_good(words: &'static mut [u32]) -> Result<Store, Refusal> {
+        Store::fresh(words)
+    }
+    #[cfg(feature = "alloc")]
+    fn lent_for_good(words: &'static mut [u32]) -> Result<Store<&'static mut [u32]>, Refusal> {
+        Store::fresh(words)
+    }
+    let words: &'static mut [u32] = Box::leak(Box::new([0; 34]));
+    assert_eq!(lent_for_good(words).map(|store| store.capacity()), Ok(17));
+}
+
+#[test]
+fn what_is_said_needs_no_allocator() {
+    assert_eq!(format!("{}", Call::Join { d: 1, a: 2, b: 3 }), "JOIN 1 2 3");
+    assert_eq!(format!("{}", Answer::Refused(Fault::Room)), "refused: no room");
+    assert_eq!(format!("{}", Refusal::Top), status_text(2));
+    let mut words = [0; 40];
+    let mut store = Store::fresh(&mut words).expect("the length is allowed");
+    assert_eq!(store.call(Call::Wrap { d: 0, a: 0 }), Ok(Answer::Done));
+    assert_eq!(store.call(Call::Wrap { d: 0, a: 0 }), Ok(Answer::Done));
+    assert_eq!(format!("{:?}", store.look(0)), "Terms((()))");
+}
+
+/// A reply and a span whose fields all differ, each field read by its name and by its place.
+#[test]
+fn each_field_of_an_answer_is_where_c_has_it() {
+    assert_eq!(core::mem::offset_of!(raw::Reply, status), 0);
+    assert_eq!(core::mem::offset_of!(raw::Reply, value), 4);
+    assert_eq!(core::mem::offset_of!(raw::Reply, top), 8);
+    assert_eq!(size_of::<raw::Reply>(), 8 + size_of::<usize>());
+    assert_eq!(core::mem::offset_of!(raw::Span, from), 0);
+    assert_eq!(core::mem::offset_of!(raw::Span, to), size_of::<usize>());
+    assert_eq!(size_of::<raw::Span>(), 2 * size_of::<usize>());
+
+    // Register 0 on cells 17 and 18, and a bracket around itself in cell 19.
+    let mut words = [0; 48];
+    assert_eq!(raw::fresh(&mut words).top, 16);
+    words[..2].copy_from_slice(&[17, 0x8000_0000 + 18]);
+    let span = raw::look(&words, 21, 0);
+    assert_eq!((span.from, span.to), (34, 38));
+    words[38..40].copy_from_slice(&[19, 0x8000_0000 + 19]);
+    for reply in [raw::check(&words, 21), raw::collect(&mut words, 21)] {
+        assert_eq!((reply.status, reply.value, reply.top), (3, 19, 21));
+    }
+    let reply = raw::run(&mut words, 21, &[], &mut []);
+    assert_eq!((reply.status, reply.value, reply.top), (3, 19, 21));
+    // Every byte of a `top` crosses, both ways.
+    let top = usize::MAX / 255 * 0xa5 - 1;
+    let reply = raw::check(&words, top);
+    assert_eq!((reply.status, reply.value, reply.top), (2, 0, top));
+}

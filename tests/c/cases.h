@@ -1,0 +1,131 @@
+/* cases.h: random stores, call lists and answer spaces, good and bad, for the tests at the border.
+ *
+ * A store is made by the library itself, from a fresh one and random calls, then damaged in half of the cases.
+ * The numbers are the same in every run. What the answers should be is not known here: the Rust tests hold them
+ * against a model. */
+#ifndef CASES_H
+#define CASES_H
+
+#include <stdlib.h>
+#include <string.h>
+
+#include "expect.h"
+#include "zelmotar.h"
+
+#define MOST_STORE (ZELMOTAR_MOST_WORDS + 2)
+#define MOST_CALLS (ZELMOTAR_MOST_CALL_WORDS + 4)
+#define MOST_ANSWERS (MOST_CALLS / 2 + 8)
+
+/* What goes into the five functions. */
+struct test_case {
+    uint32_t words[MOST_STORE], calls[MOST_CALLS];
+    size_t words_n, calls_n, answers_n, top, reg;
+};
+
+/* How often each status came back, of whole requests and of calls. */
+static unsigned met[ZELMOTAR_NO_ROOM + 1];
+
+static inline uint32_t random_word(void)
+{
+    static uint32_t state = 1988;
+    state ^= state << 13;
+    state ^= state >> 17;
+    state ^= state << 5;
+    return state;
+}
+
+static inline size_t below(size_t n) { return random_word() % n; }
+
+/* Four words of a call: as a rule in order, now and then out of range. */
+static inline void random_call(uint32_t call[4])
+{
+    static const uint32_t uses[12] = {1, 3, 3, 3, 7, 3, 3, 3, 2, 2, 0, 0}; /* bits for d, a and b */
+    size_t i;
+    call[0] = (uint32_t)below(12);
+    for (i = 0; i < 3; i++)
+        call[i + 1] = uses[call[0]] >> i & 1 ? (uint32_t)below(6) : 0;
+    if (call[0] == ZELMOTAR_SYMBOL)
+        call[2] = below(20) ? (uint32_t)below(1000) : random_word();
+    if (below(12) == 0)
+        call[below(4)] = below(2) ? (uint32_t)below(20) : random_word();
+}
+
+static inline void random_calls(uint32_t *calls, size_t count)
+{
+    for (; count > 0; count--, calls += 4)
+        random_call(calls);
+}
+
+/* Capacities: small ones as a rule, 512 cells, which fill a page of 4,096 bytes, and the largest. */
+static inline size_t random_capacity(void)
+{
+    size_t kind = below(20);
+    return kind == 0 ? ZELMOTAR_MOST_WORDS / 2 : kind < 3 ? 512 : 16 + below(40);
+}
+
+/* A sound store in the case's words. */
+static inline void make_store(struct test_case *c)
+{
+    uint32_t answers[200];
+    zelmotar_answer answer;
+    c->words_n = 2 * random_capacity();
+    answer = zelmotar_fresh(c->words, c->words_n);
+    EXPECT(answer.status == ZELMOTAR_DONE);
+    random_calls(c->calls, 100);
+    answer = zelmotar_run(c->words, c->words_n, answer.top, c->calls, 400, answers, 200);
+    EXPECT(answer.status == ZELMOTAR_DONE);
+    c->top = answer.top;
+}
+
+static inline void damage(struct test_case *c)
+{
+    const size_t tops[6] = {0, 15, c->words_n / 2 + 1, c->words_n / 2, SIZE_MAX, c->top + 1};
+    const size_t lengths[6] = {0, 1, 30, c->words_n - 1, c->words_n + 1, MOST_STORE};
+    switch (below(3)) {
+    case 0: c->words[below(c->words_n)] ^= (uint32_t)1 << below(32); break;
+    case 1: c->top = tops[below(6)]; break;
+    default: c->words_n = lengths[below(6)]; break;
+    }
+}
+
+/* A call list and the length of its answer space, each now and then not as it should be. */
+static inline void make_lists(struct test_case *c)
+{
+    size_t kind = below(12), count = kind == 0 ? ZELMOTAR_MOST_CALL_WORDS / 4 : below(25);
+    random_calls(c->calls, count);
+    c->calls_n = kind == 1 ? MOST_CALLS : 4 * count + (kind == 2 ? below(4) : 0);
+    c->answers_n = c->calls_n / 4 * 2;
+    if (below(4) == 0)
+        c->answers_n += below(8);
+    else if (below(6) == 0)
+        c->answers_n = below(c->answers_n + 1);
+}
+
+static inline void make_case(struct test_case *c)
+{
+    memset(c, 0, sizeof *c);
+    make_store(c);
+    if (below(2))
+        damage(c);
+    make_lists(c);
+    c->reg = below(20) ? below(18) : SIZE_MAX;
+}
+
+/* Counts the status of a run and those of its calls. */
+static inline void count(zelmotar_answer answer, const uint32_t *answers, size_t calls_n)
+{
+    size_t i;
+    met[answer.status]++;
+    for (i = 0; answer.status == ZELMOTAR_DONE && i < calls_n / 4; i++)
+        met[answers[2 * i]]++;
+}
+
+/* Every status has been met. */
+static inline void expect_all_met(void)
+{
+    unsigned status;
+    for (status = 0; status <= ZELMOTAR_NO_ROOM; status++)
+        EXPECT((met[status] > 0) == (status <= ZELMOTAR_BAD_ANSWERS || status >= ZELMOTAR_BAD_OPERATION));
+}
+
+#endif

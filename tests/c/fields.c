@@ -1,0 +1,79 @@
+/* fields: the layout of the two structs that come back. Each field has its place and size, and is read by
+ * name and by its bytes from answers whose fields all differ. */
+#include <string.h>
+
+#include "expect.h"
+#include "zelmotar.h"
+
+#define WORDS 48
+
+static uint32_t words[WORDS];
+
+/* Whether the bytes at a place of a struct are those of a number. */
+#define AT(place, field, number) (memcmp((const char *)&(place) + offsetof_##field, &(number), sizeof(number)) == 0)
+
+enum { offsetof_status = 0, offsetof_value = 4, offsetof_top = 8, offsetof_from = 0, offsetof_to = sizeof(size_t) };
+
+static void layout(void)
+{
+    EXPECT(offsetof(zelmotar_answer, status) == offsetof_status);
+    EXPECT(offsetof(zelmotar_answer, value) == offsetof_value);
+    EXPECT(offsetof(zelmotar_answer, top) == offsetof_top);
+    EXPECT(sizeof(((zelmotar_answer *)0)->status) == 4 && sizeof(((zelmotar_answer *)0)->value) == 4);
+    EXPECT(sizeof(((zelmotar_answer *)0)->top) == sizeof(size_t));
+    EXPECT(sizeof(zelmotar_answer) == 8 + sizeof(size_t));
+    EXPECT(offsetof(zelmotar_span, from) == offsetof_from && offsetof(zelmotar_span, to) == offsetof_to);
+    EXPECT(sizeof(((zelmotar_span *)0)->from) == sizeof(size_t) && sizeof(((zelmotar_span *)0)->to) == sizeof(size_t));
+    EXPECT(sizeof(zelmotar_span) == 2 * sizeof(size_t));
+}
+
+/* An answer, field by field: by name and by bytes. */
+static void reads(zelmotar_answer answer, uint32_t status, uint32_t value, size_t top)
+{
+    EXPECT(answer.status == status && AT(answer, status, status));
+    EXPECT(answer.value == value && AT(answer, value, value));
+    EXPECT(answer.top == top && AT(answer, top, top));
+}
+
+/* Register 0 on the symbols 17 and 18, and cell 19 a bracket around itself. */
+static void damaged_store(void)
+{
+    const uint32_t holder[2] = {ZELMOTAR_BRACKET_CELL(17, 18)}, knot[2] = {ZELMOTAR_BRACKET_CELL(19, 19)};
+    EXPECT(zelmotar_fresh(words, WORDS).status == ZELMOTAR_DONE);
+    memcpy(words, holder, sizeof holder);
+    memcpy(words + 38, knot, sizeof knot);
+}
+
+static void answers(void)
+{
+    const size_t far = SIZE_MAX / 255 * 0xa5 - 1; /* each byte of it is set */
+    damaged_store();
+    reads(zelmotar_check(words, WORDS, 21), 3, 19, 21);
+    reads(zelmotar_collect(words, WORDS, 21), 3, 19, 21);
+    reads(zelmotar_run(words, WORDS, 21, words, 0, words, 0), 3, 19, 21);
+    reads(zelmotar_check(words, WORDS, far), 2, 0, far);
+    reads(zelmotar_collect(words, WORDS, far), 2, 0, far);
+    reads(zelmotar_fresh(words, WORDS), 0, 0, 16);
+    reads(zelmotar_fresh(words, WORDS - 1), 1, 0, 0);
+    words[0] = 17, words[1] = ZELMOTAR_BRACKET + 18;
+    reads(zelmotar_collect(words, WORDS, 21), 0, 2, 18);
+}
+
+static void spans(void)
+{
+    const size_t from = 34, to = 38;
+    zelmotar_span span;
+    EXPECT(zelmotar_fresh(words, WORDS).status == ZELMOTAR_DONE);
+    words[0] = 17, words[1] = ZELMOTAR_BRACKET + 18;
+    span = zelmotar_look(words, WORDS, 21, 0);
+    EXPECT(span.from == from && AT(span, from, from));
+    EXPECT(span.to == to && AT(span, to, to));
+}
+
+int main(void)
+{
+    layout();
+    answers();
+    spans();
+    return expect_end();
+}

@@ -1,0 +1,195 @@
+/* numbers: every number of zelmotar.h, held against what the library does with it.
+ *
+ * usage: numbers VERSION, where VERSION is the Rust package's, as 0.1.0
+ *
+ * tools/header-test changes each number by one and sees this test fail. So a status is not only compared with
+ * what a call answers: each operation has an effect here that no other has, each limit passes and fails one
+ * step beyond, and each macro is used on a cell that the library wrote. */
+#include <string.h>
+
+#include "expect.h"
+#include "zelmotar.h"
+
+#define CELLS 40
+
+static uint32_t words[ZELMOTAR_MOST_WORDS + 4], calls[ZELMOTAR_MOST_CALL_WORDS + 8];
+static uint32_t answers[ZELMOTAR_MOST_CALL_WORDS + 8];
+static size_t top;
+static uint32_t value; /* of the last call */
+
+/* Runs one call and gives its status. */
+static uint32_t call(uint32_t operation, uint32_t d, uint32_t a, uint32_t b)
+{
+    uint32_t list[4], told[2] = {99, 99};
+    zelmotar_answer answer;
+    list[0] = operation, list[1] = d, list[2] = a, list[3] = b;
+    answer = zelmotar_run(words, 2 * CELLS, top, list, 4, told, 2);
+    EXPECT(answer.status == 0 && answer.value == 0);
+    top = answer.top;
+    value = told[1];
+    return told[0];
+}
+
+static void start(void)
+{
+    zelmotar_answer answer = zelmotar_fresh(words, 2 * CELLS);
+    EXPECT(answer.status == ZELMOTAR_DONE);
+    top = answer.top;
+}
+
+/* Whether register d holds exactly the cells l to r. */
+static int holds(size_t d, size_t l, size_t r)
+{
+    zelmotar_span span = zelmotar_look(words, 2 * CELLS, top, d);
+    return span.from == 2 * l && span.to == 2 * r + 2;
+}
+
+/* Each operation by an effect that only it has. Register 0 is never empty, so that no word that is read as
+ * register 0 passes unseen. */
+static void operations(void)
+{
+    start();
+    EXPECT(call(ZELMOTAR_SYMBOL, 0, 9, 0) == 0 && holds(0, 16, 16) && words[32] == 9 && words[33] == 0);
+    EXPECT(call(ZELMOTAR_SYMBOL, 1, 65, 0) == 0 && holds(1, 17, 17));
+    EXPECT(call(ZELMOTAR_WRAP, 3, 1, 0) == 0 && holds(3, 18, 18) && words[36] == 17);
+    EXPECT(call(ZELMOTAR_JOIN, 4, 3, 0) == 0 && holds(4, 19, 20) && words[38] == 17 && words[40] == 9);
+    EXPECT(call(ZELMOTAR_COPY, 2, 4, 0) == 0 && holds(2, 19, 20) && top == 21);
+    EXPECT(call(ZELMOTAR_HEAD, 5, 4, 0) == 0 && holds(5, 19, 19) && top == 21);
+    EXPECT(call(ZELMOTAR_REST, 6, 4, 0) == 0 && holds(6, 20, 20) && top == 21);
+    EXPECT(call(ZELMOTAR_OPEN, 7, 4, 0) == 0 && holds(7, 17, 17) && top == 21);
+    EXPECT(call(ZELMOTAR_LENGTH, 0, 4, 0) == 0 && value == 2);
+    EXPECT(call(ZELMOTAR_FIRST, 0, 1, 0) == 0 && value == 65);
+    EXPECT(call(ZELMOTAR_CLEAR, 3, 0, 0) == 0 && holds(4, 19, 20) && words[6] == 0);
+    EXPECT(call(ZELMOTAR_LIVE, 0, 0, 0) == 0 && value == 4 && top == 21);
+    EXPECT(call(ZELMOTAR_COLLECT, 0, 0, 0) == 0 && value == 4 && top == 20);
+}
+
+/* Each status of one call, in a store with no cell to spare. */
+static void statuses_of_a_call(void)
+{
+    uint32_t n;
+    start();
+    EXPECT(call(ZELMOTAR_CLEAR, 0, 0, 0) == ZELMOTAR_DONE);
+    EXPECT(call(12, 99, 0, 0) == ZELMOTAR_BAD_OPERATION);
+    EXPECT(call(ZELMOTAR_CLEAR, ZELMOTAR_REGISTERS, 0, 0) == ZELMOTAR_BAD_REGISTER);
+    EXPECT(call(ZELMOTAR_CLEAR, ZELMOTAR_REGISTERS - 1, 0, 0) == ZELMOTAR_DONE);
+    EXPECT(call(ZELMOTAR_CLEAR, 0, 1, 0) == ZELMOTAR_STRAY_WORD);
+    EXPECT(call(ZELMOTAR_SYMBOL, 0, ZELMOTAR_MOST_CODE + 1, 0) == ZELMOTAR_BAD_CODE);
+    EXPECT(call(ZELMOTAR_SYMBOL, 0, ZELMOTAR_MOST_CODE, 0) == ZELMOTAR_DONE);
+    EXPECT(call(ZELMOTAR_HEAD, 1, 1, 0) == ZELMOTAR_EMPTY);
+    EXPECT(call(ZELMOTAR_OPEN, 1, 0, 0) == ZELMOTAR_WRONG_KIND);
+    for (n = 0; n < CELLS - ZELMOTAR_REGISTERS - 1; n++)
+        EXPECT(call(ZELMOTAR_WRAP, 0, 0, 0) == ZELMOTAR_DONE);
+    EXPECT(call(ZELMOTAR_WRAP, 0, 0, 0) == ZELMOTAR_NO_ROOM);
+}
+
+/* Each status of a whole request, with its value, and `top` as it came. */
+static void statuses_of_a_request(void)
+{
+    zelmotar_answer answer;
+    start();
+    EXPECT(zelmotar_check(words, 2 * CELLS, top).status == ZELMOTAR_DONE);
+    EXPECT(zelmotar_check(words, 2 * CELLS + 1, top).status == ZELMOTAR_BAD_LENGTH);
+    EXPECT(zelmotar_check(words, 2 * CELLS, CELLS + 1).status == ZELMOTAR_BAD_TOP);
+    EXPECT(zelmotar_run(words, 2 * CELLS, top, calls, 3, answers, 2).status == ZELMOTAR_BAD_CALLS);
+    EXPECT(zelmotar_run(words, 2 * CELLS, top, calls, 4, answers, 1).status == ZELMOTAR_BAD_ANSWERS);
+    ZELMOTAR_FIRST_WORD(words, 7) = 1;
+    answer = zelmotar_check(words, 2 * CELLS, top);
+    EXPECT(answer.status == ZELMOTAR_DAMAGED && answer.value == 7 && answer.top == top);
+}
+
+static void limits(void)
+{
+    EXPECT(zelmotar_fresh(words, ZELMOTAR_LEAST_WORDS).status == 0);
+    EXPECT(zelmotar_fresh(words, ZELMOTAR_LEAST_WORDS).top == ZELMOTAR_REGISTERS);
+    EXPECT(zelmotar_fresh(words, ZELMOTAR_LEAST_WORDS - 2).status == 1);
+    EXPECT(zelmotar_fresh(words, ZELMOTAR_MOST_WORDS).status == 0);
+    EXPECT(zelmotar_fresh(words, ZELMOTAR_MOST_WORDS + 2).status == 1);
+    start();
+    memset(calls, 0, sizeof calls);
+    EXPECT(zelmotar_run(words, 2 * CELLS, top, calls, ZELMOTAR_MOST_CALL_WORDS, answers,
+                        ZELMOTAR_MOST_CALL_WORDS / 2).status == 0);
+    EXPECT(zelmotar_run(words, 2 * CELLS, top, calls, ZELMOTAR_MOST_CALL_WORDS + 4, answers,
+                        ZELMOTAR_MOST_CALL_WORDS).status == 4);
+}
+
+/* The bits of a second word: each where document 01 has it, together all of the word. */
+static void masks(void)
+{
+    EXPECT(ZELMOTAR_BRACKET == (uint32_t)1 << 31);
+    EXPECT(ZELMOTAR_USED == (uint32_t)1 << 30);
+    EXPECT(ZELMOTAR_LEFT_CHAIN == (uint32_t)1 << 29);
+    EXPECT(ZELMOTAR_RIGHT_CHAIN == (uint32_t)1 << 28);
+    EXPECT((uint64_t)ZELMOTAR_BRACKET + ZELMOTAR_USED + ZELMOTAR_LEFT_CHAIN + ZELMOTAR_RIGHT_CHAIN +
+               ZELMOTAR_RIGHT_END == 0xffffffffu);
+}
+
+/* Puts two words into cell c. */
+static void put(size_t c, const uint32_t cell[2])
+{
+    ZELMOTAR_FIRST_WORD(words, c) = cell[0];
+    ZELMOTAR_SECOND_WORD(words, c) = cell[1];
+}
+
+/* Cells that the library wrote, taken apart. */
+static void cells_taken_apart(void)
+{
+    start();
+    EXPECT(ZELMOTAR_FIRST_WORD(words, 15) == words[30] && ZELMOTAR_SECOND_WORD(words, 15) == words[31]);
+    EXPECT(ZELMOTAR_IS_BRACKET(words, 0) && ZELMOTAR_IS_EMPTY(words, 0) && !ZELMOTAR_IS_SYMBOL(words, 0));
+    EXPECT(call(ZELMOTAR_SYMBOL, 0, 65, 0) == 0 && call(ZELMOTAR_WRAP, 1, 0, 0) == 0);
+    EXPECT(call(ZELMOTAR_JOIN, 2, 0, 1) == 0 && call(ZELMOTAR_WRAP, 3, 2, 0) == 0);
+    EXPECT(ZELMOTAR_IS_SYMBOL(words, 16) && !ZELMOTAR_IS_BRACKET(words, 16) && !ZELMOTAR_IS_EMPTY(words, 16));
+    EXPECT(ZELMOTAR_CODE(words, 16) == 65);
+    EXPECT(ZELMOTAR_IS_BRACKET(words, 17) && !ZELMOTAR_IS_EMPTY(words, 17) && !ZELMOTAR_IS_SYMBOL(words, 17));
+    EXPECT(ZELMOTAR_LEFT(words, 17) == 16 && ZELMOTAR_RIGHT(words, 17) == 16);
+    EXPECT(ZELMOTAR_LEFT(words, 20) == 18 && ZELMOTAR_RIGHT(words, 20) == 19);
+}
+
+/* A store of made cells, which the library finds sound and takes apart; and one with each stray bit. */
+static void cells_made(void)
+{
+    const uint32_t symbol[2] = {ZELMOTAR_SYMBOL_CELL(66)}, hollow[2] = {ZELMOTAR_EMPTY_CELL};
+    const uint32_t bracket[2] = {ZELMOTAR_BRACKET_CELL(16, 17)}, holder[2] = {ZELMOTAR_BRACKET_CELL(18, 18)};
+    const uint32_t stray[3] = {ZELMOTAR_USED, ZELMOTAR_LEFT_CHAIN, ZELMOTAR_RIGHT_CHAIN};
+    zelmotar_answer answer;
+    int i;
+    start();
+    put(16, symbol), put(17, hollow), put(18, bracket), put(0, holder);
+    top = 19;
+    EXPECT(zelmotar_check(words, 2 * CELLS, top).status == 0);
+    EXPECT(call(ZELMOTAR_OPEN, 1, 0, 0) == 0 && holds(1, 16, 17));
+    EXPECT(call(ZELMOTAR_LENGTH, 0, 1, 0) == 0 && value == 2);
+    EXPECT(call(ZELMOTAR_FIRST, 0, 1, 0) == 0 && value == 66);
+    for (i = 0; i < 3; i++) {
+        put(18, bracket);
+        ZELMOTAR_SECOND_WORD(words, 18) |= stray[i];
+        answer = zelmotar_check(words, 2 * CELLS, top);
+        EXPECT(answer.status == 3 && answer.value == 18);
+    }
+}
+
+static void version(const char *package)
+{
+    char here[40];
+    snprintf(here, sizeof here, "%d.%d.%d", ZELMOTAR_VERSION_MAJOR, ZELMOTAR_VERSION_MINOR, ZELMOTAR_VERSION_PATCH);
+    EXPECT(strcmp(here, package) == 0);
+    EXPECT(strcmp(ZELMOTAR_VERSION, package) == 0);
+}
+
+int main(int count, char **list)
+{
+    if (count != 2) {
+        fprintf(stderr, "usage: numbers VERSION\n");
+        return 2;
+    }
+    version(list[1]);
+    operations();
+    statuses_of_a_call();
+    statuses_of_a_request();
+    limits();
+    masks();
+    cells_taken_apart();
+    cells_made();
+    return expect_end();
+}

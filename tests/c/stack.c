@@ -1,0 +1,138 @@
+/* stack: the deepest stack that each function uses, in bytes, over random cases.
+ *
+ * usage: stack COUNT
+ *
+ * A function is called on a stack of its own, which is painted beforehand; the lowest byte that lost its paint
+ * says how deep the call went. The same call of a function that does nothing is taken off. The return address
+ * counts where the processor puts it on the stack. Prints a line for each function, and fails if one uses as
+ * much as zelmotar.h says that it stays under. For Linux and its like. */
+#define _DEFAULT_SOURCE
+#include <ucontext.h>
+
+#include "cases.h"
+
+#define PAINT 0xa5u
+#define ROOM 65536
+
+enum { CHECK, FRESH, COLLECT, RUN, LOOK, FUNCTIONS };
+
+static const char *const names[FUNCTIONS] = {"check", "fresh", "collect", "run", "look"};
+static const size_t under[FUNCTIONS] = {128, 128, 192, 512, 128}; /* as zelmotar.h says */
+
+static struct test_case c;
+static uint32_t words[MOST_STORE], answers[MOST_ANSWERS];
+static unsigned char room[ROOM] __attribute__((aligned(64)));
+static ucontext_t outside, inside;
+static int function, hollow; /* which function is called, and whether it is the one that does nothing */
+static size_t used;          /* bytes from the lowest that lost its paint to the end of the room */
+
+static const zelmotar_answer no_answer;
+static const zelmotar_span no_span;
+
+/* One function for each of the five that takes the same and does nothing. */
+static zelmotar_answer no_check(const uint32_t *w, size_t n, size_t top)
+{
+    (void)w, (void)n, (void)top;
+    return no_answer;
+}
+
+static zelmotar_answer no_fresh(uint32_t *w, size_t n)
+{
+    (void)w, (void)n;
+    return no_answer;
+}
+
+static zelmotar_answer no_collect(uint32_t *w, size_t n, size_t top)
+{
+    (void)w, (void)n, (void)top;
+    return no_answer;
+}
+
+static zelmotar_answer no_run(uint32_t *w, size_t n, size_t top, const uint32_t *calls, size_t calls_n, uint32_t *a,
+                              size_t answers_n)
+{
+    (void)w, (void)n, (void)top, (void)calls, (void)calls_n, (void)a, (void)answers_n;
+    return no_answer;
+}
+
+static zelmotar_span no_look(const uint32_t *w, size_t n, size_t top, size_t reg)
+{
+    (void)w, (void)n, (void)top, (void)reg;
+    return no_span;
+}
+
+/* Both of each kind, volatile so that the call is the same code for both. */
+static zelmotar_answer (*volatile check[2])(const uint32_t *, size_t, size_t) = {zelmotar_check, no_check};
+static zelmotar_answer (*volatile fresh[2])(uint32_t *, size_t) = {zelmotar_fresh, no_fresh};
+static zelmotar_answer (*volatile collect[2])(uint32_t *, size_t, size_t) = {zelmotar_collect, no_collect};
+static zelmotar_answer (*volatile run[2])(uint32_t *, size_t, size_t, const uint32_t *, size_t, uint32_t *,
+                                          size_t) = {zelmotar_run, no_run};
+static zelmotar_span (*volatile look[2])(const uint32_t *, size_t, size_t, size_t) = {zelmotar_look, no_look};
+
+/* The call, and right after it, before anything else is called, the measuring. */
+static void on_own_stack(void)
+{
+    size_t i;
+    switch (function) {
+    case CHECK: (void)!check[hollow](words, c.words_n, c.top).status; break;
+    case FRESH: (void)!fresh[hollow](words, c.words_n).status; break;
+    case COLLECT: (void)!collect[hollow](words, c.words_n, c.top).status; break;
+    case RUN:
+        (void)!run[hollow](words, c.words_n, c.top, c.calls, c.calls_n, answers, c.answers_n).status;
+        break;
+    default: (void)!look[hollow](words, c.words_n, c.top, c.reg).to; break;
+    }
+    for (i = 0; i < ROOM && room[i] == PAINT; i++)
+        continue;
+    used = ROOM - i;
+}
+
+/* The bytes that one call uses, with those of the caller. */
+static size_t use_of(int number, int nothing)
+{
+    memcpy(words, c.words, sizeof words);
+    memset(room, PAINT, sizeof room);
+    function = number, hollow = nothing;
+    if (getcontext(&inside) != 0)
+        exit(2);
+    inside.uc_stack.ss_sp = room;
+    inside.uc_stack.ss_size = sizeof room;
+    inside.uc_link = &outside;
+    makecontext(&inside, on_own_stack, 0);
+    if (swapcontext(&outside, &inside) != 0)
+        exit(2);
+    return used;
+}
+
+/* What a function uses beyond one that does nothing. Its return address is used by both, so it is added where
+ * it stands on the stack. */
+static size_t beyond_nothing(int number)
+{
+#if defined(__x86_64__) || defined(__i386__)
+    return use_of(number, 0) - use_of(number, 1) + sizeof(void *);
+#else
+    return use_of(number, 0) - use_of(number, 1);
+#endif
+}
+
+int main(int count_given, char **list)
+{
+    long left = count_given == 2 ? atol(list[1]) : 0;
+    size_t deepest[FUNCTIONS] = {0}, bytes;
+    int i;
+    if (left <= 0) {
+        fprintf(stderr, "usage: stack COUNT\n");
+        return 2;
+    }
+    for (; left > 0; left--) {
+        make_case(&c);
+        for (i = 0; i < FUNCTIONS; i++)
+            if ((bytes = beyond_nothing(i)) > deepest[i])
+                deepest[i] = bytes;
+    }
+    for (i = 0; i < FUNCTIONS; i++) {
+        printf("zelmotar_%-7s %4u bytes of stack\n", names[i], (unsigned)deepest[i]);
+        EXPECT(deepest[i] > 0 && deepest[i] < under[i]);
+    }
+    return expect_end();
+}

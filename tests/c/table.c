@@ -1,0 +1,82 @@
+/* table: the numbers, names and texts of zelmotar.h as lines. rust/examples/table.rs prints those of the Rust
+ * package, and tools/rust-test holds one against the other. */
+#include <stdio.h>
+
+#include "zelmotar.h"
+
+#define STATUS(name) printf("status %d %s: %s\n", ZELMOTAR_##name, #name, zelmotar_status_text(ZELMOTAR_##name))
+#define OPERATION(name) printf("operation %d %s\n", ZELMOTAR_##name, #name)
+#define PLACE(type, field) printf(" %s at %u", #field, (unsigned)offsetof(type, field))
+
+static void print_limits(void)
+{
+    printf("version %d.%d.%d\n", ZELMOTAR_VERSION_MAJOR, ZELMOTAR_VERSION_MINOR, ZELMOTAR_VERSION_PATCH);
+    printf("registers %u\n", (unsigned)ZELMOTAR_REGISTERS);
+    printf("most cells %u\n", (unsigned)ZELMOTAR_MOST_WORDS / 2);
+    printf("most calls %u\n", (unsigned)ZELMOTAR_MOST_CALL_WORDS / 4);
+    printf("most code %u\n", (unsigned)ZELMOTAR_MOST_CODE);
+}
+
+static void print_statuses(void)
+{
+    STATUS(DONE);
+    STATUS(BAD_LENGTH);
+    STATUS(BAD_TOP);
+    STATUS(DAMAGED);
+    STATUS(BAD_CALLS);
+    STATUS(BAD_ANSWERS);
+    STATUS(BAD_OPERATION);
+    STATUS(BAD_REGISTER);
+    STATUS(STRAY_WORD);
+    STATUS(BAD_CODE);
+    STATUS(EMPTY);
+    STATUS(WRONG_KIND);
+    STATUS(NO_ROOM);
+}
+
+static void print_operations(void)
+{
+    OPERATION(CLEAR);
+    OPERATION(COPY);
+    OPERATION(SYMBOL);
+    OPERATION(WRAP);
+    OPERATION(JOIN);
+    OPERATION(HEAD);
+    OPERATION(REST);
+    OPERATION(OPEN);
+    OPERATION(LENGTH);
+    OPERATION(FIRST);
+    OPERATION(LIVE);
+    OPERATION(COLLECT);
+}
+
+/* What every small number says, status or not, and the largest. */
+static void print_texts(void)
+{
+    uint32_t number;
+    for (number = 0; number < 100; number++)
+        printf("%u says %s\n", (unsigned)number, zelmotar_status_text(number));
+    printf("%u says %s\n", (unsigned)UINT32_MAX, zelmotar_status_text(UINT32_MAX));
+}
+
+static void print_layout(void)
+{
+    printf("answer of %u bytes:", (unsigned)sizeof(zelmotar_answer));
+    PLACE(zelmotar_answer, status);
+    PLACE(zelmotar_answer, value);
+    PLACE(zelmotar_answer, top);
+    printf("\nspan of %u bytes:", (unsigned)sizeof(zelmotar_span));
+    PLACE(zelmotar_span, from);
+    PLACE(zelmotar_span, to);
+    printf("\n");
+}
+
+int main(void)
+{
+    print_limits();
+    print_statuses();
+    print_operations();
+    print_texts();
+    print_layout();
+    return 0;
+}
