@@ -2,6 +2,7 @@
 --   Table       demand 1: every answer is from its table, and a refusal leaves everything as it was lent
 --   Requests    what may be asked of a store, and what is answered
 --   Collecting  demand 2: what a collection keeps, and where
+--   OwnWords    demand 2: statuses 10 to 13
 --   Calls       demand 2: what each call does, and a batch call by call
 --   Alike       demand 3: collections never show
 --   Program     what the program writes for what it reads
@@ -11,6 +12,7 @@
 pub mod Table
 pub mod Requests
 pub mod Collecting
+pub mod OwnWords
 pub mod Calls
 pub mod Alike
 pub mod Program
