@@ -2,23 +2,24 @@
 -- expressions, with the status, the value, the `top` and the words that SCOPE gives it (4.1 to 4.6, 5.6;
 -- 8.2). Assumes nothing.
 use mathlib.Core.Path.{_≡_}
-use mathlib.Core.Logic.{_⊎_, _≢_}
+use mathlib.Core.Logic.{_≢_}
 use mathlib.Core.Bool.{Bool, false, cond}
 use mathlib.Core.List.{List, [], _∷_, _++_}
 use Prim.Native.Nat.{ℕ, _+_, _-_, _*_, _≤_, _<_}
 use lib.Dec.{ltb}
 use lib.ListN.{length, replicate}
-use Rattle.words.specs.Cell.{firstWord, secondWord}
 use Rattle.meaning.specs.Expr.{Expr, symbol, terms}
 use Rattle.meaning.specs.Sound.{capacity, Sound}
 use Rattle.meaning.specs.Meaning.{meaning}
 use Rattle.meaning.specs.Reach.{live}
 use Rattle.meaning.specs.Collected.{collected}
 use Rattle.meaning.specs.Verdicts.{Verdict, Done, done}
-use Rattle.meaning.specs.Operands.{opAt, fault}
+use Rattle.meaning.specs.Operands.{opAt}
 use Rattle.meaning.specs.Call.{soughtBy, step}
 use Rattle.meaning.specs.Effect.{effect, liveForRoom, callStatus, after, answer}
 use Rattle.meaning.specs.Batch.{Outcome, batch}
+use Rattle.promises.specs.OwnWords.{OwnFault}
+use Rattle.promises.specs.Cells.{OnlyThere, Leaves}
 use Rattle.promises.specs.Requests.{Request, call, requested, requests, inWords}
 
 -- ---- room for the n new cells that the call needs
@@ -41,27 +42,24 @@ actedTop F ws top o d a b n =
 
 -- ---- one call
 
--- v has the words of ws in every cell but d and the n cells from t on
-abbrev pub OnlyThere : ℕ → ℕ → ℕ → List ℕ → List ℕ → Type 0
-OnlyThere d t n ws v =
-    (c : ℕ) → c ≢ d → (c < t) ⊎ (t + n ≤ c) → (firstWord v c ≡ firstWord ws c) × (secondWord v c ≡ secondWord ws c)
-
 -- r is what the call o d a b does in the store ws, with n the new cells that it needs
 pub record Called (F : ℕ) (ws : List ℕ) (top o d a b n : ℕ) (r : Done) : Type 0 where
+  -- what is wrong with its own words: 10 to 13, or 0
+  pub wrong : ℕ
+  pub own : OwnFault F o d a b wrong
   -- the first status that applies, of 10 to 16, else 0; the value and the registers' expressions by the effect
-  pub status : r .verdict .status
-      ≡ callStatus (fault F o d a b) (effect F ws top o d a b) (lacking F ws top o d a b n)
+  pub status : r .verdict .status ≡ callStatus wrong (effect F ws top o d a b) (lacking F ws top o d a b n)
   pub value : r .verdict .value ≡ answer (r .verdict .status) (effect F ws top o d a b)
   pub registers : (i : ℕ) → i < F
       → meaning (r .words) i ≡ after (r .verdict .status) (effect F ws top o d a b) (meaning ws) i
   -- a call whose words and operands are right is refused for room exactly when F + live + need exceeds the capacity
-  pub noRoom : fault F o d a b ≡ 0 → effect F ws top o d a b .unfit ≡ 0
+  pub noRoom : wrong ≡ 0 → effect F ws top o d a b .unfit ≡ 0
       → (r .verdict .status ≡ 16 → capacity ws < F + liveForRoom F ws top o d a b + n)
       × (capacity ws < F + liveForRoom F ws top o d a b + n → r .verdict .status ≡ 16)
-  -- done: new cells are laid from the `top` of the store in which it acts, and no other cell but d changes
+  -- done: d's cell and the new cells, laid from the `top` of the store in which it acts, and no other cell changes
   pub doneTop : r .verdict .status ≡ 0 → r .top ≡ actedTop F ws top o d a b n + n
   pub doneWords : r .verdict .status ≡ 0
-      → OnlyThere d (actedTop F ws top o d a b n) n (actedOn F ws top o d a b n) (r .words)
+      → Leaves o d a b n (actedOn F ws top o d a b n) (actedTop F ws top o d a b n) (r .words)
   -- LENGTH, FIRST, LIVE and COLLECT change no register's words
   pub asked : r .verdict .status ≡ 0 → 8 ≤ o → r .words ≡ actedOn F ws top o d a b n
   -- a call without need never collects, COLLECT apart

@@ -3,6 +3,7 @@
 --   Requests    what may be asked of a store, and what is answered
 --   Collecting  demand 2: what a collection keeps, and where
 --   OwnWords    demand 2: statuses 10 to 13
+--   Cells       demand 2: what a call leaves in the cells
 --   Calls       demand 2: what each call does, and a batch call by call
 --   Alike       demand 3: collections never show
 --   Program     what the program writes for what it reads
@@ -13,6 +14,7 @@ pub mod Table
 pub mod Requests
 pub mod Collecting
 pub mod OwnWords
+pub mod Cells
 pub mod Calls
 pub mod Alike
 pub mod Program

@@ -29,6 +29,11 @@ pub sought-length : (kept : Bool) (d : ℕ) (ws : List ℕ) → length (sought k
 unfolding sought
 sought-length kept d ws = refl
 
+-- where d is kept it is the store
+pub sought-kept : (d : ℕ) (ws : List ℕ) → sought true d ws ≡ ws
+unfolding sought
+sought-kept d ws = refl
+
 -- no cell but d differs
 pub sought-other : (kept : Bool) (d : ℕ) (ws : List ℕ) (c : ℕ) → c ≢ d
     → (firstWord (sought kept d ws) c ≡ firstWord ws c) × (secondWord (sought kept d ws) c ≡ secondWord ws c)

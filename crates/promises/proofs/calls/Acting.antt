@@ -2,32 +2,38 @@
 -- changes.
 -- Assumes nothing.
 use mathlib.Core.Path.{_≡_, refl, sym, ap, ap₂, _∙_}
+use mathlib.Core.Logic.{_≢_}
 use mathlib.Core.Bool.{Bool, true, false, cond}
 use mathlib.Core.List.{List}
-use Prim.Native.Nat.{ℕ, zero, suc, _+_, _<_}
+use Prim.Native.Nat.{ℕ, zero, suc, _+_, _-_, _*_, _≤_, _<_}
 use native.Mathlib.Nat.{add-zero}
+use native.Mathlib.Decide.{ℕ-discrete}
 use native.Mathlib.Omega.{arith}
 use lib.Dec.{ltb}
+use lib.ListN.{length}
 use borrow.Author.Tests.{le-ltb}
-use Rattle.meaning.specs.Sound.{empty, at, capacity, Sound, size}
+use Rattle.meaning.specs.Sound.{Cell, code, empty, ends, at, capacity, Sound, size, start}
 use Rattle.meaning.specs.Meaning.{meaning}
 use Rattle.meaning.specs.Reach.{live}
 use Rattle.meaning.specs.Collected.{collected, collectedTop}
 use Rattle.meaning.specs.Verdicts.{Done, done, refused, only}
 use Rattle.meaning.specs.Operands.{Op, CLEAR, COPY, SYMBOL, WRAP, JOIN, HEAD, REST, OPEN, LENGTH, FIRST, LIVE, COLLECT}
-use Rattle.meaning.specs.Operands.{ops, uses, opAt}
+use Rattle.meaning.specs.Operands.{ops, uses, opAt, index}
 use Rattle.meaning.specs.Actions.{put, share, head, rest, openFirst, codeFirst, newRun, newSymbol, newBracket}
 use Rattle.meaning.specs.Call.{keeps, soughtBy, joinNeed, joinPlan, lacks, roomWords, roomTop, withRoom, planOf}
 use Rattle.meaning.specs.Call.{carryOut, perform}
 use Rattle.meaning.specs.Effect.{Effect, facts, does, orElse}
 use Rattle.meaning.proofs.effect.Effects.{Denote}
 use Rattle.meaning.proofs.effect.Stepping.{size-terms}
-use Rattle.meaning.proofs.operands.Uses.{WordsRight, is-register}
-use Rattle.meaning.proofs.call.Plans.{sought-other, planTop, room-sound, room-denote}
+use Rattle.meaning.proofs.sound.Cells.{BracketIn, good}
+use Rattle.meaning.proofs.operands.Uses.{WordsRight, is-register, is-code, keeps-a, keeps-b}
+use Rattle.meaning.proofs.call.Plans.{sought-kept, sought-other, planTop, room-sound, room-denote, room-fits}
 use Rattle.meaning.proofs.effect.Steps.{sound-by, length-by, size-a, size-b}
-use Rattle.promises.specs.Calls.{OnlyThere}
-use Rattle.promises.proofs.calls.Touching.{only-same, only-trans, clear-only, share-only, head-only, rest-only}
-use Rattle.promises.proofs.calls.Touching.{openFirst-only, first-words, symbol-only, wrap-only, run-only}
+use Rattle.promises.specs.Cells.{dCell, newCell, Leaves}
+use Rattle.promises.proofs.calls.Touching.{only-same, only-trans, first-words}
+use Rattle.promises.proofs.calls.Leaving.{clear-leaves, copy-leaves, join-first-leaves, join-second-leaves}
+use Rattle.promises.proofs.calls.Leaving.{head-leaves, rest-leaves, open-leaves, symbol-leaves, wrap-leaves}
+use Rattle.promises.proofs.calls.Leaving.{run-leaves}
 
 -- LENGTH, FIRST, LIVE, COLLECT
 asking : (P : Op → Type 0) → P LENGTH → P FIRST → P LIVE → P COLLECT → (k : ℕ) → k < 4 → P (opAt (8 + k))
@@ -104,26 +110,51 @@ module _ (F : ℕ) (ws : List ℕ) (top : ℕ) (p : 0 < F) (s : Sound F ws top) 
 
     -- ---- words
 
-    -- in the store in which room is sought, collected first where y says so
-    abbrev Touches : Op → Bool → ℕ → Done → Type 0
-    Touches o y n r = OnlyThere d (cond y (F + lv o) top) n (cond y (collected F (v o) top) ws) (r .words)
+    -- a call that sets no register and needs no cell
+    unchanged : (o : ℕ) → 8 ≤ o → (w : List ℕ) (t : ℕ) → Leaves o d a b 0 w t w
+    unchanged o h w t = record {
+      others = only-same d t 0 w;
+      sets = λ k. absurd (omega arith);
+      lays = λ j k. absurd (omega arith);
+    }
 
-    plainly : (o : Op) (r : Done) → OnlyThere d top 0 ws (r .words) → Touches o (ltb (capacity ws) (top + 0)) 0 r
+    -- a cell that is not d, or is d and kept, is the same in the store in which room is sought
+    same-cell : (o : Op) (c : ℕ) → (c ≡ d → keeps o d a b ≡ true) → at (v o) c ≡ at ws c
+    unfolding at
+    same-cell o c k = go (ℕ-discrete c d)
+      where
+        go : Dec (c ≡ d) → at (v o) c ≡ at ws c
+        go (yes e) = rw (k e) (ap (λ (u : List ℕ). at u c) (sought-kept d ws))
+        go (no n) = let q = sought-other (keeps o d a b) d ws c n in rw (q .0, q .1) refl
+
+    -- what is left of a store, which is collected first where y says so
+    abbrev Left : Op → Bool → ℕ → Done → Type 0
+    Left o y n r =
+        Leaves (index o) d a b n (cond y (collected F (v o) top) ws) (cond y (F + lv o) top) (r .words)
+
+    plainly : (o : Op) (r : Done) → Leaves (index o) d a b 0 ws top (r .words) → Left o (ltb (capacity ws) (top + 0)) 0 r
     plainly o r h = rw stays h
 
     -- where nothing is collected, the store in which room is sought differs from the store at d alone
-    from-store : (o : Op) (y : Bool) (n t : ℕ) (u : List ℕ) → OnlyThere d t n (cond y (collected F (v o) top) (v o)) u
-        → OnlyThere d t n (cond y (collected F (v o) top) ws) u
-    from-store o true n t u h = h
-    from-store o false n t u h =
-        only-trans d t n ws (v o) u (λ c y g. sought-other (keeps o d a b) d ws c y) h
+    module _ (o : Op) (n : ℕ) (t : ℕ) (u : List ℕ) (l : Leaves (index o) d a b n (v o) t u)
+        (dc : dCell (index o) (v o) t a b ≡ dCell (index o) ws t a b)
+        (nc : (j : ℕ) → j < n → newCell (index o) (v o) a b j ≡ newCell (index o) ws a b j) where
+      from-store : Leaves (index o) d a b n ws t u
+      from-store = record {
+        others = only-trans d t n ws (v o) u (λ c y g. sought-other (keeps o d a b) d ws c y) (l .others);
+        sets = λ h. l .sets h ∙ dc;
+        lays = λ j h. l .lays j h ∙ nc j h;
+      }
 
     makes : (o : Op) → WordsRight F o d a b → (n : ℕ) (act : List ℕ → ℕ → Done)
-        → ((u : List ℕ) (t : ℕ) → Sound F u t → Denote F u (meaning (v o)) → OnlyThere d t n u (act u t .words))
+        → ((t : ℕ) → dCell (index o) (v o) t a b ≡ dCell (index o) ws t a b)
+        → ((j : ℕ) → j < n → newCell (index o) (v o) a b j ≡ newCell (index o) ws a b j)
+        → ((u : List ℕ) (t : ℕ) → Sound F u t → Denote F u (meaning (v o)) → 2 * (t + n) ≤ length u
+        → Leaves (index o) d a b n u t (act u t .words))
         → withRoom F n (v o) act ws top .verdict .status ≡ 0
-        → Touches o (ltb (capacity ws) (top + n)) n (withRoom F n (v o) act ws top)
+        → Left o (ltb (capacity ws) (top + n)) n (withRoom F n (v o) act ws top)
     unfolding withRoom
-    makes o q n act h e = go (lacks F n (v o) top) e
+    makes o q n act dc nc h e = go (lacks F n (v o) top) refl e
       where
         w : Sound F (v o) top
         w = sound-by F ws top p s d a b o q
@@ -131,58 +162,107 @@ module _ (F : ℕ) (ws : List ℕ) (top : ℕ) (p : 0 < F) (s : Sound F ws top) 
         room : roomWords F n (v o) top ≡ cond (ltb (capacity ws) (top + n)) (collected F (v o) top) (v o)
         room = unfold roomWords in rw (length-by F ws top p s d a b o) refl
 
-        there : Touches o (ltb (capacity ws) (top + n)) n (act (roomWords F n (v o) top) (roomTop F n (v o) top))
-        there =
-            let u = roomWords F n (v o) top in
-            let t = roomTop F n (v o) top in
-            rw (← sought-top o n) (from-store o (ltb (capacity ws) (top + n)) n t (act u t .words)
-            (rw (← room) (h u t (room-sound F n (v o) top p w) (room-denote F n (v o) top p w))))
+        there : (y : Bool) (t : ℕ) (u : List ℕ) → Leaves (index o) d a b n (cond y (collected F (v o) top) (v o)) t u
+            → Leaves (index o) d a b n (cond y (collected F (v o) top) ws) t u
+        there true t u l = l
+        there false t u l = from-store o n t u l (dc t) nc
 
-        go : (t : Bool)
+        go : (t : Bool) → lacks F n (v o) top ≡ t
             → cond t (refused (collected F ws top) (collectedTop F ws top) (only 16))
             (act (roomWords F n (v o) top) (roomTop F n (v o) top)) .verdict .status ≡ 0
-            → Touches o (ltb (capacity ws) (top + n)) n
+            → Left o (ltb (capacity ws) (top + n)) n
             (cond t (refused (collected F ws top) (collectedTop F ws top) (only 16))
             (act (roomWords F n (v o) top) (roomTop F n (v o) top)))
-        go true z = absurd (omega arith)
-        go false z = there
+        go true r z = absurd (omega arith)
+        go false r z =
+            let u = roomWords F n (v o) top in
+            let t = roomTop F n (v o) top in
+            rw (← sought-top o n) (there (ltb (capacity ws) (top + n)) t (act u t .words)
+            (rw (← room) (h u t (room-sound F n (v o) top p w) (room-denote F n (v o) top p w)
+            (room-fits F n (v o) top p w r))))
 
-    join-words : WordsRight F JOIN d a b → a < F → b < F → (n m : ℕ) → size (at ws a) ≡ n → size (at ws b) ≡ m
-        → carryOut F (joinPlan n m (v JOIN) d a b) ws top .verdict .status ≡ 0
-        → Touches JOIN (ltb (capacity ws) (top + joinNeed n m)) (joinNeed n m)
-        (carryOut F (joinPlan n m (v JOIN) d a b) ws top)
-    unfolding carryOut uses
-    join-words q ha hb zero m za zb e = plainly JOIN (share d b ws top) (share-only d top 0 ws top b)
-    join-words q ha hb (suc n) zero za zb e = plainly JOIN (share d a ws top) (share-only d top 0 ws top a)
-    join-words q ha hb (suc n) (suc m) za zb e =
-        makes JOIN q (suc n + suc m) (newRun d a b)
-        (λ u t w f. run-only d u t a b (suc n + suc m)
-        (ap₂ _+_ (size-a F ws top p s d a b JOIN q u f t w refl ha ∙ za)
-        (size-b F ws top p s d a b JOIN q u f t w refl hb ∙ zb))) e
+    -- JOIN of two registers that are not empty
+    module _ (q : WordsRight F JOIN d a b) (hd : d < F) (ha : a < F) (hb : b < F) where
+      same-a : at (v JOIN) a ≡ at ws a
+      unfolding uses
+      same-a = same-cell JOIN a (λ e. keeps-a JOIN d a b refl e)
+
+      same-b : at (v JOIN) b ≡ at ws b
+      unfolding uses
+      same-b = same-cell JOIN b (λ e. keeps-b JOIN d a b refl e)
+
+      same-heap : (c : ℕ) → F ≤ c → at (v JOIN) c ≡ at ws c
+      same-heap c h = same-cell JOIN c (λ e. absurd (omega arith))
+
+      from-heap : (i j : ℕ) → i < F → size (at ws i) ≢ 0 → F ≤ start (at ws i) + j
+      from-heap i j h n = go (at ws i) (good F ws top p s .regs i h) n
+        where
+          go : (k : Cell) → BracketIn F top k → size k ≢ 0 → F ≤ start k + j
+          go (code c) t n = absurd t
+          go empty t n = absurd (n refl)
+          go (ends l r) t n = omega (arith, t .0)
+
+      same-copied : size (at ws a) ≢ 0 → size (at ws b) ≢ 0 → (j : ℕ)
+          → newCell 4 (v JOIN) a b j ≡ newCell 4 ws a b j
+      same-copied x y j =
+          rw (same-a, same-b, same-heap (start (at ws a) + j) (from-heap a j ha x),
+          same-heap (start (at ws b) + (j - size (at ws a))) (from-heap b (j - size (at ws a)) hb y)) refl
+
+      join-words : (n m : ℕ) → size (at ws a) ≡ n → size (at ws b) ≡ m
+          → carryOut F (joinPlan n m (v JOIN) d a b) ws top .verdict .status ≡ 0
+          → Left JOIN (ltb (capacity ws) (top + joinNeed n m)) (joinNeed n m)
+          (carryOut F (joinPlan n m (v JOIN) d a b) ws top)
+      unfolding carryOut uses
+      join-words zero m za zb e =
+          plainly JOIN (share d b ws top) (join-first-leaves F ws top p s d a b hd za)
+      join-words (suc n) zero za zb e =
+          plainly JOIN (share d a ws top) (join-second-leaves F ws top p s d a b hd (omega arith) zb)
+      join-words (suc n) (suc m) za zb e =
+          makes JOIN q (suc n + suc m) (newRun d a b) (λ t. rw (same-a, same-b) refl)
+          (λ j h. same-copied (omega arith) (omega arith) j)
+          (λ u t w f r.
+          let xa = size-a F ws top p s d a b JOIN q u f t w refl ha in
+          let xb = size-b F ws top p s d a b JOIN q u f t w refl hb in
+          run-leaves F u t p w d a b hd ha hb (suc n + suc m) (ap₂ _+_ (xa ∙ za) (xb ∙ zb)) (omega arith) (omega arith)
+          r) e
 
     pub plan-words : (o : Op) → WordsRight F o d a b → perform o F ws top d a b .verdict .status ≡ 0
         → (let n = x o .need in
-        OnlyThere d (cond (x o .collects) (F + live F ws top) (cond (ltb (capacity ws) (top + n)) (F + lv o) top)) n
+        Leaves (index o) d a b n
         (cond (x o .collects) (collected F ws top) (cond (ltb (capacity ws) (top + n)) (collected F (v o) top) ws))
+        (cond (x o .collects) (F + live F ws top) (cond (ltb (capacity ws) (top + n)) (F + lv o) top))
         (perform o F ws top d a b .words))
     unfolding perform planOf carryOut uses
-    plan-words CLEAR q e = plainly CLEAR (done (put ws d empty) top 0) (clear-only d top 0 ws top)
-    plan-words COPY q e = plainly COPY (share d a ws top) (share-only d top 0 ws top a)
-    plan-words SYMBOL q e = makes SYMBOL q 1 (newSymbol d a) (λ u t w f. symbol-only d u t a) e
-    plan-words WRAP q e = makes WRAP q 1 (newBracket d a) (λ u t w f. wrap-only d u t a) e
+    plan-words CLEAR q e =
+        plainly CLEAR (done (put ws d empty) top 0) (clear-leaves F ws top p s d a b (is-register F d (q .d11)))
+    plan-words COPY q e = plainly COPY (share d a ws top) (copy-leaves F ws top p s d a b (is-register F d (q .d11)))
+    plan-words SYMBOL q e =
+        makes SYMBOL q 1 (newSymbol d a) (λ t. refl) (λ j h. refl)
+        (λ u t w f r. symbol-leaves F u t p w d a b (is-register F d (q .d11)) (is-code a (q .a13)) r) e
+    plan-words WRAP q e =
+        makes WRAP q 1 (newBracket d a) (λ t. refl)
+        (λ j h. same-cell WRAP a (λ z. keeps-a WRAP d a b refl z))
+        (λ u t w f r. wrap-leaves F u t p w d a b (is-register F d (q .d11)) r) e
     plan-words JOIN q e =
         let ha = is-register F a (q .a11) in
         let hb = is-register F b (q .b11) in
         rw (← size-terms F ws top p s a ha, ← size-terms F ws top p s b hb)
-        (join-words q ha hb (size (at ws a)) (size (at ws b)) refl refl e)
-    plan-words HEAD q e = plainly HEAD (head ws top d (at ws a)) (head-only d top 0 ws top (at ws a))
-    plan-words REST q e = plainly REST (rest ws top d (at ws a)) (rest-only d top 0 ws top (at ws a))
-    plan-words OPEN q e = plainly OPEN (openFirst ws top d (at ws a)) (openFirst-only d top 0 ws top (at ws a))
-    plan-words LENGTH q e = plainly LENGTH (done ws top (size (at ws a))) (only-same d top 0 ws)
+        (join-words q (is-register F d (q .d11)) ha hb (size (at ws a)) (size (at ws b)) refl refl e)
+    plan-words HEAD q e =
+        plainly HEAD (head ws top d (at ws a))
+        (head-leaves F ws top p s d a b (is-register F d (q .d11)) (is-register F a (q .a11)) e)
+    plan-words REST q e =
+        plainly REST (rest ws top d (at ws a))
+        (rest-leaves F ws top p s d a b (is-register F d (q .d11)) (is-register F a (q .a11)) e)
+    plan-words OPEN q e =
+        plainly OPEN (openFirst ws top d (at ws a))
+        (open-leaves F ws top p s d a b (is-register F d (q .d11)) (is-register F a (q .a11)) e)
+    plan-words LENGTH q e = plainly LENGTH (done ws top (size (at ws a))) (unchanged 8 (omega arith) ws top)
     plan-words FIRST q e =
-        plainly FIRST (codeFirst ws top (at ws a)) (rw (first-words ws top (at ws a)) (only-same d top 0 ws))
-    plan-words LIVE q e = plainly LIVE (done ws top (live F ws top)) (only-same d top 0 ws)
-    plan-words COLLECT q e = only-same d (F + live F ws top) 0 (collected F ws top)
+        plainly FIRST (codeFirst ws top (at ws a))
+        (rw (first-words ws top (at ws a)) (unchanged 9 (omega arith) ws top))
+    plan-words LIVE q e = plainly LIVE (done ws top (live F ws top)) (unchanged 10 (omega arith) ws top)
+    plan-words COLLECT q e = unchanged 11 (omega arith) (collected F ws top) (F + live F ws top)
 
     -- LENGTH, FIRST, LIVE and COLLECT
     pub asked-words : (k : ℕ) → k < 4

@@ -17,14 +17,16 @@ use Rattle.meaning.specs.Operands.{ops, opAt, uses, wrong11, wrong12, wrong13, 
 use Rattle.meaning.specs.Call.{planOf, perform, stepAfter, step}
 use Rattle.meaning.specs.Effect.{effect, liveForRoom, callStatus}
 use Rattle.meaning.specs.Batch.{ended}
-use Rattle.meaning.proofs.operands.Uses.{right, op-small}
+use Rattle.meaning.proofs.operands.Uses.{right, op-small, index-opAt}
 use Rattle.meaning.proofs.call.Plans.{planTop, topAfter, WordsAfter}
 use Rattle.meaning.proofs.effect.Steps.{Steps, step-meets, no-need}
 use Rattle.meaning.proofs.batch.Batches.{fours-of}
 use Rattle.meaning.proofs.batch.Cases.{batch-runs}
 use Rattle.promises.specs.Requests.{Request, call, requested, requests}
+use Rattle.promises.specs.Cells.{Leaves}
+use Rattle.promises.proofs.ownwords.Faults.{faults-in-words}
 use Rattle.promises.proofs.alike.Requests.{ran, runs-ran, ran-length, requests-length}
-use Rattle.promises.specs.Calls.{Did, actedOn, actedTop, OnlyThere, CallsDo, CallsAnswer, Answered, none, next}
+use Rattle.promises.specs.Calls.{Did, actedOn, actedTop, CallsDo, CallsAnswer, Answered, none, next}
 use Rattle.promises.specs.Calls.{BatchesRun}
 use Rattle.promises.proofs.calls.Acting.{orElse-zero, stays, plan-top, plan-words, asked-words}
 
@@ -67,12 +69,14 @@ module _ (F : ℕ) (p : 0 < F) (ws : List ℕ) (top : ℕ) (s : Sound F ws top) 
   performed q = rw q refl
 
   done-words : r .verdict .status ≡ 0
-      → OnlyThere d (actedTop F ws top o d a b n) n (actedOn F ws top o d a b n) (r .words)
+      → Leaves o d a b n (actedOn F ws top o d a b n) (actedTop F ws top o d a b n) (r .words)
   done-words e =
       let q = faultless e in
       let z = performed q in
-      rw z (plan-words F ws top p s d a b (opAt o) (right F o d a b q)
-      (ap (λ (x : Done). x .verdict .status) (sym z) ∙ e))
+      let i = index-opAt o (op-small F o d a b q) in
+      rw z (subst (λ (k : ℕ). Leaves k d a b n (actedOn F ws top o d a b n) (actedTop F ws top o d a b n)
+      (perform (opAt o) F ws top d a b .words)) i (plan-words F ws top p s d a b (opAt o) (right F o d a b q)
+      (ap (λ (x : Done). x .verdict .status) (sym z) ∙ e)))
 
   asked : r .verdict .status ≡ 0 → 8 ≤ o → r .words ≡ actedOn F ws top o d a b n
   asked e l =
@@ -97,6 +101,8 @@ calls-do F p ws top s o d a b =
     let g = done-top F p ws top s o d a b in
     let w = done-words F p ws top s o d a b in
     record {
+      wrong = fault F o d a b;
+      own = faults-in-words F o d a b;
       status = x .status;
       value = x .value;
       registers = x .registers;
@@ -107,7 +113,7 @@ calls-do F p ws top s o d a b =
       asked = asked F p ws top s o d a b;
       noNeed = λ e h z. (
         g e ∙ rw (h, as-it-is F p ws top s o d a b z, z) (add-zero top),
-        rw (h, as-it-is F p ws top s o d a b z, z) at (w e),
+        rw (h, as-it-is F p ws top s o d a b z, z) at (w e .others),
       );
       full = λ e. (rw e at (x .left), x .tops ∙ rw e refl);
       refused = t (r .verdict .status) (x .left) (x .tops);
@@ -145,7 +151,7 @@ module _ (F : ℕ) (p : 0 < F) (ws : List ℕ) (top : ℕ) (s : Sound F ws top) 
       let k = calls-do F p ws top s o 0 a 0 in
       let g = no-need F ws top p s 0 a 0 (opAt o) (right F o 0 a 0 f) in
       let y = stays F ws top p s in
-      let e : step F ws top o 0 a 0 .verdict .status ≡ 0 = k .status ∙ rw (f, u, z, ← g) refl in
+      let e : step F ws top o 0 a 0 .verdict .status ≡ 0 = m F p ws top s o 0 a 0 .status ∙ rw (f, u, z, ← g) refl in
       is-done (step F ws top o 0 a 0) (cond x (collected F ws top) ws) (cond x (F + live F ws top) top)
       (effect F ws top o 0 a 0 .value) e
       (k .value ∙ rw e refl) (k .asked e l ∙ rw (c, z, y) refl)

@@ -12,7 +12,7 @@ use Rattle.meaning.specs.Sound.{size, start}
 use Rattle.meaning.specs.Verdicts.{Done, done}
 use Rattle.meaning.specs.Actions.{put, copy, copies, share, newSymbol, newBracket, newRunOf, newRun, head, rest}
 use Rattle.meaning.specs.Actions.{openTerm, openFirst, codeTerm, codeFirst}
-use Rattle.promises.specs.Calls.{OnlyThere}
+use Rattle.promises.specs.Cells.{OnlyThere}
 
 module _ (d t n : ℕ) where
   pub only-same : (ws : List ℕ) → OnlyThere d t n ws ws

@@ -2,19 +2,17 @@
 -- says. Assumes nothing.
 use mathlib.Core.Path.{_≡_, refl}
 use mathlib.Core.Logic.{_⊎_, inl, inr}
-use mathlib.Core.Bool.{Bool, true, false, cond, _&&_, _||_, false≢true, true≢false}
-use mathlib.Core.List.{List}
-use Prim.Native.Nat.{ℕ, _+_, _*_, _≤_, _<_}
+use mathlib.Core.Bool.{Bool, true, false, cond, _&&_, _||_, false≢true}
+use Prim.Native.Nat.{ℕ, _+_, _*_, _≤_}
 use native.Mathlib.Omega.{arith}
 use lib.Dec.{eqb}
 use lib.ListN.{getD}
 use borrow.Author.Tests.{leb-true, le-leb, ltb-true, lt-ltb, eqb-true}
 use Rattle.meaning.specs.Limits.{codeTest}
-use Rattle.meaning.specs.Sound.{IsCode}
 use Rattle.meaning.specs.Operands.{uses, wrong11, wrong12, wrong13, fault}
 use Rattle.meaning.proofs.operands.Uses.{all-at, three, Faults, ten, eleven, twelve, thirteen, none, faults}
 use Rattle.promises.specs.Table.{Not}
-use Rattle.promises.specs.OwnWords.{Use, register, code, unused, Row, rowOf, NoRegister, Stray, NoCode, Some}
+use Rattle.promises.specs.OwnWords.{Use, register, code, unused, rowOf, NoRegister, Stray, NoCode, Some}
 use Rattle.promises.specs.OwnWords.{OwnFault, noOperation, noRegister, stray, noCode, noFault, FaultsInWords}
 use Rattle.promises.specs.OwnWords.{FaultRows, OneFault}
 use Rattle.promises.proofs.table.Rules.{refuted}

@@ -7,20 +7,16 @@ use mathlib.Core.List.{List, [], _∷_}
 use Prim.Native.Nat.{ℕ}
 use Rattle.meaning.specs.Expr.{Expr, nothing, symbol, parens}
 use Rattle.meaning.specs.Operands.{Op, CLEAR, COPY, SYMBOL, WRAP, JOIN, HEAD, REST, OPEN, LENGTH, FIRST, LIVE, COLLECT}
-use Rattle.meaning.specs.Operands.{fault}
 use Rattle.meaning.specs.Effect.{Facts, does, onEmpty, onOpen, onFirst, orElse}
-use Rattle.meaning.proofs.operands.Uses.{Faults, ten, eleven, twelve, thirteen, none, faults}
 use Rattle.promises.specs.Table.{OneOf}
+use Rattle.promises.specs.OwnWords.{OwnFault, noOperation, noRegister, stray, noCode, noFault}
 
-pub fault-number : (F o d a b : ℕ) → OneOf (fault F o d a b) (0 ∷ 10 ∷ 11 ∷ 12 ∷ 13 ∷ [])
-fault-number F o d a b = go (faults F o d a b)
-  where
-    go : {f : ℕ} → Faults F o d a b f → OneOf f (0 ∷ 10 ∷ 11 ∷ 12 ∷ 13 ∷ [])
-    go (ten h) = inr (inl refl)
-    go (eleven h x) = inr (inr (inl refl))
-    go (twelve h x y) = inr (inr (inr (inl refl)))
-    go (thirteen h x y w) = inr (inr (inr (inr (inl refl))))
-    go (none h x y w) = inl refl
+pub own-number : {F o d a b f : ℕ} → OwnFault F o d a b f → OneOf f (0 ∷ 10 ∷ 11 ∷ 12 ∷ 13 ∷ [])
+own-number (noOperation h) = inr (inl refl)
+own-number (noRegister h x) = inr (inr (inl refl))
+own-number (stray h x y) = inr (inr (inr (inl refl)))
+own-number (noCode h x y w) = inr (inr (inr (inr (inl refl))))
+own-number (noFault h x y w) = inl refl
 
 empty-number : (e : Expr) → OneOf (onEmpty e) (0 ∷ 14 ∷ 15 ∷ [])
 empty-number nothing = inr (inl refl)

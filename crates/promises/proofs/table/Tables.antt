@@ -17,7 +17,7 @@ use Rattle.meaning.specs.Verdicts.{Verdict, only, done, refused, onZero}
 use Rattle.meaning.specs.Check.{lengthTest, check, collectIn}
 use Rattle.meaning.specs.Fresh.{fresh, freshIn}
 use Rattle.meaning.specs.Look.{look}
-use Rattle.meaning.specs.Operands.{fault, opAt}
+use Rattle.meaning.specs.Operands.{opAt}
 use Rattle.meaning.specs.Call.{step}
 use Rattle.meaning.specs.Effect.{Effect, facts, effect, after, answer, callStatus}
 use Rattle.meaning.specs.Batch.{Outcome, ended, callsTest, batch}
@@ -33,7 +33,7 @@ use Rattle.promises.specs.Table as table
 use Rattle.promises.proofs.calls.Calling.{calls-do}
 use Rattle.promises.proofs.table.Rules.{refuted, judged}
 use Rattle.promises.proofs.table.Rules.{judged-number, judged-value}
-use Rattle.promises.proofs.table.Numbers.{fault-number, unfit-number, first-of}
+use Rattle.promises.proofs.table.Numbers.{own-number, unfit-number, first-of}
 
 -- ---- the check
 
@@ -209,7 +209,7 @@ call-answers F p ws top s o d a b =
     let x = effect F ws top o d a b in
     record {
       number = rw (c .status)
-          (first-of (fault F o d a b) (x .unfit) (lacking F ws top o d a b (x .need)) (fault-number F o d a b)
+          (first-of (c .wrong) (x .unfit) (lacking F ws top o d a b (x .need)) (own-number (c .own))
           (unfit-number (opAt o) (meaning ws) (facts F ws top) d a b));
       value = λ n. c .value ∙ refused-value (r .verdict .status) x n;
       kept = λ k. let z = ten-to-fifteen (r .verdict .status) k in c .refused (λ e. omega (arith, z .0))
