@@ -7,13 +7,16 @@ use Rattle.promises.specs.Calls.{CallsDo, CallsAnswer, BatchesRun}
 use Rattle.promises.specs.Alike.{AlikeIsCollected, CollectionsNeverShow}
 use Rattle.promises.specs.Program.{ProgramWrites, ProgramReads, ProgramRows}
 use Rattle.promises.specs.Unique.{OneAnswer, OneCheck, OneFresh, OneCollected, OneLook, OneCollect, OneBatch}
-use Rattle.promises.specs.Unique.{OneProgram}
+use Rattle.promises.specs.Unique.{OneCall, OneProgram}
+use Rattle.promises.specs.OwnWords.{FaultsInWords, FaultRows, OneFault}
 use Rattle.promises.proofs.table.Tables as tables
 use Rattle.promises.proofs.collecting.Keeping as keeping
 use Rattle.promises.proofs.calls.Calling as calling
 use Rattle.promises.proofs.alike.Alikes as alikes
 use Rattle.promises.proofs.alike.Striking as struck
 use Rattle.promises.proofs.program.Written as program
+use Rattle.promises.proofs.ownwords.Faults as faults
+use Rattle.promises.proofs.unique.Calls as calls-once
 use Rattle.promises.proofs.unique.Outcomes as once
 
 -- ---- demand 1
@@ -43,6 +46,12 @@ live-counts = keeping.live-counts
 
 pub collecting-keeps : CollectingKeeps
 collecting-keeps = keeping.collecting-keeps
+
+pub faults-in-words : FaultsInWords
+faults-in-words = faults.faults-in-words
+
+pub fault-rows : FaultRows
+fault-rows = faults.fault-rows
 
 pub calls-do : CallsDo
 calls-do = calling.calls-do
@@ -91,6 +100,12 @@ one-look = once.one-look
 
 pub one-collect : OneCollect
 one-collect = once.one-collect
+
+pub one-fault : OneFault
+one-fault = faults.one-fault
+
+pub one-call : OneCall
+one-call = calls-once.one-call
 
 pub one-batch : OneBatch
 one-batch = once.one-batch

@@ -1,2 +1,8 @@
--- One outcome. Assumes nothing.
+-- One outcome. In order:
+--   Words     a sound store's words, cell by cell
+--   Calls     a call
+--   Outcomes  every public function
+-- Assumes nothing.
+pub mod Words
+pub mod Calls
 pub mod Outcomes

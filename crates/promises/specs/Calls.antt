@@ -20,7 +20,7 @@ use Rattle.meaning.specs.Effect.{effect, liveForRoom, callStatus, after, answer
 use Rattle.meaning.specs.Batch.{Outcome, batch}
 use Rattle.promises.specs.OwnWords.{OwnFault}
 use Rattle.promises.specs.Cells.{OnlyThere, Leaves}
-use Rattle.promises.specs.Requests.{Request, call, requested, requests, inWords}
+use Rattle.promises.specs.Requests.{Request, call, requests, inWords}
 
 -- ---- room for the n new cells that the call needs
 
@@ -96,7 +96,7 @@ Did F ws top (call o d a b) r = Called F ws top o d a b (effect F ws top o d a b
 pub data Answered (F : ℕ) : List ℕ → ℕ → List Request → List Verdict → List ℕ → ℕ → Type 0 where
   none : {ws : List ℕ} {top : ℕ} → Answered F ws top [] [] ws top
   next : {ws : List ℕ} {top : ℕ} {q : Request} {qs : List Request} {said : List Verdict} {v : List ℕ} {t : ℕ} (r : Done)
-      → r ≡ requested F ws top q → Did F ws top q r → Answered F (r .words) (r .top) qs said v t
+      → Did F ws top q r → Answered F (r .words) (r .top) qs said v t
       → Answered F ws top (q ∷ qs) (r .verdict ∷ said) v t
 
 pub record BatchRun (F : ℕ) (ws : List ℕ) (top : ℕ) (calls out : List ℕ) (r : Outcome) : Type 0 where

@@ -9,7 +9,7 @@ use Rattle.meaning.specs.Collected.{collected}
 use Rattle.meaning.specs.Verdicts.{Verdict, Done}
 use Rattle.meaning.specs.Batch.{Outcome}
 use Rattle.promises.specs.Table.{CheckTable, FreshTable, CollectTable, LookTable, BatchTable}
-use Rattle.promises.specs.Calls.{BatchRun}
+use Rattle.promises.specs.Calls.{Called, BatchRun}
 use Rattle.promises.specs.Collecting.{CollectedFrom}
 use Rattle.promises.specs.Program.{ProgramTable}
 
@@ -38,6 +38,12 @@ OneLook =
 abbrev pub OneCollect : Type 0
 OneCollect = (F : ℕ) (ws : List ℕ) (top : ℕ) (r q : Done) → CollectTable F ws top r → CollectTable F ws top q → r ≡ q
 
+-- one call, whatever its words are
+abbrev pub OneCall : Type 0
+OneCall =
+    (F : ℕ) → 0 < F → (ws : List ℕ) (top : ℕ) → Sound F ws top → (o d a b n : ℕ) (r q : Done)
+    → Called F ws top o d a b n r → Called F ws top o d a b n q → r ≡ q
+
 -- a batch that is refused by its table, one that is run by its calls
 pub record BatchPromise (F : ℕ) (ws : List ℕ) (top : ℕ) (calls out : List ℕ) (r : Outcome) : Type 0 where
   pub table : BatchTable F ws top calls out r
@@ -45,7 +51,7 @@ pub record BatchPromise (F : ℕ) (ws : List ℕ) (top : ℕ) (calls out : List 
 
 abbrev pub OneBatch : Type 0
 OneBatch =
-    (F : ℕ) (ws : List ℕ) (top : ℕ) (calls out : List ℕ) (r q : Outcome)
+    (F : ℕ) → 0 < F → (ws : List ℕ) (top : ℕ) (calls out : List ℕ) (r q : Outcome)
     → BatchPromise F ws top calls out r → BatchPromise F ws top calls out q → r ≡ q
 
 -- the bytes that the program writes

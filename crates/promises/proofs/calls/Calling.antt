@@ -180,7 +180,7 @@ answered F p ws top [] s = none
 answered F p ws top (q ∷ qs) s =
     let r = requested F ws top q in
     let k = did F p ws top s q in
-    next r refl (k .0) (answered F p (r .words) (r .top) qs (k .1))
+    next r (k .0) (answered F p (r .words) (r .top) qs (k .1))
 
 pub batches-run : BatchesRun
 unfolding ended

@@ -2,11 +2,11 @@
 --   clear-leaves .. open-leaves    actions without new cells
 --   symbol-leaves, wrap-leaves, run-leaves   with new cells, where there is room for them
 -- Assumes nothing.
-use mathlib.Core.Path.{_≡_, refl, sym, ap, _∙_}
+use mathlib.Core.Path.{_≡_, refl, _∙_}
 use mathlib.Core.Logic.{_⊎_, inl, inr, _≢_}
 use mathlib.Core.Bool.{Bool, true, false, cond}
 use mathlib.Core.List.{List}
-use Prim.Native.Nat.{ℕ, zero, suc, _+_, _-_, _*_, _≤_, _<_}
+use Prim.Native.Nat.{ℕ, suc, _+_, _-_, _*_, _≤_, _<_}
 use native.Mathlib.Nat.{le-refl, add-zero}
 use native.Mathlib.Omega.{arith}
 use lib.Dec.{ltb, leb}
@@ -14,7 +14,7 @@ use lib.ListN.{length}
 use borrow.Author.Tests.{ltb-true, ltb-false, lt-ltb, le-ltb, le-leb, lt-leb, ne-eqb}
 use Rattle.words.specs.Cell.{firstWord, secondWord}
 use Rattle.words.proofs.Cells.{firstWord-same, secondWord-same}
-use Rattle.meaning.specs.Sound.{IsCode, Cell, code, empty, ends, at, size, start, Sound}
+use Rattle.meaning.specs.Sound.{IsCode, Cell, code, empty, ends, at, size, Sound}
 use Rattle.meaning.specs.Verdicts.{Done, done}
 use Rattle.meaning.specs.Actions.{put, copy, copies, share, head, rest, openTerm, openFirst, newSymbol, newBracket}
 use Rattle.meaning.specs.Actions.{newRunOf, newRun}

@@ -1,6 +1,6 @@
 -- One outcome: two that satisfy the same claim are equal.
 -- Assumes nothing.
-use mathlib.Core.Path.{_≡_, refl, sym, ap, ap₂, _∙_}
+use mathlib.Core.Path.{_≡_, refl, sym, ap, ap₂, subst, _∙_}
 use mathlib.Core.Logic.{_⊎_, inl, inr, _≢_}
 use mathlib.Core.Bool.{Bool, true, false}
 use mathlib.Core.List.{List, _∷_, _++_}
@@ -8,25 +8,24 @@ use Prim.Native.Nat.{ℕ, zero, suc, _+_, _-_, _≤_, _<_}
 use native.Mathlib.Omega.{arith}
 use lib.ListN.{length, replicate}
 use lib.Seq.{ext-getD}
-use Rattle.words.specs.Cell.{firstWord, secondWord}
-use Rattle.meaning.specs.Sound.{Cell, code, empty, ends, fst, snd, at, capacity, Allowed, CellRule, Sound}
+use Rattle.meaning.specs.Sound.{Cell, code, empty, ends, at, capacity, Allowed, CellRule, Sound}
 use Rattle.meaning.specs.Reach.{live}
 use Rattle.meaning.specs.Collected.{mapEnds, new}
 use Rattle.meaning.specs.Verdicts.{Verdict, only, Done}
 use Rattle.meaning.specs.Check.{lengthTest, check}
+use Rattle.meaning.specs.Effect.{effect}
 use Rattle.meaning.specs.Batch.{Outcome, asLent}
 use Rattle.meaning.proofs.Lists.{lt-or-ge}
-use Rattle.meaning.proofs.sound.Cells.{good, BracketIn, read, bracket-words, term-words, free-words, register-rule}
-use Rattle.meaning.proofs.sound.Cells.{heap-rule}
+use Rattle.meaning.proofs.sound.Cells.{good, BracketIn, free-words}
 use Rattle.meaning.proofs.check.Checking.{length-yes, yes-length, check-sound, sound-check}
 use Rattle.meaning.proofs.collected.Determined.{is-collected}
 use Rattle.promises.specs.Table.{Not, TopRule, Judged, badLength, badTop, badCell, isSound}
 use Rattle.promises.specs.Table.{Batched, unsound, badCalls, badSpace, runs}
-use Rattle.promises.specs.Requests.{Request, inWords}
-use Rattle.promises.specs.Alike.{Served}
-use Rattle.promises.proofs.alike.Requests.{ran}
-use Rattle.promises.specs.Calls.{Answered, none, next, BatchRun}
+use Rattle.promises.specs.Requests.{Request, call, inWords}
+use Rattle.promises.specs.Calls.{Did, Answered, none, next, BatchRun}
 use Rattle.promises.specs.Unique.{OneAnswer, OneCheck, OneFresh, OneCollected, OneLook, OneCollect, OneBatch}
+use Rattle.promises.proofs.unique.Words.{register-words, heap-words}
+use Rattle.promises.proofs.unique.Calls.{one-call}
 use Rattle.promises.proofs.table.Rules.{refuted}
 
 pub one-answer : OneAnswer
@@ -91,23 +90,6 @@ one-fresh F ws r q a b = go (lengthTest F (length ws)) refl
 
 -- ---- collecting
 
--- the words of a cell of a sound store, by the cell
-module _ (F : ℕ) (p : 0 < F) (v : List ℕ) (t : ℕ) (s : Sound F v t) where
-  abbrev Holds : ℕ → Cell → Type 0
-  Holds c b = (firstWord v c ≡ fst b) × (secondWord v c ≡ snd b)
-
-  register-words : (i : ℕ) → i < F → (b : Cell) → at v i ≡ b → Holds i b
-  unfolding at read
-  register-words i h b e =
-      let w = bracket-words F t (firstWord v i) (secondWord v i) p (register-rule s i h) in rw (← e)
-      (sym (w .one), sym (w .two))
-
-  heap-words : (c : ℕ) → F ≤ c → c < t → (b : Cell) → at v c ≡ b → Holds c b
-  unfolding at read
-  heap-words c f h b e =
-      let w =
-      term-words F c (firstWord v c) (secondWord v c) p (heap-rule s c f h) in rw (← e) (sym (w .one), sym (w .two))
-
 pub one-collected : OneCollected
 one-collected F p ws top s v g =
     let t = F + live F ws top in
@@ -140,25 +122,40 @@ one-collect F ws top r q a b = go (check F ws top .status) refl
 
 -- ---- a batch
 
-answered-ran : (F : ℕ) {ws : List ℕ} {top : ℕ} {qs : List Request} {said : List Verdict} {v : List ℕ} {t : ℕ}
-    → Answered F ws top qs said v t → ran F ws top qs ≡ record { words = v; top = t; answers = said }
-answered-ran F none = refl
-answered-ran F (next {ws} {top} {q} r e c k) =
-    rw (← e) (ap (λ (s : Served). record { words = s .words; top = s .top; answers = r .verdict ∷ s .answers })
-    (answered-ran F k))
+-- what is left of a list of requests: the answers, the words and `top`
+pub record Left : Type 0 where
+  pub said : List Verdict
+  pub words : List ℕ
+  pub top : ℕ
 
-module _ (F : ℕ) (ws : List ℕ) (top : ℕ) (calls out : List ℕ) where
-  both-run : (r q : Outcome) → r .verdict ≡ only 0 → q .verdict ≡ only 0 → BatchRun F ws top calls out r
-      → BatchRun F ws top calls out q → r ≡ q
-  both-run r q e f x y =
-      let z : _≡_ {A = Served} (record { words = r .words; top = r .top; answers = x .said })
-      (record { words = q .words; top = q .top; answers = y .said }) =
-      sym (answered-ran F (x .answered)) ∙ answered-ran F (y .answered) in
-      let w : r .words ≡ q .words = ap (λ (u : Served). u .words) z in
-      let t : r .top ≡ q .top = ap (λ (u : Served). u .top) z in
+did-once : (F : ℕ) → 0 < F → (ws : List ℕ) (top : ℕ) → Sound F ws top → (q : Request) (r r′ : Done)
+    → Did F ws top q r → Did F ws top q r′ → (r ≡ r′) × Sound F (r .words) (r .top)
+did-once F p ws top s (call o d a b) r r′ x y = (
+  one-call F p ws top s o d a b (effect F ws top o d a b .need) r r′ x y,
+  x .sound,
+)
+
+answered-once : (F : ℕ) → 0 < F → {ws : List ℕ} {top : ℕ} {qs : List Request} {said said′ : List Verdict}
+    {v v′ : List ℕ} {t t′ : ℕ} → Sound F ws top → Answered F ws top qs said v t → Answered F ws top qs said′ v′ t′
+    → _≡_ {A = Left} (record { said = said; words = v; top = t }) (record { said = said′; words = v′; top = t′ })
+answered-once F p s none none = refl
+answered-once F p s (next {ws} {top} {q} {qs} r x k) (next {said = said′} {v = v′} {t = t′} r′ y m) =
+    let e = did-once F p ws top s q r r′ x y in
+    let m′ = subst (λ (u : Done). Answered F (u .words) (u .top) qs said′ v′ t′) (sym (e .0)) m in
+    rw (← e .0)
+    (ap (λ (l : Left). record { said = r .verdict ∷ l .said; words = l .words; top = l .top })
+    (answered-once F p (e .1) k m′))
+
+module _ (F : ℕ) (p : 0 < F) (ws : List ℕ) (top : ℕ) (calls out : List ℕ) where
+  both-run : Sound F ws top → (r q : Outcome) → r .verdict ≡ only 0 → q .verdict ≡ only 0
+      → BatchRun F ws top calls out r → BatchRun F ws top calls out q → r ≡ q
+  both-run s r q e f x y =
+      let z = answered-once F p s (x .answered) (y .answered) in
+      let w : r .words ≡ q .words = ap (λ (u : Left). u .words) z in
+      let t : r .top ≡ q .top = ap (λ (u : Left). u .top) z in
       let a : r .answers ≡ q .answers =
       x .answers
-      ∙ (ap (λ (u : Served). inWords (u .answers) ++ replicate (length out - length (inWords (u .answers))) 0) z
+      ∙ (ap (λ (u : Left). inWords (u .said) ++ replicate (length out - length (inWords (u .said))) 0) z
       ∙ sym (y .answers)) in
       rw (e ∙ sym f, w, t, a) refl
 
@@ -167,7 +164,7 @@ module _ (F : ℕ) (ws : List ℕ) (top : ℕ) (calls out : List ℕ) where
   clash v j n s = n (ap (λ (x : Verdict). x .status) (judged-once F ws top v (only 0) j (isSound s)))
 
   batched-once : (r q : Outcome) → Batched F ws top calls out r → Batched F ws top calls out q
-      → (r .verdict ≡ only 0 → q .verdict ≡ only 0 → r ≡ q) → r ≡ q
+      → (Sound F ws top → r .verdict ≡ only 0 → q .verdict ≡ only 0 → r ≡ q) → r ≡ q
   batched-once r q (unsound v j n) (unsound w k m) h =
       ap (λ (x : Verdict). asLent x ws top out) (judged-once F ws top v w j k)
   batched-once r q (unsound v j n) (badCalls s c) h = absurd (clash v j n s)
@@ -184,12 +181,12 @@ module _ (F : ℕ) (ws : List ℕ) (top : ℕ) (calls out : List ℕ) where
   batched-once r q (runs x s c l e) (unsound w k m) h = absurd (clash w k m s)
   batched-once r q (runs x s c l e) (badCalls t d) h = absurd (d c)
   batched-once r q (runs x s c l e) (badSpace t d m) h = absurd (m l)
-  batched-once r q (runs x s c l e) (runs y t d m f) h = h e f
+  batched-once r q (runs x s c l e) (runs y t d m f) h = h s e f
 
 pub one-batch : OneBatch
-one-batch F ws top calls out r q a b =
-    batched-once F ws top calls out r q (a .table .batched) (b .table .batched)
-    (λ e f. both-run F ws top calls out r q e f (a .run (ap (λ (v : Verdict). v .status) e))
+one-batch F p ws top calls out r q a b =
+    batched-once F p ws top calls out r q (a .table .batched) (b .table .batched)
+    (λ s e f. both-run F p ws top calls out s r q e f (a .run (ap (λ (v : Verdict). v .status) e))
     (b .run (ap (λ (v : Verdict). v .status) f)))
 
 -- ---- the look
