@@ -3,7 +3,8 @@
 use Rattle.promises.specs.Table.{CheckAnswers, FreshAnswers, CollectAnswers, LookAnswers, BatchAnswers}
 use Rattle.promises.specs.Table.{CallAnswers}
 use Rattle.promises.specs.Collecting.{LiveCounts, CollectingKeeps}
-use Rattle.promises.specs.Calls.{CallsDo, CallsAnswer, BatchesRun}
+use Rattle.promises.specs.Calls.{CallsDo, BatchesRun}
+use Rattle.promises.specs.Outright.{CallsOutright}
 use Rattle.promises.specs.Alike.{AlikeIsCollected, CollectionsNeverShow}
 use Rattle.promises.specs.Program.{ProgramWrites, ProgramReads, ProgramRows}
 use Rattle.promises.specs.Unique.{OneAnswer, OneCheck, OneFresh, OneCollected, OneLook, OneCollect, OneBatch}
@@ -12,6 +13,7 @@ use Rattle.promises.specs.OwnWords.{FaultsInWords, FaultRows, OneFault}
 use Rattle.promises.proofs.table.Tables as tables
 use Rattle.promises.proofs.collecting.Keeping as keeping
 use Rattle.promises.proofs.calls.Calling as calling
+use Rattle.promises.proofs.outright.Twelve as twelve
 use Rattle.promises.proofs.alike.Alikes as alikes
 use Rattle.promises.proofs.alike.Striking as struck
 use Rattle.promises.proofs.program.Written as program
@@ -56,8 +58,8 @@ fault-rows = faults.fault-rows
 pub calls-do : CallsDo
 calls-do = calling.calls-do
 
-pub calls-answer : CallsAnswer
-calls-answer = calling.calls-answer
+pub calls-outright : CallsOutright
+calls-outright = twelve.calls-outright
 
 pub batches-run : BatchesRun
 batches-run = calling.batches-run

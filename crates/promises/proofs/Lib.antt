@@ -4,6 +4,7 @@ pub mod table
 pub mod collecting
 pub mod ownwords
 pub mod calls
+pub mod outright
 pub mod alike
 pub mod program
 pub mod unique

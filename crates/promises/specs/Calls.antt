@@ -8,12 +8,11 @@ use mathlib.Core.List.{List, [], _∷_, _++_}
 use Prim.Native.Nat.{ℕ, _+_, _-_, _*_, _≤_, _<_}
 use lib.Dec.{ltb}
 use lib.ListN.{length, replicate}
-use Rattle.meaning.specs.Expr.{Expr, symbol, terms}
 use Rattle.meaning.specs.Sound.{capacity, Sound}
 use Rattle.meaning.specs.Meaning.{meaning}
 use Rattle.meaning.specs.Reach.{live}
 use Rattle.meaning.specs.Collected.{collected}
-use Rattle.meaning.specs.Verdicts.{Verdict, Done, done}
+use Rattle.meaning.specs.Verdicts.{Verdict, Done}
 use Rattle.meaning.specs.Operands.{opAt}
 use Rattle.meaning.specs.Call.{soughtBy, step}
 use Rattle.meaning.specs.Effect.{effect, liveForRoom, callStatus, after, answer}
@@ -75,17 +74,6 @@ abbrev pub CallsDo : Type 0
 CallsDo =
     (F : ℕ) → 0 < F → (ws : List ℕ) (top : ℕ) → Sound F ws top → (o d a b : ℕ)
     → Called F ws top o d a b (effect F ws top o d a b .need) (step F ws top o d a b)
-
--- ---- LENGTH, FIRST, LIVE and COLLECT answer by their definitions
-
-pub record Asked (F : ℕ) (ws : List ℕ) (top : ℕ) : Type 0 where
-  pub lengths : (a : ℕ) → a < F → step F ws top 8 0 a 0 ≡ done ws top (terms (meaning ws a))
-  pub firsts : (a s : ℕ) (e : Expr) → a < F → meaning ws a ≡ symbol s e → step F ws top 9 0 a 0 ≡ done ws top s
-  pub lives : step F ws top 10 0 0 0 ≡ done ws top (live F ws top)
-  pub collects : step F ws top 11 0 0 0 ≡ done (collected F ws top) (F + live F ws top) (live F ws top)
-
-abbrev pub CallsAnswer : Type 0
-CallsAnswer = (F : ℕ) → 0 < F → (ws : List ℕ) (top : ℕ) → Sound F ws top → Asked F ws top
 
 -- ---- a batch answers request by request: a status and a value each, in order; words after those are zero
 

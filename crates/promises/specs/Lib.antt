@@ -5,6 +5,7 @@
 --   OwnWords    demand 2: statuses 10 to 13
 --   Cells       demand 2: what a call leaves in the cells
 --   Calls       demand 2: what each call does, and a batch call by call
+--   Outright    demand 2: what each of the twelve does
 --   Alike       demand 3: collections never show
 --   Program     what the program writes for what it reads
 --   Unique      no claim leaves a second outcome
@@ -16,6 +17,7 @@ pub mod Collecting
 pub mod OwnWords
 pub mod Cells
 pub mod Calls
+pub mod Outright
 pub mod Alike
 pub mod Program
 pub mod Unique

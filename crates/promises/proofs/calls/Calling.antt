@@ -8,25 +8,25 @@ use Prim.Native.Nat.{ℕ, zero, suc, _+_, _-_, _≤_, _<_}
 use native.Mathlib.Nat.{add-zero}
 use native.Mathlib.Omega.{arith}
 use lib.Dec.{ltb, eqb}
-use borrow.Author.Tests.{ltb-true, lt-ltb, lt-leb, ne-eqb}
+use borrow.Author.Tests.{ltb-true, lt-ltb, ne-eqb}
 use Rattle.meaning.specs.Sound.{at, capacity, Sound}
 use Rattle.meaning.specs.Reach.{live}
 use Rattle.meaning.specs.Collected.{collected}
-use Rattle.meaning.specs.Verdicts.{Done, done, refused}
-use Rattle.meaning.specs.Operands.{ops, opAt, uses, wrong11, wrong12, wrong13, fault}
+use Rattle.meaning.specs.Verdicts.{Done, refused}
+use Rattle.meaning.specs.Operands.{opAt, fault}
 use Rattle.meaning.specs.Call.{planOf, perform, stepAfter, step}
 use Rattle.meaning.specs.Effect.{effect, liveForRoom, callStatus}
 use Rattle.meaning.specs.Batch.{ended}
 use Rattle.meaning.proofs.operands.Uses.{right, op-small, index-opAt}
 use Rattle.meaning.proofs.call.Plans.{planTop, topAfter, WordsAfter}
-use Rattle.meaning.proofs.effect.Steps.{Steps, step-meets, no-need}
+use Rattle.meaning.proofs.effect.Steps.{Steps, step-meets}
 use Rattle.meaning.proofs.batch.Batches.{fours-of}
 use Rattle.meaning.proofs.batch.Cases.{batch-runs}
 use Rattle.promises.specs.Requests.{Request, call, requested, requests}
 use Rattle.promises.specs.Cells.{Leaves}
 use Rattle.promises.proofs.ownwords.Faults.{faults-in-words}
 use Rattle.promises.proofs.alike.Requests.{ran, runs-ran, ran-length, requests-length}
-use Rattle.promises.specs.Calls.{Did, actedOn, actedTop, CallsDo, CallsAnswer, Answered, none, next}
+use Rattle.promises.specs.Calls.{Did, actedOn, actedTop, CallsDo, Answered, none, next}
 use Rattle.promises.specs.Calls.{BatchesRun}
 use Rattle.promises.proofs.calls.Acting.{orElse-zero, stays, plan-top, plan-words, asked-words}
 
@@ -119,53 +119,6 @@ calls-do F p ws top s o d a b =
       refused = t (r .verdict .status) (x .left) (x .tops);
       sound = x .sound;
       len = x .len;
-    }
-
--- ---- LENGTH, FIRST, LIVE, COLLECT
-
-by-parts : (x : Done) (w : List ℕ) (u c v : ℕ) → x .verdict .status ≡ c → x .verdict .value ≡ v → x .words ≡ w
-    → x .top ≡ u
-    → x ≡ record { verdict = record { status = c; value = v }; words = w; top = u }
-by-parts x w u c v e f g h = rw (← e, ← f, ← g, ← h) refl
-
-is-done : (x : Done) (w : List ℕ) (u v : ℕ) → x .verdict .status ≡ 0 → x .verdict .value ≡ v → x .words ≡ w → x .top ≡ u
-    → x ≡ done w u v
-is-done x w u v = by-parts x w u 0 v
-
-module _ (F : ℕ) (p : 0 < F) (ws : List ℕ) (top : ℕ) (s : Sound F ws top) where
-  fault-one : (a : ℕ) → a < F → (fault F 8 0 a 0 ≡ 0) × (fault F 9 0 a 0 ≡ 0)
-  unfolding fault uses wrong11 wrong12 wrong13
-  fault-one a h = (rw (lt-leb F a h) refl, rw (lt-leb F a h) refl)
-
-  fault-none : (fault F 10 0 0 0 ≡ 0) × (fault F 11 0 0 0 ≡ 0)
-  unfolding fault uses wrong11 wrong12 wrong13
-  fault-none = (refl, refl)
-
-  -- a call without need that changes no register, and collects where x says so
-  ask : (o a : ℕ) (x : Bool) → 8 ≤ o → fault F o 0 a 0 ≡ 0 → effect F ws top o 0 a 0 .unfit ≡ 0
-      → effect F ws top o 0 a 0 .need ≡ 0 → effect F ws top o 0 a 0 .collects ≡ x
-      → step F ws top o 0 a 0 ≡ done (cond x (collected F ws top) ws) (cond x (F + live F ws top) top)
-      (effect F ws top o 0 a 0 .value)
-  unfolding callStatus
-  ask o a x l f u z c =
-      let k = calls-do F p ws top s o 0 a 0 in
-      let g = no-need F ws top p s 0 a 0 (opAt o) (right F o 0 a 0 f) in
-      let y = stays F ws top p s in
-      let e : step F ws top o 0 a 0 .verdict .status ≡ 0 = m F p ws top s o 0 a 0 .status ∙ rw (f, u, z, ← g) refl in
-      is-done (step F ws top o 0 a 0) (cond x (collected F ws top) ws) (cond x (F + live F ws top) top)
-      (effect F ws top o 0 a 0 .value) e
-      (k .value ∙ rw e refl) (k .asked e l ∙ rw (c, z, y) refl)
-      (k .doneTop e ∙ rw (c, z, y) (add-zero (cond x (F + live F ws top) top)))
-
-pub calls-answer : CallsAnswer
-unfolding opAt ops
-calls-answer F p ws top s =
-    record {
-      lengths = λ a h. ask F p ws top s 8 a false (omega arith) (fault-one F p ws top s a h .0) refl refl refl;
-      firsts = λ a c e h z.
-          ask F p ws top s 9 a false (omega arith) (fault-one F p ws top s a h .1) (rw z refl) refl refl ∙ rw z refl;
-      lives = ask F p ws top s 10 0 false (omega arith) (fault-none F p ws top s .0) refl refl refl;
-      collects = ask F p ws top s 11 0 true (omega arith) (fault-none F p ws top s .1) refl refl refl;
     }
 
 -- ---- a batch

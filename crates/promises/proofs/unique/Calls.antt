@@ -4,16 +4,15 @@ use mathlib.Core.Path.{_≡_, refl, sym, ap, _∙_}
 use mathlib.Core.Logic.{_⊎_, inl, inr, _≢_}
 use mathlib.Core.Bool.{Bool, true, false, cond, false≢true}
 use mathlib.Core.List.{List}
-use Prim.Native.Nat.{ℕ, zero, suc, _+_, _-_, _*_, _≤_, _<_}
+use Prim.Native.Nat.{ℕ, _+_, _-_, _≤_, _<_}
 use native.Mathlib.Decide.{ℕ-discrete}
 use native.Mathlib.Omega.{arith}
 use lib.Dec.{ltb}
-use lib.ListN.{length}
 use Rattle.words.specs.Cell.{firstWord, secondWord}
 use Rattle.words.proofs.Cells.{words-ext}
 use Rattle.meaning.specs.Sound.{at, capacity, Sound}
 use Rattle.meaning.specs.Reach.{live}
-use Rattle.meaning.specs.Verdicts.{Verdict, Done}
+use Rattle.meaning.specs.Verdicts.{Done}
 use Rattle.meaning.specs.Effect.{effect, callStatus, liveForRoom, answer}
 use Rattle.meaning.proofs.Lists.{lt-or-ge}
 use Rattle.meaning.proofs.operands.Uses.{all-at}

@@ -1,0 +1,2 @@
+-- Demand 2, the twelve outright. Assumes nothing.
+pub mod Twelve
