@@ -66,10 +66,12 @@ p2 F =
     (70 ∷ 0 ∷ 65 ∷ 0 ∷ 66 ∷ 0 ∷ 67 ∷ 0 ∷ 68 ∷ 0 ∷ (2 + F) ∷ bracketTo (4 + F) ∷ (1 + F) ∷ bracketTo (3 + F) ∷ 0 ∷ 0 ∷
     [])
 
+unfoldable pub p3Heap : ℕ → List ℕ
+p3Heap F =
+    65 ∷ 0 ∷ 66 ∷ 0 ∷ 67 ∷ 0 ∷ 68 ∷ 0 ∷ (1 + F) ∷ bracketTo (3 + F) ∷ F ∷ bracketTo (2 + F) ∷ 0 ∷ 0 ∷ 0 ∷ 0 ∷ []
+
 unfoldable pub p3 : ℕ → List ℕ
-p3 F =
-    (4 + F) ∷ bracketTo (5 + F) ∷ emptyRegisters (F - 1) ++
-    (65 ∷ 0 ∷ 66 ∷ 0 ∷ 67 ∷ 0 ∷ 68 ∷ 0 ∷ (1 + F) ∷ bracketTo (3 + F) ∷ F ∷ bracketTo (2 + F) ∷ 0 ∷ 0 ∷ 0 ∷ 0 ∷ [])
+p3 F = (4 + F) ∷ bracketTo (5 + F) ∷ emptyRegisters (F - 1) ++ p3Heap F
 
 -- two symbols and a bracket with ends l and r
 unfoldable pub p6 : ℕ → ℕ → ℕ → List ℕ
@@ -107,7 +109,12 @@ rows F =
     runsTo (fresh F F) F (12 ∷ 99 ∷ 0 ∷ 0 ∷ []) (10 ∷ 0 ∷ []) (fresh F F) F ∷
     -- of the rows of SCOPE 7.2: CLEAR of the last register, of one more, and with a third word of 1
     runsTo (fresh F F) F (0 ∷ (F - 1) ∷ 0 ∷ 0 ∷ 0 ∷ F ∷ 0 ∷ 0 ∷ 0 ∷ 0 ∷ 1 ∷ 0 ∷ []) (0 ∷ 0 ∷ 11 ∷ 0 ∷ 12 ∷ 0 ∷ [])
-    (fresh F F) F ∷ []
+    (fresh F F) F ∷
+    -- in P3: COPY 1 0, REST 2 0, OPEN 3 0, which share; and CLEAR of one register too many with a stray word, 11 before 12
+    runsTo (p3 F) (6 + F) (1 ∷ 1 ∷ 0 ∷ 0 ∷ 6 ∷ 2 ∷ 0 ∷ 0 ∷ 7 ∷ 3 ∷ 0 ∷ 0 ∷ 0 ∷ F ∷ 1 ∷ 0 ∷ [])
+    (0 ∷ 0 ∷ 0 ∷ 0 ∷ 0 ∷ 0 ∷ 11 ∷ 0 ∷ [])
+    ((4 + F) ∷ bracketTo (5 + F) ∷ (4 + F) ∷ bracketTo (5 + F) ∷ (5 + F) ∷ bracketTo (5 + F) ∷ (1 + F) ∷
+    bracketTo (3 + F) ∷ emptyRegisters (F - 4) ++ p3Heap F) (6 + F) ∷ []
 
 -- every row holds
 abbrev pub RowsRight : ℕ → Type 0
