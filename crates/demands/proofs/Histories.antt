@@ -1,0 +1,160 @@
+-- A history as a list of batches: a collection is a batch of one COLLECT, which is struck out again. So demand 3 of the
+-- definitions is demand 3 of the code. Assumes nothing.
+use mathlib.Core.Path.{_≡_, refl, sym, ap, _∙_, subst}
+use mathlib.Core.List.{List, [], _∷_, _++_}
+use Prim.Native.Nat.{ℕ, _+_, _-_, _*_, _/_}
+use native.Mathlib.Omega.{arith}
+use lib.ListN.{length, take, replicate}
+use lib.Seq.{take-at}
+use Rattle.meaning.specs.Limits.{firstHeapCell, callsLimit}
+use Rattle.meaning.specs.Sound.{Sound}
+use Rattle.meaning.specs.Verdicts.{Verdict, Done, only}
+use Rattle.meaning.specs.Check.{collectIn}
+use Rattle.meaning.specs.Batch.{Outcome, runs, ended, batch}
+use Rattle.meaning.proofs.batch.Cases.{batch-run, batch-runs}
+use Rattle.meaning.proofs.batch.Batches.{runs-length}
+use Rattle.collect.specs.Answers.{collectedIn}
+use Rattle.collect.specs.declared.Collected.{Collected}
+use Rattle.collect.specs.declared.Collected.the-variants as collected
+use Rattle.calls.specs.declared.Ran.the-variants as ran
+use Rattle.promises.specs.Requests.{Request, requests, verdicts}
+use Rattle.promises.specs.Alike.{Lent, calls, requestsOf, NoneRefused, Served, served, strike, strikeAnswers}
+use Rattle.promises.proofs.Final.{calls-answer, collections-never-show}
+use Rattle.demands.specs.Contracts.{Collects, Runs}
+use Rattle.demands.specs.Runs.{Step, run, collect, Happened, asked, answered, wordsAfter, topAfter}
+use Rattle.demands.specs.Runs.{SameCollected, RunsNeverShow}
+use Rattle.demands.proofs.Lists.{strike-front, strikeAnswers-front, requests-many, verdicts-many}
+use Rattle.demands.proofs.Uses.{refusal-not, collect-meets}
+
+-- ---- a collection is a batch of one COLLECT
+
+abbrev one : List ℕ
+one = 11 ∷ 0 ∷ 0 ∷ 0 ∷ []
+
+abbrev space : List ℕ
+space = 0 ∷ 0 ∷ []
+
+collects-one : (ws : List ℕ) (top n t : ℕ) (v : List ℕ) → Collects ws top (collected.Done n t) v
+    → Runs ws top one space (ran.Ended t) v (0 ∷ n ∷ [])
+unfolding ended callsLimit
+collects-one ws top n t v h =
+    let k = collect-meets ws top (collected.Done n t) v h in
+    let s = k .1 .0 in
+    let c = k .0 .collects s in
+    let b = batch-run firstHeapCell ws top one space s (record { short = omega arith; whole = refl }) (omega arith) in
+    let e = calls-answer firstHeapCell (omega arith) ws top s .collects in
+    rw (b, e, c .1, c .2, c .3) refl
+
+abbrev lents : List Step → List Lent
+lents [] = []
+lents (run cs out t v a ∷ hs) = calls cs out ∷ lents hs
+lents (collect n t v ∷ hs) = calls one space ∷ lents hs
+
+-- ---- as many answers as calls
+
+many : (ws : List ℕ) (top : ℕ) (cs out : List ℕ) (t : ℕ) (v a : List ℕ) → Runs ws top cs out (ran.Ended t) v a
+    → length (requests cs) ≡ length (verdicts (take (2 * (length cs / 4)) a))
+unfolding ended
+many ws top cs out t v a h =
+    let z : batch firstHeapCell ws top cs out .verdict .status ≡ 0 =
+    ap (λ (o : Outcome). o .verdict .status) (sym h) in
+    let b = batch-runs firstHeapCell ws top cs out z in
+    let q = runs firstHeapCell ws top cs .answers in
+    let n : length q ≡ 2 * (length cs / 4) = runs-length firstHeapCell ws top cs in
+    let e : a ≡ q ++ replicate (length out - length q) 0 = ap (λ (o : Outcome). o .answers) (h ∙ b .2) in
+    let f : take (2 * (length cs / 4)) a ≡ q =
+    ap (λ (l : List ℕ). take (2 * (length cs / 4)) l) e
+    ∙ take-at q (replicate (length out - length q) 0) (2 * (length cs / 4)) n in
+    let w = b .1 .whole in
+    requests-many (length cs / 4) cs (omega (arith, w))
+    ∙ sym (ap (λ (l : List ℕ). length (verdicts l)) f ∙ verdicts-many (length cs / 4) q n)
+
+-- ---- a history told by its batches
+
+record Told (ws : List ℕ) (top : ℕ) (hs : List Step) : Type 0 where
+  none : NoneRefused firstHeapCell ws top (lents hs)
+  asks : strike (requestsOf (lents hs)) ≡ strike (asked hs)
+  says : strikeAnswers (requestsOf (lents hs)) (served firstHeapCell ws top (lents hs) .answers)
+      ≡ strikeAnswers (asked hs) (answered hs)
+  words : served firstHeapCell ws top (lents hs) .words ≡ wordsAfter ws hs
+  last : served firstHeapCell ws top (lents hs) .top ≡ topAfter top hs
+
+-- a batch in front: what is served is what it left and answered, and then the rest
+served-next : (ws : List ℕ) (top : ℕ) (cs out : List ℕ) (t : ℕ) (v a : List ℕ) (bs : List Lent)
+    → Runs ws top cs out (ran.Ended t) v a
+    → (let q = served firstHeapCell v t bs in
+    served firstHeapCell ws top (calls cs out ∷ bs) ≡ record {
+      words = q .words;
+      top = q .top;
+      answers = verdicts (take (2 * (length cs / 4)) a) ++ q .answers;
+    })
+served-next ws top cs out t v a bs h = rw (← h, served) refl
+
+none-next : (ws : List ℕ) (top : ℕ) (cs out : List ℕ) (t : ℕ) (v a : List ℕ) (bs : List Lent)
+    → Runs ws top cs out (ran.Ended t) v a → NoneRefused firstHeapCell v t bs
+    → NoneRefused firstHeapCell ws top (calls cs out ∷ bs)
+none-next ws top cs out t v a bs h n = rw (← h) (refl, n)
+
+told : (ws : List ℕ) (top : ℕ) (hs : List Step) → Happened ws top hs → Told ws top hs
+told ws top [] h = record { none = tt; asks = refl; says = refl; words = refl; last = refl }
+told ws top (run cs out t v a ∷ hs) h =
+    let k = told v t hs (h .1) in
+    let e = served-next ws top cs out t v a (lents hs) (h .0) in
+    record {
+      none = none-next ws top cs out t v a (lents hs) (h .0) (k .none);
+      asks = strike-front (requests cs) (requestsOf (lents hs)) (asked hs) (k .asks);
+      says = ap (λ (q : Served). strikeAnswers (requests cs ++ requestsOf (lents hs)) (q .answers)) e
+          ∙ strikeAnswers-front (requests cs) (verdicts (take (2 * (length cs / 4)) a))
+          (many ws top cs out t v a (h .0)) (requestsOf (lents hs)) (served firstHeapCell v t (lents hs) .answers)
+          (asked hs) (answered hs) (k .says);
+      words = ap (λ (q : Served). q .words) e ∙ k .words;
+      last = ap (λ (q : Served). q .top) e ∙ k .last;
+    }
+told ws top (collect n t v ∷ hs) h =
+    let k = told v t hs (h .1) in
+    let c = collects-one ws top n t v (h .0) in
+    let e = served-next ws top one space t v (0 ∷ n ∷ []) (lents hs) c in
+    record {
+      none = none-next ws top one space t v (0 ∷ n ∷ []) (lents hs) c (k .none);
+      asks = k .asks;
+      says = ap (λ (q : Served). strikeAnswers (requests one ++ requestsOf (lents hs)) (q .answers)) e ∙ k .says;
+      words = ap (λ (q : Served). q .words) e ∙ k .words;
+      last = ap (λ (q : Served). q .top) e ∙ k .last;
+    }
+
+-- ---- one more collection
+
+same-collected : (ws : List ℕ) (top : ℕ) (ws′ : List ℕ) (top′ : ℕ)
+    → collectIn firstHeapCell ws top .verdict .status ≡ 0
+    → collectIn firstHeapCell ws top ≡ collectIn firstHeapCell ws′ top′ → SameCollected ws top ws′ top′
+same-collected ws top ws′ top′ z e r r′ v v′ h h′ =
+    go r r′ (ap status h ∙ z) (ap status h′ ∙ (ap status (sym e) ∙ z)) (h ∙ (e ∙ sym h′))
+  where
+    status : Done → ℕ
+    status d = d .verdict .status
+
+    go : (r r′ : Collected) → collectedIn r v top .verdict .status ≡ 0 → collectedIn r′ v′ top′ .verdict .status ≡ 0
+        → collectedIn r v top ≡ collectedIn r′ v′ top′
+        → ((n : ℕ) × (t : ℕ) × (r ≡ collected.Done n t)) × (r ≡ r′) × (v ≡ v′)
+    go (collected.Done n t) (collected.Done m u) x y q = (
+      (n, t, refl),
+      ap (λ (d : Done). collected.Done (d .verdict .value) (d .top)) q,
+      ap (λ (d : Done). d .words) q,
+    )
+    go (collected.Done n t) (collected.Refused u) x y q = absurd (refusal-not u y)
+    go (collected.Refused u) r′ x y q = absurd (refusal-not u x)
+
+pub runs-never-show : RunsNeverShow
+runs-never-show ws top ws′ top′ s s′ c a hs hs′ h h′ e =
+    let k = told ws top hs h in
+    let k′ = told ws′ top′ hs′ h′ in
+    let q = served firstHeapCell ws top (lents hs) in
+    let q′ = served firstHeapCell ws′ top′ (lents hs′) in
+    let u = collections-never-show firstHeapCell (omega arith) ws top ws′ top′ s s′ c a (lents hs) (lents hs′)
+    (k .none) (k′ .none) (k .asks ∙ (e ∙ sym (k′ .asks))) in
+    record {
+      answers = sym (k .says) ∙ (u .answers ∙ k′ .says);
+      alike = rw (k .words, k .last, k′ .words, k′ .last) at (u .alike);
+      equal = rw (k .words, k .last, k′ .words, k′ .last) at
+          (same-collected (q .words) (q .top) (q′ .words) (q′ .top) (u .collects) (u .equal));
+    }
