@@ -3,8 +3,10 @@
 use Rattle.demands.specs.Contracts.{CheckSays, FreshSays, LookSays, CollectSays, RunSays}
 use Rattle.demands.specs.Run.{CheckMeets, FreshMeets, LookMeets, CollectMeets, RunMeets}
 use Rattle.demands.specs.Runs.{RunsNeverShow}
+use Rattle.demands.specs.Example.{PremisesMet, HistoriesUnseen, OneMoreCollection}
 use Rattle.demands.proofs.Uses as uses
 use Rattle.demands.proofs.Histories as histories
+use Rattle.demands.proofs.Stores as stores
 
 -- ---- what the contracts say, read as they stand
 
@@ -44,3 +46,14 @@ run-meets = uses.run-meets
 
 pub runs-never-show : RunsNeverShow
 runs-never-show = histories.runs-never-show
+
+-- ---- the example
+
+pub premises-met : PremisesMet
+premises-met = stores.premises-met
+
+pub histories-unseen : HistoriesUnseen
+histories-unseen = stores.histories-unseen
+
+pub one-more-collection : OneMoreCollection
+one-more-collection = stores.one-more-collection

@@ -8,3 +8,4 @@
 pub mod Contracts
 pub mod Run
 pub mod Runs
+pub mod Example
