@@ -1,8 +1,8 @@
 -- The claims of specs/, each with its proof. Nothing else stands here.
 -- Assumes nothing.
-use Rattle.demands.specs.Contracts.{CheckSays, FreshSays, LookSays, CollectSays, RunSays}
-use Rattle.demands.specs.Run.{CheckMeets, FreshMeets, LookMeets, CollectMeets, RunMeets}
-use Rattle.demands.specs.Runs.{RunsNeverShow}
+use Rattle.demands.specs.Contracts.{CheckSays, FreshSays, LookSays, SpanSays, CollectSays, RunSays}
+use Rattle.demands.specs.Run.{CheckMeets, FreshMeets, LookMeets, SpanMeets, CollectMeets, RunMeets}
+use Rattle.demands.specs.Runs.{RunsNeverShow, FreshRunsNeverShow}
 use Rattle.demands.specs.Example.{PremisesMet, HistoriesUnseen, OneMoreCollection}
 use Rattle.demands.proofs.Uses as uses
 use Rattle.demands.proofs.Histories as histories
@@ -18,6 +18,9 @@ fresh-says κs ws = (tt, λ r v h. h)
 
 pub look-says : LookSays
 look-says κs ws top i = (tt, λ r v h. h)
+
+pub span-says : SpanSays
+span-says κs ws top i = (tt, λ r v h. h)
 
 pub collect-says : CollectSays
 collect-says κs ws top = (tt, λ r v h. h)
@@ -36,6 +39,9 @@ fresh-meets = uses.fresh-meets
 pub look-meets : LookMeets
 look-meets = uses.look-meets
 
+pub span-meets : SpanMeets
+span-meets = uses.span-meets
+
 pub collect-meets : CollectMeets
 collect-meets = uses.collect-meets
 
@@ -46,6 +52,9 @@ run-meets = uses.run-meets
 
 pub runs-never-show : RunsNeverShow
 runs-never-show = histories.runs-never-show
+
+pub fresh-runs-never-show : FreshRunsNeverShow
+fresh-runs-never-show = histories.fresh-runs-never-show
 
 -- ---- the example
 

@@ -1,54 +1,60 @@
 -- A history as a list of batches: a collection is a batch of one COLLECT, which is struck out again. So demand 3 of the
 -- definitions is demand 3 of the code. Assumes nothing.
-use mathlib.Core.Path.{_≡_, refl, sym, ap, _∙_, subst}
+use mathlib.Core.Path.{_≡_, refl, sym, ap, ap₂, _∙_}
+use mathlib.Core.Bool.{Bool, true, false}
 use mathlib.Core.List.{List, [], _∷_, _++_}
 use Prim.Native.Nat.{ℕ, _+_, _-_, _*_, _/_}
 use native.Mathlib.Omega.{arith}
 use lib.ListN.{length, take, replicate}
 use lib.Seq.{take-at}
 use Rattle.meaning.specs.Limits.{firstHeapCell, callsLimit}
-use Rattle.meaning.specs.Sound.{Sound}
-use Rattle.meaning.specs.Verdicts.{Verdict, Done, only}
-use Rattle.meaning.specs.Check.{collectIn}
+use Rattle.meaning.specs.Sound.{capacity, Allowed}
+use Rattle.meaning.specs.Verdicts.{Done}
+use Rattle.meaning.specs.Check.{lengthTest, collectIn}
+use Rattle.meaning.specs.Fresh.{fresh}
 use Rattle.meaning.specs.Batch.{Outcome, runs, ended, batch}
+use Rattle.meaning.proofs.check.Checking.{length-yes, yes-length}
 use Rattle.meaning.proofs.batch.Cases.{batch-run, batch-runs}
 use Rattle.meaning.proofs.batch.Batches.{runs-length}
+use Rattle.store.specs.declared.Made.the-variants as made
 use Rattle.collect.specs.Answers.{collectedIn}
 use Rattle.collect.specs.declared.Collected.{Collected}
 use Rattle.collect.specs.declared.Collected.the-variants as collected
 use Rattle.calls.specs.declared.Ran.the-variants as ran
-use Rattle.promises.specs.Requests.{Request, requests, verdicts}
+use Rattle.promises.specs.Requests.{requests, verdicts}
 use Rattle.promises.specs.Alike.{Lent, calls, requestsOf, NoneRefused, Served, served, strike, strikeAnswers}
-use Rattle.promises.proofs.Final.{calls-answer, collections-never-show}
-use Rattle.demands.specs.Contracts.{Collects, Runs}
+use Rattle.promises.proofs.table.Rules.{refuted}
+use Rattle.promises.proofs.Final.{calls-answer, alike-is-collected, collections-never-show}
+use Rattle.demands.specs.Contracts.{Makes, Collects, Runs}
 use Rattle.demands.specs.Runs.{Step, run, collect, Happened, asked, answered, wordsAfter, topAfter}
-use Rattle.demands.specs.Runs.{SameCollected, RunsNeverShow}
+use Rattle.demands.specs.Runs.{SameCollected, RunsNeverShow, FreshRunsNeverShow}
 use Rattle.demands.proofs.Lists.{strike-front, strikeAnswers-front, requests-many, verdicts-many}
-use Rattle.demands.proofs.Uses.{refusal-not, collect-meets}
+use Rattle.demands.proofs.Uses.{fresh-meets, refusal-not, collect-meets}
 
 -- ---- a collection is a batch of one COLLECT
 
-abbrev one : List ℕ
-one = 11 ∷ 0 ∷ 0 ∷ 0 ∷ []
+abbrev oneCall : List ℕ
+oneCall = 11 ∷ 0 ∷ 0 ∷ 0 ∷ []
 
-abbrev space : List ℕ
-space = 0 ∷ 0 ∷ []
+abbrev twoWords : List ℕ
+twoWords = 0 ∷ 0 ∷ []
 
-collects-one : (ws : List ℕ) (top n t : ℕ) (v : List ℕ) → Collects ws top (collected.Done n t) v
-    → Runs ws top one space (ran.Ended t) v (0 ∷ n ∷ [])
+collects-call : (ws : List ℕ) (top n t : ℕ) (v : List ℕ) → Collects ws top (collected.Done n t) v
+    → Runs ws top oneCall twoWords (ran.Ended t) v (0 ∷ n ∷ [])
 unfolding ended callsLimit
-collects-one ws top n t v h =
+collects-call ws top n t v h =
     let k = collect-meets ws top (collected.Done n t) v h in
     let s = k .1 .0 in
     let c = k .0 .collects s in
-    let b = batch-run firstHeapCell ws top one space s (record { short = omega arith; whole = refl }) (omega arith) in
+    let b = batch-run firstHeapCell ws top oneCall twoWords s (record { short = omega arith; whole = refl }) (omega arith) in
     let e = calls-answer firstHeapCell (omega arith) ws top s .collects in
     rw (b, e, c .1, c .2, c .3) refl
 
+-- the batches of a history
 abbrev lents : List Step → List Lent
 lents [] = []
 lents (run cs out t v a ∷ hs) = calls cs out ∷ lents hs
-lents (collect n t v ∷ hs) = calls one space ∷ lents hs
+lents (collect n t v ∷ hs) = calls oneCall twoWords ∷ lents hs
 
 -- ---- as many answers as calls
 
@@ -112,12 +118,12 @@ told ws top (run cs out t v a ∷ hs) h =
     }
 told ws top (collect n t v ∷ hs) h =
     let k = told v t hs (h .1) in
-    let c = collects-one ws top n t v (h .0) in
-    let e = served-next ws top one space t v (0 ∷ n ∷ []) (lents hs) c in
+    let c = collects-call ws top n t v (h .0) in
+    let e = served-next ws top oneCall twoWords t v (0 ∷ n ∷ []) (lents hs) c in
     record {
-      none = none-next ws top one space t v (0 ∷ n ∷ []) (lents hs) c (k .none);
+      none = none-next ws top oneCall twoWords t v (0 ∷ n ∷ []) (lents hs) c (k .none);
       asks = k .asks;
-      says = ap (λ (q : Served). strikeAnswers (requests one ++ requestsOf (lents hs)) (q .answers)) e ∙ k .says;
+      says = ap (λ (q : Served). strikeAnswers (requests oneCall ++ requestsOf (lents hs)) (q .answers)) e ∙ k .says;
       words = ap (λ (q : Served). q .words) e ∙ k .words;
       last = ap (λ (q : Served). q .top) e ∙ k .last;
     }
@@ -158,3 +164,31 @@ runs-never-show ws top ws′ top′ s s′ c a hs hs′ h h′ e =
       equal = rw (k .words, k .last, k′ .words, k′ .last) at
           (same-collected (q .words) (q .top) (q′ .words) (q′ .top) (u .collects) (u .equal));
     }
+
+-- ---- from fresh stores
+
+-- a slice that is made a store has an allowed length
+made-allowed : (ws : List ℕ) (t : ℕ) (v : List ℕ) → Makes ws (made.Ready t) v → Allowed firstHeapCell (length ws)
+made-allowed ws t v h = go (lengthTest firstHeapCell (length ws)) refl
+  where
+    go : (x : Bool) → lengthTest firstHeapCell (length ws) ≡ x → Allowed firstHeapCell (length ws)
+    go true e = length-yes firstHeapCell (length ws) e
+    go false e =
+        let n = refuted (lengthTest firstHeapCell (length ws)) (yes-length firstHeapCell (length ws)) e in
+        absurd (omega (arith, fresh-meets ws (made.Ready t) v h .refused n .0))
+
+pub fresh-runs-never-show : FreshRunsNeverShow
+fresh-runs-never-show ws ws′ l top top′ v v′ h h′ =
+    let k = fresh-meets ws (made.Ready top) v h in
+    let k′ = fresh-meets ws′ (made.Ready top′) v′ h′ in
+    let a = made-allowed ws top v h in
+    let a′ = made-allowed ws′ top′ v′ h′ in
+    let c : capacity ws ≡ capacity ws′ = omega arith in
+    let w : v ≡ v′ = k .made a .1 ∙ (ap (λ (n : ℕ). fresh firstHeapCell n) c ∙ sym (k′ .made a′ .1)) in
+    let t : top ≡ top′ = k .made a .2 ∙ sym (k′ .made a′ .2) in
+    let s = k .sound a .0 in
+    let s′ = k′ .sound a′ .0 in
+    let e : capacity v ≡ capacity v′ = ap (λ (x : List ℕ). capacity x) w in
+    runs-never-show v top v′ top′ s s′ e
+    (alike-is-collected firstHeapCell (omega arith) v top v′ top′ s s′ e .1
+    (ap₂ (λ (x : List ℕ) (n : ℕ). collectIn firstHeapCell x n) w t))

@@ -1,7 +1,7 @@
--- Lists of requests with their answers, one after the other: what is struck out of the whole is struck out of each part;
--- and how many requests and answers there are. Assumes nothing.
-use mathlib.Core.Path.{_≡_, refl, ap, _∙_}
-use mathlib.Core.Bool.{Bool, true, false, cond}
+-- Lists of requests with their answers, one after the other: what is struck out of the whole is struck out of each
+-- part; and how many requests and answers there are. Assumes nothing.
+use mathlib.Core.Path.{_≡_, refl, ap}
+use mathlib.Core.Bool.{cond}
 use mathlib.Core.List.{List, [], _∷_, _++_}
 use Prim.Native.Nat.{ℕ, zero, suc, _*_}
 use native.Mathlib.Omega.{arith}

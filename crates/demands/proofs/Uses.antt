@@ -2,12 +2,12 @@
 -- the definition, so they hold of what the function returned and left. Assumes nothing.
 use mathlib.Core.Path.{_≡_, refl, sym, ap, _∙_, subst}
 use mathlib.Core.Logic.{_⊎_, inl, inr, _≢_}
-use mathlib.Core.List.{List, []}
+use mathlib.Core.List.{List}
 use Prim.Native.Nat.{ℕ, zero, suc, _+_, _*_}
 use native.Mathlib.Omega.{arith}
 use denote.Ref.{now}
 use Rattle.meaning.specs.Limits.{firstHeapCell}
-use Rattle.meaning.specs.Sound.{ends, at, Sound}
+use Rattle.meaning.specs.Sound.{Sound}
 use Rattle.meaning.specs.Verdicts.{Verdict, Done}
 use Rattle.meaning.specs.Check.{check}
 use Rattle.meaning.specs.Look.{spanOf, lookSpan}
@@ -17,6 +17,7 @@ use Rattle.meaning.proofs.batch.Cases.{batch-runs}
 use Rattle.store.specs.Answers.{refusalOf}
 use Rattle.store.specs.declared.Unsound.{Unsound}
 use Rattle.store.specs.declared.Unsound.the-variants as unsound
+use Rattle.store.proofs.Final.{look-at-span}
 use Rattle.collect.specs.Answers.{collectedIn}
 use Rattle.collect.specs.declared.Collected.{Collected}
 use Rattle.collect.specs.declared.Collected.the-variants as collected
@@ -28,7 +29,8 @@ use Rattle.promises.specs.Collecting.{CollectedFrom}
 use Rattle.promises.specs.Calls.{BatchRun}
 use Rattle.promises.proofs.Final.{check-answers, fresh-answers, look-answers, collect-answers, batch-answers}
 use Rattle.promises.proofs.Final.{collecting-keeps, batches-run}
-use Rattle.demands.specs.Run.{CheckMeets, FreshMeets, LookMeets, Collecting, CollectMeets, Running, RunMeets}
+use Rattle.demands.specs.Run.{CheckMeets, FreshMeets, LookMeets, SpanMeets, Collecting, CollectMeets}
+use Rattle.demands.specs.Run.{Running, RunMeets}
 
 -- ---- the check, a fresh store, the look
 
@@ -45,9 +47,15 @@ look-meets ws top i r h = (
   subst (λ (p : List ℕ). LookTable firstHeapCell (now ws) top i p) (sym (h .0))
       (look-answers firstHeapCell (omega arith) (now ws) top i),
   λ l e s k at-ends.
-      let from : lookSpan firstHeapCell (now ws) top i .from ≡ 2 * l = rw (span-register firstHeapCell (now ws) top s i k, at-ends) refl in
+      let from : lookSpan firstHeapCell (now ws) top i .from ≡ 2 * l =
+      rw (span-register firstHeapCell (now ws) top s i k, at-ends) refl in
       (h .1 .0, omega (arith, h .1 .1, from)),
 )
+
+pub span-meets : SpanMeets
+span-meets ws top i r h =
+    subst (λ (p : List ℕ). LookTable firstHeapCell ws top i p) (look-at-span ws top i r h)
+    (look-answers firstHeapCell (omega arith) ws top i)
 
 -- ---- collecting
 

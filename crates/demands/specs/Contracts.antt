@@ -1,8 +1,7 @@
--- What a caller knows of a public function once it is back: what its contract promises, over plain lists. Each claim
--- says of a contract as it stands in the lib.rt of `store`, `collect` or `calls` that it asks for nothing (`Asked`), and
--- that a caller learns this (`Learnt`): both are what Rattle reads off the contract. No lifetime matters to it.
--- In all of it ws and top are lent, r is what the function returns, and v the words that it leaves.
--- Assumes nothing.
+-- What a caller knows once a public function is back: what its contract promises, over plain lists. `Asked` and `Learnt`
+-- are what Rattle reads off the contract in the lib.rt of `store`, `collect` or `calls`: what a caller must show, and
+-- what it may use. Each claim says that nothing is asked, and that this is learnt, whatever the lifetimes κs are.
+-- ws and top are lent, r is returned, v are the words that are left. Assumes nothing.
 use mathlib.Core.Path.{_≡_}
 use mathlib.Core.List.{List}
 use Prim.Native.Nat.{ℕ}
@@ -12,10 +11,11 @@ use Rattle.meaning.specs.Limits.{firstHeapCell}
 use Rattle.meaning.specs.Check.{check, collectIn}
 use Rattle.meaning.specs.Fresh.{freshIn}
 use Rattle.meaning.specs.Batch.{batch}
-use Rattle.store.specs.Answers.{verdictOf, madeIn}
+use Rattle.store.specs.Answers.{verdictOf, madeIn, Placed}
 use Rattle.store.specs.Unique.{Looks}
 use Rattle.store.specs.declared.Checked.{Checked}
 use Rattle.store.specs.declared.Made.{Made}
+use Rattle.store.specs.declared.Span.{Span}
 use Rattle.collect.specs.Answers.{collectedIn}
 use Rattle.collect.specs.declared.Collected.{Collected}
 use Rattle.calls.specs.Answers.{ranIn}
@@ -23,6 +23,7 @@ use Rattle.calls.specs.declared.Ran.{Ran}
 use Rattle.store.proofs.check.Reads as check-contract
 use Rattle.store.proofs.fresh.Reads as fresh-contract
 use Rattle.store.proofs.look.Reads as look-contract
+use Rattle.store.proofs.look_span.Reads as span-contract
 use Rattle.collect.proofs.collect.Reads as collect-contract
 use Rattle.calls.proofs.run.Reads as run-contract
 
@@ -50,12 +51,18 @@ FreshSays =
     (κs : Lfts 1) (ws : Slice) → fresh-contract.Asked κs (ws, tt)
     × ((r : Made) (v : Slice) → fresh-contract.Learnt κs (ws, tt) r (v, tt) → Makes (now ws) r (now v))
 
--- ---- `store::look`, at register i: the words of the part r, and where it lies
+-- ---- `store::look`, at register i: the words of the part r, and where it lies; `store::look_span`, by word numbers
 
 abbrev pub LookSays : Type 0
 LookSays =
     (κs : Lfts 1) (ws : Slice) (top i : ℕ) → look-contract.Asked κs (ws, (top, (i, tt)))
     × ((r v : Slice) → look-contract.Learnt κs (ws, (top, (i, tt))) r (v, (top, (i, tt))) → Looks ws top i r)
+
+abbrev pub SpanSays : Type 0
+SpanSays =
+    (κs : Lfts 1) (ws : Slice) (top i : ℕ) → span-contract.Asked κs (ws, (top, (i, tt)))
+    × ((r : Span) (v : Slice) → span-contract.Learnt κs (ws, (top, (i, tt))) r (v, (top, (i, tt)))
+    → Placed firstHeapCell (now ws) top i r)
 
 -- ---- `collect::collect`
 

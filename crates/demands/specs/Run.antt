@@ -1,19 +1,21 @@
--- Demands 1 and 2 of one use of a public function (SCOPE 8.1, 8.2): whatever is lent, what the function returned and left
--- is as its table says, a refusal leaves everything as it was lent, and what is done means what it says. Nothing is
+-- Demands 1 and 2 of one use of a public function (SCOPE 8.1, 8.2): whatever is lent, what the function returned and
+-- left is as its table says, a refusal leaves everything as it was lent, and what is done means what it says. Nothing is
 -- known of the use but what the contract promises. Answers are read through the definitions that give their numbers:
 -- `verdictOf`, `madeIn`, `collectedIn`, `ranIn`. Assumes nothing.
 use mathlib.Core.Path.{_≡_}
 use mathlib.Core.List.{List}
-use Prim.Native.Nat.{ℕ, _+_, _*_, _<_}
+use Prim.Native.Nat.{ℕ, _+_, _-_, _*_, _<_}
+use lib.ListN.{take, drop}
 use denote.Ref.{now}
 use Rattle.meaning.specs.Limits.{firstHeapCell}
 use Rattle.meaning.specs.Sound.{ends, at, Sound}
 use Rattle.meaning.specs.Reach.{live}
 use Rattle.meaning.specs.Verdicts.{only}
-use Rattle.store.specs.Answers.{verdictOf, madeIn}
+use Rattle.store.specs.Answers.{verdictOf, madeIn, Placed}
 use Rattle.store.specs.Unique.{Looks}
 use Rattle.store.specs.declared.Checked.{Checked}
 use Rattle.store.specs.declared.Made.{Made}
+use Rattle.store.specs.declared.Span.{Span}
 use Rattle.collect.specs.Answers.{collectedIn}
 use Rattle.collect.specs.declared.Collected.{Collected}
 use Rattle.collect.specs.declared.Collected.the-variants as collected
@@ -41,6 +43,12 @@ LookMeets =
     → LookTable firstHeapCell (now ws) top i (now r)
     × ((l e : ℕ) → Sound firstHeapCell (now ws) top → i < firstHeapCell → at (now ws) i ≡ ends l e
     → (r .ptr .0 ≡ ws .ptr .0) × (r .ptr .1 ≡ ws .ptr .1 + 8 * l))
+
+-- the words between the two word numbers of a span are those of a look
+abbrev pub SpanMeets : Type 0
+SpanMeets =
+    (ws : List ℕ) (top i : ℕ) (r : Span) → Placed firstHeapCell ws top i r
+    → LookTable firstHeapCell ws top i (take (r .to - r .from) (drop (r .from) ws))
 
 -- ---- collecting: done, with live and the new `top`, it leaves the collected store; refused, it leaves all as lent
 

@@ -9,12 +9,13 @@ use lib.ListN.{length, take}
 use Rattle.meaning.specs.Limits.{firstHeapCell}
 use Rattle.meaning.specs.Sound.{Sound, capacity}
 use Rattle.meaning.specs.Verdicts.{Verdict}
+use Rattle.store.specs.declared.Made.the-variants as made
 use Rattle.collect.specs.declared.Collected.{Collected}
 use Rattle.collect.specs.declared.Collected.the-variants as collected
 use Rattle.calls.specs.declared.Ran.the-variants as ran
 use Rattle.promises.specs.Requests.{Request, requests, verdicts}
 use Rattle.promises.specs.Alike.{Alike, strike, strikeAnswers}
-use Rattle.demands.specs.Contracts.{Collects, Runs}
+use Rattle.demands.specs.Contracts.{Makes, Collects, Runs}
 
 -- ---- a history
 
@@ -73,3 +74,11 @@ RunsNeverShow =
     → Alike firstHeapCell ws top ws′ top′
     → (hs hs′ : List Step) → Happened ws top hs → Happened ws′ top′ hs′ → strike (asked hs) ≡ strike (asked hs′)
     → Unseen ws top hs ws′ top′ hs′
+
+-- The same with contracts alone for premises: each store is made by `store::fresh`, in slices of equal length.
+abbrev pub FreshRunsNeverShow : Type 0
+FreshRunsNeverShow =
+    (ws ws′ : List ℕ) → length ws ≡ length ws′ → (top top′ : ℕ) (v v′ : List ℕ)
+    → Makes ws (made.Ready top) v → Makes ws′ (made.Ready top′) v′
+    → (hs hs′ : List Step) → Happened v top hs → Happened v′ top′ hs′ → strike (asked hs) ≡ strike (asked hs′)
+    → Unseen v top hs v′ top′ hs′
