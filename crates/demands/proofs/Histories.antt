@@ -12,7 +12,7 @@ use Rattle.meaning.specs.Sound.{capacity, Allowed}
 use Rattle.meaning.specs.Verdicts.{Done}
 use Rattle.meaning.specs.Check.{lengthTest, collectIn}
 use Rattle.meaning.specs.Fresh.{fresh}
-use Rattle.meaning.specs.Batch.{Outcome, runs, ended, batch}
+use Rattle.meaning.specs.Batch.{Outcome, runs, ended, AllowedCalls, batch}
 use Rattle.meaning.proofs.check.Checking.{length-yes, yes-length}
 use Rattle.meaning.proofs.batch.Cases.{batch-run, batch-runs}
 use Rattle.meaning.proofs.batch.Batches.{runs-length}
@@ -46,7 +46,8 @@ collects-call ws top n t v h =
     let k = collect-meets ws top (collected.Done n t) v h in
     let s = k .1 .0 in
     let c = k .0 .collects s in
-    let b = batch-run firstHeapCell ws top oneCall twoWords s (record { short = omega arith; whole = refl }) (omega arith) in
+    let a : AllowedCalls (length oneCall) = record { short = omega arith; whole = refl } in
+    let b = batch-run firstHeapCell ws top oneCall twoWords s a (omega arith) in
     let e = calls-answer firstHeapCell (omega arith) ws top s .collects in
     rw (b, e, c .1, c .2, c .3) refl
 

@@ -1,6 +1,6 @@
 -- Demands 1 and 2 of one use of a public function (SCOPE 8.1, 8.2): whatever is lent, what the function returned and
--- left is as its table says, a refusal leaves everything as it was lent, and what is done means what it says. Nothing is
--- known of the use but what the contract promises. Answers are read through the definitions that give their numbers:
+-- left is as its table says, a refusal leaves everything as it was lent, and what is done means what it says. Nothing
+-- is known of the use but what the contract promises. Answers are read through the definitions that give their numbers:
 -- `verdictOf`, `madeIn`, `collectedIn`, `ranIn`. Assumes nothing.
 use mathlib.Core.Path.{_≡_}
 use mathlib.Core.List.{List}
