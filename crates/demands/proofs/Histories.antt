@@ -9,9 +9,13 @@ use lib.ListN.{length, take, replicate}
 use lib.Seq.{take-at}
 use Rattle.meaning.specs.Limits.{firstHeapCell, callsLimit}
 use Rattle.meaning.specs.Sound.{capacity, Allowed}
-use Rattle.meaning.specs.Verdicts.{Done}
+use Rattle.meaning.specs.Reach.{live}
+use Rattle.meaning.specs.Collected.{collected}
+use Rattle.meaning.specs.Verdicts.{Done, done}
 use Rattle.meaning.specs.Check.{lengthTest, collectIn}
 use Rattle.meaning.specs.Fresh.{fresh}
+use Rattle.meaning.specs.Operands.{ops, opAt, uses, wrong11, wrong12, wrong13, fault}
+use Rattle.meaning.specs.Call.{planOf, carryOut, perform, stepAfter, step}
 use Rattle.meaning.specs.Batch.{Outcome, runs, ended, AllowedCalls, batch}
 use Rattle.meaning.proofs.check.Checking.{length-yes, yes-length}
 use Rattle.meaning.proofs.batch.Cases.{batch-run, batch-runs}
@@ -19,12 +23,12 @@ use Rattle.meaning.proofs.batch.Batches.{runs-length}
 use Rattle.store.specs.declared.Made.the-variants as made
 use Rattle.collect.specs.Answers.{collectedIn}
 use Rattle.collect.specs.declared.Collected.{Collected}
-use Rattle.collect.specs.declared.Collected.the-variants as collected
+use Rattle.collect.specs.declared.Collected.the-variants as answer
 use Rattle.calls.specs.declared.Ran.the-variants as ran
 use Rattle.promises.specs.Requests.{requests, verdicts}
 use Rattle.promises.specs.Alike.{Lent, calls, requestsOf, NoneRefused, Served, served, strike, strikeAnswers}
 use Rattle.promises.proofs.table.Rules.{refuted}
-use Rattle.promises.proofs.Final.{calls-answer, alike-is-collected, collections-never-show}
+use Rattle.promises.proofs.Final.{collecting-keeps, alike-is-collected, collections-never-show}
 use Rattle.demands.specs.Contracts.{Makes, Collects, Runs}
 use Rattle.demands.specs.Runs.{Step, run, collect, Happened, asked, answered, wordsAfter, topAfter}
 use Rattle.demands.specs.Runs.{SameCollected, RunsNeverShow, FreshRunsNeverShow}
@@ -39,17 +43,25 @@ oneCall = 11 ∷ 0 ∷ 0 ∷ 0 ∷ []
 abbrev twoWords : List ℕ
 twoWords = 0 ∷ 0 ∷ []
 
-collects-call : (ws : List ℕ) (top n t : ℕ) (v : List ℕ) → Collects ws top (collected.Done n t) v
+-- COLLECT, as it is defined: its value is live after it
+collect-step : (ws : List ℕ) (top : ℕ)
+    → (let v = collected firstHeapCell ws top in
+    let t = firstHeapCell + live firstHeapCell ws top in
+    step firstHeapCell ws top 11 0 0 0 ≡ done v t (live firstHeapCell v t))
+unfolding uses wrong11 wrong12 wrong13 fault ops opAt planOf carryOut perform stepAfter step
+collect-step ws top = refl
+
+collects-call : (ws : List ℕ) (top n t : ℕ) (v : List ℕ) → Collects ws top (answer.Done n t) v
     → Runs ws top oneCall twoWords (ran.Ended t) v (0 ∷ n ∷ [])
 unfolding ended callsLimit
 collects-call ws top n t v h =
-    let k = collect-meets ws top (collected.Done n t) v h in
+    let k = collect-meets ws top (answer.Done n t) v h in
     let s = k .1 .0 in
     let c = k .0 .collects s in
     let a : AllowedCalls (length oneCall) = record { short = omega arith; whole = refl } in
     let b = batch-run firstHeapCell ws top oneCall twoWords s a (omega arith) in
-    let e = calls-answer firstHeapCell (omega arith) ws top s .collects in
-    rw (b, e, c .1, c .2, c .3) refl
+    let m = collecting-keeps firstHeapCell (omega arith) ws top s .many in
+    rw (b, collect-step ws top, m, c .1, c .2, c .3) refl
 
 -- the batches of a history
 abbrev lents : List Step → List Lent
@@ -142,14 +154,14 @@ same-collected ws top ws′ top′ z e r r′ v v′ h h′ =
 
     go : (r r′ : Collected) → collectedIn r v top .verdict .status ≡ 0 → collectedIn r′ v′ top′ .verdict .status ≡ 0
         → collectedIn r v top ≡ collectedIn r′ v′ top′
-        → ((n : ℕ) × (t : ℕ) × (r ≡ collected.Done n t)) × (r ≡ r′) × (v ≡ v′)
-    go (collected.Done n t) (collected.Done m u) x y q = (
+        → ((n : ℕ) × (t : ℕ) × (r ≡ answer.Done n t)) × (r ≡ r′) × (v ≡ v′)
+    go (answer.Done n t) (answer.Done m u) x y q = (
       (n, t, refl),
-      ap (λ (d : Done). collected.Done (d .verdict .value) (d .top)) q,
+      ap (λ (d : Done). answer.Done (d .verdict .value) (d .top)) q,
       ap (λ (d : Done). d .words) q,
     )
-    go (collected.Done n t) (collected.Refused u) x y q = absurd (refusal-not u y)
-    go (collected.Refused u) r′ x y q = absurd (refusal-not u x)
+    go (answer.Done n t) (answer.Refused u) x y q = absurd (refusal-not u y)
+    go (answer.Refused u) r′ x y q = absurd (refusal-not u x)
 
 pub runs-never-show : RunsNeverShow
 runs-never-show ws top ws′ top′ s s′ c a hs hs′ h h′ e =
