@@ -11,8 +11,10 @@ use Rattle.meaning.specs.Sound.{Sound}
 use Rattle.meaning.specs.Verdicts.{Verdict, Done}
 use Rattle.meaning.specs.Check.{check}
 use Rattle.meaning.specs.Look.{spanOf, lookSpan}
-use Rattle.meaning.specs.Batch.{Outcome, batch}
+use Rattle.meaning.specs.Batch.{Outcome, ended, batch}
 use Rattle.meaning.proofs.look.Looking.{span-register}
+use Rattle.meaning.proofs.effect.Steps.{runs-batch}
+use Rattle.meaning.proofs.batch.Batches.{fours-of, batch-sound}
 use Rattle.meaning.proofs.batch.Cases.{batch-runs}
 use Rattle.store.specs.Answers.{refusalOf}
 use Rattle.store.specs.declared.Unsound.{Unsound}
@@ -29,6 +31,7 @@ use Rattle.promises.specs.Collecting.{CollectedFrom}
 use Rattle.promises.specs.Calls.{BatchRun}
 use Rattle.promises.proofs.Final.{check-answers, fresh-answers, look-answers, collect-answers, batch-answers}
 use Rattle.promises.proofs.Final.{collecting-keeps, batches-run}
+use Rattle.demands.specs.Contracts.{Runs}
 use Rattle.demands.specs.Run.{CheckMeets, FreshMeets, LookMeets, SpanMeets, Collecting, CollectMeets}
 use Rattle.demands.specs.Run.{Running, RunMeets}
 
@@ -102,13 +105,23 @@ collect-meets ws top r v h =
 
 -- ---- a batch
 
+ended-sound : (ws : List ℕ) (top : ℕ) (calls out : List ℕ) (t : ℕ) (v a : List ℕ)
+    → Runs ws top calls out (ran.Ended t) v a → batch firstHeapCell ws top calls out .verdict .status ≡ 0
+    → Sound firstHeapCell v t
+unfolding ended
+ended-sound ws top calls out t v a h z =
+    let b = batch-runs firstHeapCell ws top calls out z in
+    let k = runs-batch firstHeapCell (omega arith) ws top (fours-of calls (b .1 .whole)) (b .0) in
+    subst (λ (o : Outcome). Sound firstHeapCell (o .words) (o .top)) (sym (h ∙ b .2)) (batch-sound (b .0) k)
+
 running : (ws : List ℕ) (top : ℕ) (calls out : List ℕ) (r : Ran) (v a : List ℕ)
-    → ranIn r v top a ≡ batch firstHeapCell ws top calls out
+    → Runs ws top calls out r v a
     → BatchTable firstHeapCell ws top calls out (ranIn r v top a) → Running ws top calls out r v a
 running ws top calls out (ran.Ended t) v a h k =
     let z : batch firstHeapCell ws top calls out .verdict .status ≡ 0 =
     ap (λ (o : Outcome). o .verdict .status) (sym h) in (
       batch-runs firstHeapCell ws top calls out z .0,
+      ended-sound ws top calls out t v a h z,
       subst (λ (o : Outcome). BatchRun firstHeapCell ws top calls out o) (sym h)
           (batches-run firstHeapCell (omega arith) ws top calls out z),
     )

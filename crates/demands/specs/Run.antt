@@ -63,11 +63,12 @@ CollectMeets =
     (ws : List ℕ) (top : ℕ) (r : Collected) (v : List ℕ) → Collects ws top r v
     → CollectTable firstHeapCell ws top (collectedIn r v top) × Collecting ws top r v
 
--- ---- a batch: ended, it has done call by call what each call says; refused, it leaves store and answers as lent
+-- ---- a batch: ended, it has done call by call what each call says, and the store is sound again; refused, it leaves
+-- store and answers as lent
 
 abbrev pub Running : List ℕ → ℕ → List ℕ → List ℕ → Ran → List ℕ → List ℕ → Type 0
 Running ws top calls out (ran.Ended t) v a =
-    Sound firstHeapCell ws top
+    Sound firstHeapCell ws top × Sound firstHeapCell v t
     × BatchRun firstHeapCell ws top calls out (record { verdict = only 0; words = v; top = t; answers = a })
 Running ws top calls out (ran.Refused u) v a = (v ≡ ws) × (a ≡ out)
 Running ws top calls out ran.BadCalls v a = (v ≡ ws) × (a ≡ out)

@@ -1,7 +1,8 @@
 -- Demand 3 of the code (SCOPE 8.3): two sound stores of equal capacity that are alike, each with a history of its own:
 -- batches by `calls::run`, none of them refused, and collections by `collect::collect` anywhere between them. Each step
 -- is known only by what the function's contract promises. Where the calls are equal once COLLECT is struck out, so are
--- the answers, and one more `collect::collect` of each leaves the same words, `top` and live. Assumes nothing.
+-- the answers, and one more `collect::collect` of each leaves the same words, `top` and live. That a store is sound is
+-- what `store::check` says (`CheckMeets`). Assumes nothing.
 use mathlib.Core.Path.{_≡_}
 use mathlib.Core.List.{List, [], _∷_, _++_}
 use Prim.Native.Nat.{ℕ, _*_, _/_}
