@@ -18,8 +18,8 @@ use Rattle.collect.specs.declared.Collected.the-variants as done
 use Rattle.promises.proofs.Final.{check-answers, alike-is-collected}
 use Rattle.demands.specs.Contracts.{Collects}
 use Rattle.demands.specs.Runs.{Happened, wordsAfter, topAfter}
-use Rattle.demands.specs.Example.{F, first, second, firstHistory, secondHistory, Met, PremisesMet, HistoriesUnseen}
-use Rattle.demands.specs.Example.{OneMoreCollection}
+use Rattle.demands.specs.Example.{F, first, second, firstHistory, secondHistory, Met, PremisesMet}
+use Rattle.demands.specs.Example.{HistoriesUnseen, OneMoreCollection}
 use Rattle.demands.proofs.Histories.{runs-never-show}
 
 record Computed : Type 0 where

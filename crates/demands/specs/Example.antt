@@ -47,7 +47,7 @@ low = two F (F + 1) (65 ∷ 0 ∷ 66 ∷ 0 ∷ 0 ∷ 0 ∷ 0 ∷ 0 ∷ [])
 
 -- ---- the histories
 
--- SYMBOL 1 66; a collection; JOIN 2 0 1, WRAP 3 2 without room, LIVE, CLEAR 2, with two words more than the answers need
+-- SYMBOL 1 66; a collection; JOIN 2 0 1, WRAP 3 2 without room, LIVE, CLEAR 2, with two answer words to spare
 abbrev pub firstHistory : List Step
 firstHistory =
     run (2 ∷ 1 ∷ 66 ∷ 0 ∷ []) (9 ∷ 9 ∷ []) (F + 3) (two (F + 1) (F + 2) (70 ∷ 0 ∷ 65 ∷ 0 ∷ 66 ∷ 0 ∷ 0 ∷ 0 ∷ []))
@@ -87,8 +87,8 @@ PremisesMet = Met × (first ≢ second) × (wordsAfter first firstHistory ≢ wo
 abbrev pub HistoriesUnseen : Type 0
 HistoriesUnseen = Unseen first (F + 2) firstHistory second (F + 1) secondHistory
 
--- One more collection of what the first history leaves, known by its contract alone, returns live 2 and `top` F + 2, and
--- leaves the words that the second history left.
+-- One more collection of what the first history leaves, known by its contract alone, returns live 2 and `top` F + 2,
+-- and leaves the words that the second history left.
 abbrev pub OneMoreCollection : Type 0
 OneMoreCollection =
     (r : Collected) (v : List ℕ) → Collects (wordsAfter first firstHistory) (topAfter (F + 2) firstHistory) r v
