@@ -1,0 +1,68 @@
+-- The claims of specs/, each with its proof. Nothing else stands here.
+-- Assumes nothing.
+use Rattle.demands.specs.Contracts.{CheckSays, FreshSays, LookSays, SpanSays, CollectSays, RunSays}
+use Rattle.demands.specs.Run.{CheckMeets, FreshMeets, LookMeets, SpanMeets, CollectMeets, RunMeets}
+use Rattle.demands.specs.Runs.{RunsNeverShow, FreshRunsNeverShow}
+use Rattle.demands.specs.Example.{PremisesMet, HistoriesUnseen, OneMoreCollection}
+use Rattle.demands.proofs.Uses as uses
+use Rattle.demands.proofs.Histories as histories
+use Rattle.demands.proofs.Stores as stores
+
+-- ---- what the contracts say, read as they stand
+
+pub check-says : CheckSays
+check-says κs ws top = (tt, λ r v h. h)
+
+pub fresh-says : FreshSays
+fresh-says κs ws = (tt, λ r v h. h)
+
+pub look-says : LookSays
+look-says κs ws top i = (tt, λ r v h. h)
+
+pub span-says : SpanSays
+span-says κs ws top i = (tt, λ r v h. h)
+
+pub collect-says : CollectSays
+collect-says κs ws top = (tt, λ r v h. h)
+
+pub run-says : RunSays
+run-says κs ws top calls out = (tt, λ r v c a h. h)
+
+-- ---- demands 1 and 2
+
+pub check-meets : CheckMeets
+check-meets = uses.check-meets
+
+pub fresh-meets : FreshMeets
+fresh-meets = uses.fresh-meets
+
+pub look-meets : LookMeets
+look-meets = uses.look-meets
+
+pub span-meets : SpanMeets
+span-meets = uses.span-meets
+
+pub collect-meets : CollectMeets
+collect-meets = uses.collect-meets
+
+pub run-meets : RunMeets
+run-meets = uses.run-meets
+
+-- ---- demand 3
+
+pub runs-never-show : RunsNeverShow
+runs-never-show = histories.runs-never-show
+
+pub fresh-runs-never-show : FreshRunsNeverShow
+fresh-runs-never-show = histories.fresh-runs-never-show
+
+-- ---- the example
+
+pub premises-met : PremisesMet
+premises-met = stores.premises-met
+
+pub histories-unseen : HistoriesUnseen
+histories-unseen = stores.histories-unseen
+
+pub one-more-collection : OneMoreCollection
+one-more-collection = stores.one-more-collection

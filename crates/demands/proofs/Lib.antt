@@ -1,0 +1,12 @@
+-- The proofs of the claims in specs/. In order:
+--   Uses       one use of a public function
+--   Lists      lists of requests with their answers
+--   Histories  two histories of uses
+--   Stores     the example, computed
+--   Final      the claims one by one
+-- Assumes nothing.
+pub mod Uses
+pub mod Lists
+pub mod Histories
+pub mod Stores
+pub mod Final
