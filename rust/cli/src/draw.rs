@@ -156,31 +156,32 @@ pub fn drawn(store: &Store, title: Option<&str>) -> String {
     let arcs = arcs(store, &is_reached);
     let levels = arcs.iter().map(|arc| arc.level).max().unwrap_or(0);
     let head = if title.is_some() { 30 } else { 0 };
-    let full = |c: &usize| kind_at(store, *c) != Kind::Empty;
-    let registers = (0..REGISTERS).filter(full).collect();
+    let is_full = |&c: &usize| kind_at(store, c) != Kind::Empty;
+    let registers = (0..REGISTERS).filter(is_full).collect();
     let layout = Layout { registers, y: EDGE + head + levels * RISE + 12 };
     let mut svg = Svg::default();
     if let Some(title) = title {
         svg.text((EDGE, EDGE + 10), Anchor::Start, "head", title);
     }
-    // Longer arcs first, so that no label is crossed by an arc that comes later.
-    arcs.iter().rev().for_each(|arc| put_arc(&mut svg, &layout, arc));
+    arcs.iter().for_each(|arc| put_arc(&mut svg, &layout, arc));
     arcs.iter().for_each(|arc| put_label(&mut svg, &layout, arc));
     for c in layout.registers.iter().copied().chain(FIRST_HEAP_CELL..store.top()) {
         put_cell(&mut svg, &layout, store, c, is_reached[c], &arcs);
     }
-    let right = put_free(&mut svg, &layout, store);
-    let dead = is_reached.iter().any(|&it| !it);
-    let legend = if dead {
-        "arc: the cells that a bracket or register holds; pale: dead, no register reaches it"
-    } else {
-        "arc: the cells that a bracket or register holds"
-    };
-    svg.text((EDGE, layout.y + HIGH + 42), Anchor::Start, "small", legend);
-    // The legend is as wide as its letters are, about six pixels each.
-    let width = (right + EDGE).max(2 * EDGE + 6 * legend.len() as i32);
+    let right = put_free(&mut svg, &layout, store).max(put_legend(&mut svg, &layout, &is_reached));
     let what = format!("A store of {} cells, top {}", store.capacity(), store.top());
-    svg.finish((width, layout.y + HIGH + 54), title.unwrap_or(&what), STYLE)
+    svg.finish((right + EDGE, layout.y + HIGH + 54), title.unwrap_or(&what), STYLE)
+}
+
+/// Puts what arcs and pale boxes mean. Gives its right edge.
+fn put_legend(svg: &mut Svg, layout: &Layout, is_reached: &[bool]) -> i32 {
+    let mut legend = "arc: the cells that a bracket or register holds".to_string();
+    if is_reached.contains(&false) {
+        legend += "; pale: dead, no register reaches it";
+    }
+    svg.text((EDGE, layout.y + HIGH + 42), Anchor::Start, "small", &legend);
+    // A letter is about six pixels wide.
+    EDGE + 6 * legend.len() as i32
 }
 
 /// The ends of an arc and the height of its middle.

@@ -53,42 +53,66 @@ fn numbers(row: &[String]) -> Result<Vec<f64>, String> {
     row[1..].iter().map(|cell| number(cell)).collect()
 }
 
-/// The plot of growth: a line for each row of the table, over the sizes on a scale of powers of two.
+/// Pixels of the plot of growth: the left and upper edge of its field, and its width and height.
+const FIELD: (i32, i32, i32, i32) = (50, 50, 520, 240);
+
+/// The scales of the plot of growth.
+struct Scales {
+    sizes: Vec<f64>,
+    most: f64,
+}
+
+impl Scales {
+    /// Where a size stands, on a scale of powers.
+    fn x(&self, size: f64) -> i32 {
+        let (first, last) = (self.sizes[0].log2(), self.sizes[self.sizes.len() - 1].log2());
+        FIELD.0 + (f64::from(FIELD.2) * (size.log2() - first) / (last - first)) as i32
+    }
+
+    /// Where a time stands.
+    fn y(&self, time: f64) -> i32 {
+        FIELD.1 + FIELD.3 - (f64::from(FIELD.3) * time / self.most) as i32
+    }
+
+    /// Puts a line for each nanosecond, the sizes below, and where the limit is.
+    fn put(&self, svg: &mut Svg, shown: &[String]) {
+        let (left, top, right, bottom) = (FIELD.0, FIELD.1, FIELD.0 + FIELD.2, FIELD.1 + FIELD.3);
+        for time in 0..=self.most as i32 {
+            let y = self.y(f64::from(time));
+            svg.line((left, y), (right, y), "grid");
+            svg.text((left - 8, y + 4), Anchor::End, "small", time);
+        }
+        for (&size, shown) in self.sizes.iter().zip(shown) {
+            svg.text((self.x(size), bottom + 18), Anchor::Middle, "small", shown);
+        }
+        svg.text((right, bottom + 36), Anchor::End, "small", "cells of the store");
+        let limit = self.x(zelmotar::MAX_CELLS as f64);
+        svg.line((limit, top), (limit, bottom), "limit");
+        svg.text((limit + 6, bottom - 8), Anchor::Start, "small", "the library's limit");
+    }
+}
+
+/// The plot of growth: a line for each row of the table.
 ///
 /// # Errors
 ///
 /// A sentence, if the page has no such table.
 pub fn growth(page: &str) -> Result<String, String> {
     let rows = table(page, GROWTH.0)?;
-    let sizes = numbers(&rows[0])?;
     let lines: Vec<Vec<f64>> =
         rows[1..].iter().map(|row| numbers(row)).collect::<Result<_, _>>()?;
     let most = lines.iter().flatten().fold(0.0_f64, |most, &it| most.max(it)).ceil();
-    let (left, top, wide, high) = (50, 50, 520, 240);
-    let span = (sizes[0].log2(), sizes[sizes.len() - 1].log2());
-    let x =
-        |size: f64| left + (f64::from(wide) * (size.log2() - span.0) / (span.1 - span.0)) as i32;
-    let y = |time: f64| top + high - (f64::from(high) * time / most) as i32;
+    let scales = Scales { sizes: numbers(&rows[0])?, most };
     let mut svg = Svg::default();
-    svg.text((left, 26), Anchor::Start, "head", GROWTH.1);
-    for time in 0..=most as i32 {
-        let y = y(f64::from(time));
-        svg.line((left, y), (left + wide, y), "grid");
-        svg.text((left - 8, y + 4), Anchor::End, "small", time);
-    }
-    for (&size, shown) in sizes.iter().zip(&rows[0][1..]) {
-        svg.text((x(size), top + high + 18), Anchor::Middle, "small", shown);
-    }
-    svg.text((left + wide, top + high + 36), Anchor::End, "small", "cells of the store");
-    svg.line((x(4096.0), top), (x(4096.0), top + high), "limit");
-    svg.text((x(4096.0) + 6, top + high - 8), Anchor::Start, "small", "the library's limit");
+    svg.text((FIELD.0, 26), Anchor::Start, "head", GROWTH.1);
+    scales.put(&mut svg, &rows[0][1..]);
     for (turn, (row, times)) in rows[1..].iter().zip(&lines).enumerate() {
-        let points: Vec<(i32, i32)> =
-            sizes.iter().zip(times).map(|(&s, &t)| (x(s), y(t))).collect();
-        put_line(&mut svg, turn, &points);
-        put_legend(&mut svg, turn, (left + wide + 24, top + 20 + 24 * turn as i32), &row[0]);
+        let points = scales.sizes.iter().zip(times).map(|(&s, &t)| (scales.x(s), scales.y(t)));
+        put_line(&mut svg, turn, &points.collect::<Vec<_>>());
+        let place = (FIELD.0 + FIELD.2 + 24, FIELD.1 + 20 + 24 * turn as i32);
+        put_legend(&mut svg, turn, place, &row[0]);
     }
-    Ok(svg.finish((760, top + high + 50), GROWTH.1, STYLE))
+    Ok(svg.finish((800, FIELD.1 + FIELD.3 + 50), GROWTH.1, STYLE))
 }
 
 /// The classes of a line: a colour for each store, and dashes for every second row, which is LIVE.
@@ -107,6 +131,15 @@ fn put_legend(svg: &mut Svg, turn: usize, (x, y): (i32, i32), name: &str) {
     svg.text((x + 36, y), Anchor::Start, "", name);
 }
 
+/// Pixels of the plot of ratios: the left edge of its field, that of its first row, its width, and
+/// from row to row.
+const ROWS: (i32, i32, i32, i32) = (184, 80, 500, 18);
+
+/// Where a ratio stands, on a scale up to 1.25.
+fn ratio_x(ratio: f64) -> i32 {
+    ROWS.0 + (f64::from(ROWS.2) * ratio.min(1.25) / 1.25) as i32
+}
+
 /// The plot of ratios: for each row of the table a full dot for the ratio to the ordinary store, and
 /// an open one for that to the better store.
 ///
@@ -120,30 +153,33 @@ pub fn ratios(page: &str) -> Result<String, String> {
         found.ok_or_else(|| format!("there is no column `{name}` below `{}`", RATIOS.0))
     };
     let (ordinary, better) = (column("to ordinary, now")?, column("to better, now")?);
-    let (left, top, wide, rise) = (170, 76, 500, 18);
-    let most = 1.25;
-    let x = |ratio: f64| left + (f64::from(wide) * ratio.min(most) / most) as i32;
-    let bottom = top + rise * (rows.len() as i32 - 1);
+    let bottom = ROWS.1 + ROWS.3 * (rows.len() as i32 - 1);
     let mut svg = Svg::default();
+    put_ratio_axes(&mut svg, bottom);
+    for (turn, row) in rows[1..].iter().enumerate() {
+        let y = ROWS.1 + ROWS.3 * turn as i32;
+        svg.text((ROWS.0 - 12, y + 4), Anchor::End, "", &row[0]);
+        svg.line((ROWS.0, y), (ROWS.0 + ROWS.2, y), "grid");
+        svg.dot((ratio_x(number(&row[better])?), y), "open");
+        svg.dot((ratio_x(number(&row[ordinary])?), y), "d0");
+    }
+    Ok(svg.finish((714, bottom + 26), RATIOS.1, STYLE))
+}
+
+/// Puts the heading, what the dots mean, and a line for each quarter.
+fn put_ratio_axes(svg: &mut Svg, bottom: i32) {
     svg.text((16, 26), Anchor::Start, "head", RATIOS.1);
-    for quarter in 0..=5 {
-        let ratio = f64::from(quarter) / 4.0;
-        let class = if quarter == 4 { "one" } else { "grid" };
-        svg.line((x(ratio), top - 8), (x(ratio), bottom), class);
-        svg.text((x(ratio), bottom + 16), Anchor::Middle, "small", format!("{ratio:.2}"));
-    }
-    svg.text((x(1.0), top - 14), Anchor::Middle, "small", "as fast");
-    for (row, y) in rows[1..].iter().zip((top + 4..).step_by(rise as usize)) {
-        svg.text((left - 12, y + 4), Anchor::End, "", &row[0]);
-        svg.line((left, y), (left + wide, y), "grid");
-        svg.dot((x(number(&row[better])?), y), "open");
-        svg.dot((x(number(&row[ordinary])?), y), "d0");
-    }
     svg.dot((22, 46), "d0");
     svg.text((34, 50), Anchor::Start, "", "to the ordinary store");
     svg.dot((202, 46), "open");
     svg.text((214, 50), Anchor::Start, "", "to the better one; left of 1.00 the library is faster");
-    Ok(svg.finish((700, bottom + 30), RATIOS.1, STYLE))
+    for quarter in 0..=5 {
+        let (x, class) =
+            (ratio_x(f64::from(quarter) / 4.0), if quarter == 4 { "one" } else { "grid" });
+        svg.line((x, ROWS.1 - 12), (x, bottom - 4), class);
+        let ratio = format!("{:.2}", f64::from(quarter) / 4.0);
+        svg.text((x, bottom + 12), Anchor::Middle, "small", ratio);
+    }
 }
 
 #[cfg(test)]
