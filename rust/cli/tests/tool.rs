@@ -67,6 +67,23 @@ fn the_first_example_is_the_programs_own_test() {
 }
 
 #[test]
+fn every_status_of_a_call_is_said_in_words() {
+    let shown = tool(&[&"run", &tracked("examples/asking.batch")]);
+    for line in [
+        "CALL 12 0 0 0            10          0   no such operation\n",
+        "COPY 16 0                11          0   no such register\n",
+        "CALL 10 0 0 7            12          0   a word that it does not use is not 0\n",
+        "SYMBOL 0 268435456       13          0   the code is too large\n",
+        "HEAD 5 5                 14          0   the register is empty\n",
+        "OPEN 4 4                 15          0   its first term is of the other kind\n",
+        "LIVE                      0          6   done\n",
+        "COLLECT                   0          6   done; collected, and 1 dead cell went\n",
+    ] {
+        ends(&shown, 0, line);
+    }
+}
+
+#[test]
 fn exit_codes() {
     let first = tracked("examples/first.batch");
     let fine = made("fine.batch", "CAPACITY 20\nLIVE\n");
