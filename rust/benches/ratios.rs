@@ -418,11 +418,33 @@ fn growths() {
     growth("Growth, brackets that all hold the same symbols.", site_like, &works[1..], true);
 }
 
-/// The processor's name, where the system tells it.
+/// The processor's name, where the system tells it: x86-64 by a name, Arm by numbers.
 fn processor() -> String {
     let told = fs::read_to_string("/proc/cpuinfo").unwrap_or_default();
-    let name = told.lines().find_map(|line| line.strip_prefix("model name")?.split(": ").nth(1));
-    name.unwrap_or("unknown processor").to_string()
+    let field =
+        |name: &str| told.lines().find_map(|line| line.strip_prefix(name)?.split(": ").nth(1));
+    match (field("model name"), field("CPU implementer"), field("CPU part")) {
+        (Some(name), ..) => name.to_string(),
+        (None, Some("0x41"), Some(part)) => format!("Arm {}", arm_core(part)),
+        (None, Some(maker), Some(part)) => format!("Arm, of maker {maker}, part {part}"),
+        _ => "unknown processor".to_string(),
+    }
+}
+
+/// The name of a core of Arm's own, or its number where it is not one of the usual ones.
+fn arm_core(part: &str) -> String {
+    let name = match part {
+        "0xd03" => "Cortex-A53",
+        "0xd07" => "Cortex-A57",
+        "0xd08" => "Cortex-A72",
+        "0xd0b" => "Cortex-A76",
+        "0xd0c" => "Neoverse-N1",
+        "0xd40" => "Neoverse-V1",
+        "0xd49" => "Neoverse-N2",
+        "0xd4f" => "Neoverse-V2",
+        other => return format!("part {other}"),
+    };
+    name.to_string()
 }
 
 fn main() {

@@ -1,0 +1,116 @@
+//! Files and standard input, read whole up to a limit.
+
+use std::ffi::OsStr;
+use std::fs::{self, File};
+use std::io::{self, Read};
+
+use crate::outcome::Stop;
+
+/// The most bytes that are read: two million calls, each with its comment, are well below it.
+const MOST_BYTES: usize = 1 << 28;
+
+/// What was read, with the name to cite it by.
+pub struct Input {
+    /// The name as it was given.
+    pub name: String,
+    /// The bytes.
+    pub bytes: Vec<u8>,
+}
+
+/// Reads the file with a name, or standard input for `-`.
+///
+/// # Errors
+///
+/// [`Stop::Usage`] if it is a folder or cannot be read, [`Stop::Refused`] if it is too long.
+pub fn read(name: &OsStr) -> Result<Input, Stop> {
+    let shown = name.to_string_lossy().into_owned();
+    let unread = |why: &dyn std::fmt::Display| Stop::Usage(format!("cannot read {shown}: {why}"));
+    let bytes = if name == "-" {
+        take(io::stdin().lock())
+    } else if fs::metadata(name).is_ok_and(|about| about.is_dir()) {
+        return Err(unread(&"it is a folder"));
+    } else {
+        File::open(name).and_then(take)
+    };
+    let bytes = bytes.map_err(|error| match error.kind() {
+        io::ErrorKind::NotFound => unread(&"no such file"),
+        _ => unread(&error),
+    })?;
+    if bytes.len() > MOST_BYTES {
+        return Err(Stop::Refused(format!("{shown} has more than {MOST_BYTES} bytes")));
+    }
+    Ok(Input { name: shown, bytes })
+}
+
+/// What `from` has, and at most one byte over the limit.
+fn take(from: impl Read) -> io::Result<Vec<u8>> {
+    let mut bytes = Vec::new();
+    from.take(MOST_BYTES as u64 + 1).read_to_end(&mut bytes)?;
+    Ok(bytes)
+}
+
+/// A text without the mark that some editors put at its start.
+///
+/// # Errors
+///
+/// A sentence, if the mark says that the text is in 16-bit units.
+pub fn text(bytes: &[u8]) -> Result<&[u8], String> {
+    if bytes.starts_with(&[0xff, 0xfe]) || bytes.starts_with(&[0xfe, 0xff]) {
+        return Err("the text is UTF-16; save it as UTF-8".to_string());
+    }
+    Ok(bytes.strip_prefix(&[0xef, 0xbb, 0xbf]).unwrap_or(bytes))
+}
+
+/// The lines of a text with their numbers, each as its words: blanks part them, `#` starts a comment.
+pub fn lines(text: &[u8]) -> impl Iterator<Item = (usize, Vec<&[u8]>)> {
+    text.split(|&byte| byte == b'\n').enumerate().map(|(i, line)| (i + 1, words(line)))
+}
+
+/// The words of one line.
+pub fn words(line: &[u8]) -> Vec<&[u8]> {
+    let said = line.split(|&byte| byte == b'#').next().unwrap_or(line);
+    said.split(u8::is_ascii_whitespace).filter(|word| !word.is_empty()).collect()
+}
+
+/// A word in quotes for a sentence: cut if it is long, and nothing in it that moves a terminal.
+pub fn quoted(word: &[u8]) -> String {
+    const MOST: usize = 40;
+    let text = String::from_utf8_lossy(&word[..word.len().min(4 * MOST)]).into_owned();
+    let mut shown = String::new();
+    for letter in text.chars().take(MOST) {
+        match letter {
+            letter if letter.is_control() => shown.extend(letter.escape_default()),
+            letter => shown.push(letter),
+        }
+    }
+    let more = if text.chars().count() > MOST { ".." } else { "" };
+    format!("`{shown}{more}`")
+}
+
+#[cfg(test)]
+mod tests {
+    use super::*;
+
+    #[test]
+    fn a_mark_at_the_start_is_passed_over() {
+        assert_eq!(text(b"\xef\xbb\xbfLIVE"), Ok(&b"LIVE"[..]));
+        assert_eq!(text(b"LIVE"), Ok(&b"LIVE"[..]));
+        assert!(text(b"\xff\xfeL\0").is_err());
+    }
+
+    #[test]
+    fn comments_blanks_and_line_ends_go() {
+        let all: Vec<_> = lines(b"A  1\r\n# B\n\n\tC#D").collect();
+        assert_eq!(all[0], (1, vec![&b"A"[..], b"1"]));
+        assert_eq!(all[1], (2, vec![]));
+        assert_eq!(all[3], (4, vec![&b"C"[..]]));
+    }
+
+    #[test]
+    fn quoted_words_are_short_and_plain() {
+        assert_eq!(quoted(b"SWAP"), "`SWAP`");
+        assert_eq!(quoted(b"\x1b[2J\0"), "`\\u{1b}[2J\\u{0}`");
+        assert_eq!(quoted(&[b'x'; 5000]).len(), 44);
+        assert!(quoted(&[0xff; 3]).contains('\u{fffd}'));
+    }
+}

@@ -1,0 +1,271 @@
+//! The tool as it is built, run as a user runs it: what it prints, says and exits with.
+
+use std::fs;
+use std::io::Write;
+use std::path::{Path, PathBuf};
+use std::process::{Command, Output, Stdio};
+
+/// A file of the repository.
+fn tracked(path: &str) -> PathBuf {
+    Path::new(env!("CARGO_MANIFEST_DIR")).join("../..").join(path)
+}
+
+/// A file with these bytes, in a folder for the tests.
+fn made(name: &str, bytes: impl AsRef<[u8]>) -> PathBuf {
+    let path = Path::new(env!("CARGO_TARGET_TMPDIR")).join(name);
+    fs::write(&path, bytes).unwrap();
+    path
+}
+
+/// Runs the tool with standard input, to its end.
+fn fed(input: &[u8], args: &[&dyn AsRef<std::ffi::OsStr>]) -> Output {
+    let mut child = Command::new(env!("CARGO_BIN_EXE_zelmotar-cli"))
+        .args(args)
+        .stdin(Stdio::piped())
+        .stdout(Stdio::piped())
+        .stderr(Stdio::piped())
+        .spawn()
+        .unwrap();
+    // The tool may stop before it has read everything.
+    let _ = child.stdin.take().unwrap().write_all(input);
+    child.wait_with_output().unwrap()
+}
+
+fn tool(args: &[&dyn AsRef<std::ffi::OsStr>]) -> Output {
+    fed(b"", args)
+}
+
+/// Whether the tool ends with a code and says some words, in what it prints or in what it says of
+/// its end.
+#[track_caller]
+fn ends(output: &Output, code: i32, words: &str) {
+    let said = [&output.stdout[..], &output.stderr].concat();
+    let said = String::from_utf8_lossy(&said);
+    assert_eq!(output.status.code(), Some(code), "{said}");
+    assert!(said.contains(words), "{said}");
+}
+
+#[test]
+fn the_first_example_is_the_programs_own_test() {
+    let first = tracked("examples/first.batch");
+    let plain = tool(&[&"run", &"--plain", &first]);
+    assert_eq!(plain.stdout, fs::read(tracked("crates/zelmotar/stdout")).unwrap());
+    let bytes = tool(&[&"run", &"--bytes", &first]);
+    assert_eq!(bytes.stdout, fs::read(tracked("crates/zelmotar/stdin")).unwrap());
+    let shown = tool(&[&"run", &first]);
+    ends(
+        &shown,
+        0,
+        "JOIN 3 2 2               16          0   no room; collected, and 2 dead cells went\n",
+    );
+    ends(&shown, 0, "WRAP 3 2                  0          0   done; register 3: (65 66)\n");
+    ends(
+        &shown,
+        0,
+        "top 19\nregister 2: 65 66\nregister 3: (65 66)\nthe other registers are empty\n",
+    );
+}
+
+#[test]
+fn every_status_of_a_call_is_said_in_words() {
+    let shown = tool(&[&"run", &tracked("examples/asking.batch")]);
+    for line in [
+        "CALL 12 0 0 0            10          0   no such operation\n",
+        "COPY 16 0                11          0   no such register\n",
+        "CALL 10 0 0 7            12          0   a word that it does not use is not 0\n",
+        "SYMBOL 0 268435456       13          0   the code is too large\n",
+        "HEAD 5 5                 14          0   the register is empty\n",
+        "OPEN 4 4                 15          0   its first term is of the other kind\n",
+        "LIVE                      0          6   done\n",
+        "COLLECT                   0          6   done; collected, and 1 dead cell went\n",
+    ] {
+        ends(&shown, 0, line);
+    }
+}
+
+#[test]
+fn exit_codes() {
+    let first = tracked("examples/first.batch");
+    let fine = made("fine.batch", "CAPACITY 20\nLIVE\n");
+    ends(&tool(&[&"run", &first]), 0, "no room");
+    ends(&tool(&[&"run", &"--strict", &first]), 1, "no room");
+    ends(&tool(&[&"run", &"--strict", &"--plain", &first]), 1, "16 0");
+    ends(&tool(&[&"run", &"--strict", &fine]), 0, "top 16");
+    ends(
+        &tool(&[&"run", &made("capacity.batch", "CAPACITY 15\n")]),
+        3,
+        "refused 1 0: no store has that capacity",
+    );
+    ends(
+        &tool(&[&"run", &made("swap.batch", "CAPACITY 20\n\nSWAP 1\n")]),
+        3,
+        "swap.batch:3: no call is named `SWAP`",
+    );
+    for help in ["--help", "-h"] {
+        ends(&tool(&[&help]), 0, "Exit codes: 0 done;");
+        ends(&tool(&[&"draw", &help]), 0, "Exit codes: 0 done;");
+    }
+    ends(&tool(&[]), 2, "which command?");
+    ends(&tool(&[&"walk"]), 2, "there is no command `walk`");
+    ends(&tool(&[&"run"]), 2, "run takes one batch file, and here are 0");
+    ends(&tool(&[&"run", &"--loud", &fine]), 2, "run knows no --loud");
+    ends(&tool(&[&"run", &"--bytes", &"--strict", &fine]), 2, "run --bytes runs nothing");
+    ends(&tool(&[&"run", &"no-such.batch"]), 2, "cannot read no-such.batch: no such file");
+    ends(&tool(&[&"run", &tracked("examples")]), 2, "it is a folder");
+    ends(&tool(&[&"show", &"no-such.dump"]), 2, "no such file");
+    ends(&tool(&[&"ask", &"many"]), 2, "capacity: `many` is no number");
+}
+
+#[test]
+fn names_and_bytes_of_all_kinds() {
+    let live = "LIVE                      0          0   done\n";
+    ends(&tool(&[&"run", &made("a=b.batch", "CAPACITY 20\nLIVE\n")]), 0, live);
+    ends(&tool(&[&"run", &made("bom.batch", b"\xef\xbb\xbfCAPACITY 20\nLIVE\n")]), 0, live);
+    ends(&tool(&[&"run", &made("crlf.batch", "CAPACITY 20\r\nLIVE # all\r\n")]), 0, live);
+    ends(&fed(b"CAPACITY 20\nLIVE", &[&"run", &"-"]), 0, live);
+    ends(&fed(b"CAPACITY 20\nSWAP", &[&"run", &"-"]), 3, "-:2: no call");
+    ends(
+        &tool(&[&"run", &made("empty.batch", "")]),
+        3,
+        "empty.batch:1: the first line is `CAPACITY n`",
+    );
+    ends(
+        &tool(&[&"run", &made("bare.batch", "LIVE\n")]),
+        3,
+        "bare.batch:1: the first line is `CAPACITY n`",
+    );
+    ends(&tool(&[&"run", &made("wide.batch", b"\xff\xfeC\0A\0")]), 3, "UTF-16");
+    let garbage: Vec<u8> =
+        (0..70_000u32).map(|i| (i.wrapping_mul(2_654_435_761) >> 13) as u8).collect();
+    let garbage = made("garbage", garbage);
+    for command in ["run", "show", "draw", "check"] {
+        ends(&tool(&[&command, &garbage]), 3, "garbage:1: ");
+    }
+    ends(&tool(&[&"check", &"--top", &"16", &garbage]), 3, "No store has 17500 words");
+    ends(
+        &tool(&[&"run", &env!("CARGO_BIN_EXE_zelmotar-cli")]),
+        3,
+        ":1: no call is named `\\u{7f}ELF",
+    );
+}
+
+#[test]
+fn two_million_calls_are_refused_as_the_program_refuses_them() {
+    let many = made("many.batch", format!("CAPACITY 16\n{}", "LIVE\n".repeat(2_000_000)));
+    ends(&tool(&[&"run", &many]), 3, "refused 4 0: there are more calls than the program takes\n");
+    assert_eq!(tool(&[&"run", &"--plain", &many]).stdout, b"refused 4 0\n");
+    assert_eq!(tool(&[&"run", &"--bytes", &many]).stdout.len(), 4 + 32_000_000);
+    let both = made("both.batch", format!("CAPACITY 15\n{}", "LIVE\n".repeat(1025)));
+    ends(&tool(&[&"run", &both]), 3, "refused 1 0: ");
+    let most = made("most.batch", format!("CAPACITY 16\n{}", "LIVE\n".repeat(1024)));
+    ends(&tool(&[&"run", &most]), 0, "top 16\n");
+}
+
+#[test]
+fn a_damaged_cell_is_named_with_its_words() {
+    let sound = fs::read_to_string(tracked("examples/p2.dump")).unwrap();
+    let damaged = made("damaged.dump", sound.replace("18 0x80000014", "18 0x80000015"));
+    let sentence = "Cell 21, a heap cell, is damaged: its words are 18 and 2147483669 \
+                    (0x00000012 0x80000015), and its right end, 21, is not below the cell itself.\n";
+    ends(&tool(&[&"check", &damaged]), 3, sentence);
+    ends(&tool(&[&"show", &damaged]), 3, sentence);
+    ends(&tool(&[&"show", &damaged]), 3, "bracket, cells 18 to 21  damaged\n");
+    ends(&tool(&[&"draw", &damaged]), 3, "Cell 21");
+    assert!(tool(&[&"draw", &damaged]).stdout.is_empty());
+    let top = made("top.dump", sound.replace("TOP 23", "TOP 25"));
+    ends(&tool(&[&"check", &top]), 3, "top is 25, and must be 16 to 24");
+    let short = made("short.dump", "TOP 16\n0 0 0\n");
+    ends(&tool(&[&"check", &short]), 3, "No store has 3 words: their number is even, 32 to 8192.");
+    ends(&tool(&[&"show", &short]), 3, "No store has 3 words");
+    ends(
+        &tool(&[&"check", &made("no.dump", "1 2 3\n")]),
+        3,
+        "no.dump:1: the first line of a dump is `TOP n`",
+    );
+    ends(
+        &tool(&[&"check", &"--top", &"16", &made("odd.bytes", [0; 7])]),
+        3,
+        "7 bytes are no whole words",
+    );
+}
+
+#[test]
+fn a_dump_is_shown_as_cells_and_expressions() {
+    let p2 = tracked("examples/p2.dump");
+    ends(
+        &tool(&[&"check", &p2]),
+        0,
+        "The store is sound: 24 cells, top 23, 6 of 7 occupied heap cells live.\n",
+    );
+    let shown = tool(&[&"show", &p2]);
+    ends(&shown, 0, "  16  0x00000046  0x00000000   symbol 70  dead\n");
+    ends(&shown, 0, "  21  0x00000012  0x80000014   bracket, cells 18 to 20 (66 67 68)\n");
+    ends(&shown, 0, "register 0: (66 67 68) (65 66 67)\n");
+    let collected = tool(&[&"show", &"--collected", &p2]);
+    ends(&collected, 0, "  21  0x00000010  0x80000012   bracket, cells 16 to 18 (65 66 67)\n");
+    ends(&collected, 0, "register 0: (66 67 68) (65 66 67)\n");
+}
+
+#[test]
+fn a_batch_leaves_a_dump_of_text_and_bytes_are_one_too() {
+    let dump = made("left.dump", "");
+    let out = tool(&[&"run", &tracked("examples/first.batch"), &"--dump", &dump]);
+    ends(&out, 0, "top 19\n");
+    ends(&tool(&[&"show", &dump]), 0, "register 3: (65 66)\n");
+    let words: Vec<u32> = fs::read_to_string(&dump)
+        .unwrap()
+        .lines()
+        .filter(|line| line.starts_with("0x"))
+        .flat_map(|line| {
+            line.split(' ')
+                .take(2)
+                .map(|word| u32::from_str_radix(&word[2..], 16).unwrap())
+                .collect::<Vec<_>>()
+        })
+        .collect();
+    let bytes: Vec<u8> = words.iter().flat_map(|word| word.to_le_bytes()).collect();
+    let bytes = made("left.bytes", bytes);
+    let shown = tool(&[&"show", &"--top", &"19", &bytes]);
+    assert_eq!(shown.stdout, tool(&[&"show", &dump]).stdout);
+    ends(&shown, 0, "20 cells, top 19, 3 of 3 occupied heap cells live\n");
+    ends(
+        &tool(&[&"run", &tracked("examples/first.batch"), &"--dump", &"/no/such/folder/x"]),
+        2,
+        "cannot write",
+    );
+}
+
+#[test]
+fn the_drawings_of_p2_are_those_in_the_docs() {
+    let p2 = tracked("examples/p2.dump");
+    let before = tool(&[&"draw", &"--title", &"P2 before collecting", &p2]);
+    assert_eq!(before.stdout, fs::read(tracked("docs/p2-before.svg")).unwrap());
+    let after = tool(&[&"draw", &"--collected", &"--title", &"P2 after collecting", &p2]);
+    assert_eq!(after.stdout, fs::read(tracked("docs/p2-after.svg")).unwrap());
+}
+
+#[test]
+fn lines_typed_at_the_prompt_are_answered() {
+    let asked = fed(b"SYMBOL 0 65\nSWAP\nHEAD 1 2\nshow\n", &[&"ask", &"20"]);
+    ends(&asked, 0, "SYMBOL 0 65               0          0   done; register 0: 65\n");
+    ends(&asked, 0, "no call is named `SWAP`; HELP says what can be typed\n");
+    ends(&asked, 0, "20 cells, top 17, 1 of 1 occupied heap cells live\n");
+    ends(&fed(b"HEAD 1 2\n", &[&"ask", &"--strict"]), 1, "the register is empty");
+    ends(&fed(b"LIVE\n", &[&"ask", &"15"]), 3, "refused 1 0");
+    ends(&fed(b"", &[&"ask"]), 0, "");
+}
+
+#[test]
+fn a_reader_that_goes_away_is_no_fault() {
+    let most = made("away.batch", format!("CAPACITY 16\n{}", "LIVE\n".repeat(1024)));
+    let mut child = Command::new(env!("CARGO_BIN_EXE_zelmotar-cli"))
+        .args([&"run" as &dyn AsRef<std::ffi::OsStr>, &most])
+        .stdout(Stdio::piped())
+        .stderr(Stdio::piped())
+        .spawn()
+        .unwrap();
+    drop(child.stdout.take());
+    let output = child.wait_with_output().unwrap();
+    assert_eq!(output.status.code(), Some(0));
+    assert!(output.stderr.is_empty());
+}
