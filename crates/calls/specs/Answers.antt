@@ -4,8 +4,9 @@
 use mathlib.Core.Path.{_≡_}
 use mathlib.Core.List.{List}
 use Prim.Native.Nat.{ℕ}
+use Rattle.meaning.specs.Limits.{firstHeapCell}
 use Rattle.meaning.specs.Verdicts.{Done, done, refused, only}
-use Rattle.meaning.specs.Batch.{Outcome, asLent}
+use Rattle.meaning.specs.Batch.{Outcome, asLent, batch}
 use Rattle.store.specs.Answers.{refusalOf}
 use Rattle.calls.specs.declared.answer.Stepped.{Stepped}
 use Rattle.calls.specs.declared.Ran.{Ran}
@@ -29,3 +30,7 @@ ranIn (ran.Ended t) ws top out = record { verdict = only 0; words = ws; top = t;
 ranIn (ran.Refused u) ws top out = asLent (refusalOf u) ws top out
 ranIn ran.BadCalls ws top out = asLent (only 4) ws top out
 ranIn ran.ShortAnswers ws top out = asLent (only 5) ws top out
+
+-- what `run` promises, of its answer and the words vs and answers os that it leaves
+abbrev pub Runs : List ℕ → ℕ → List ℕ → List ℕ → Ran → List ℕ → List ℕ → Type 0
+Runs ws top calls out r vs os = ranIn r vs top os ≡ batch firstHeapCell ws top calls out

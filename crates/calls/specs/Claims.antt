@@ -2,9 +2,7 @@
 use mathlib.Core.Path.{_≡_}
 use mathlib.Core.List.{List}
 use Prim.Native.Nat.{ℕ}
-use Rattle.meaning.specs.Limits.{firstHeapCell}
-use Rattle.meaning.specs.Batch.{batch}
-use Rattle.calls.specs.Answers.{ranIn}
+use Rattle.calls.specs.Answers.{Runs}
 use Rattle.calls.specs.declared.Ran.{Ran}
 
 -- no second outcome satisfies the promise of `run`: its answer, every word of the store and every answer word are
@@ -12,6 +10,4 @@ use Rattle.calls.specs.declared.Ran.{Ran}
 abbrev pub OneOutcome : Type 0
 OneOutcome =
     (ws : List ℕ) (top : ℕ) (calls out : List ℕ) (r r′ : Ran) (v v′ a a′ : List ℕ)
-    → ranIn r v top a ≡ batch firstHeapCell ws top calls out
-    → ranIn r′ v′ top a′ ≡ batch firstHeapCell ws top calls out
-    → (r ≡ r′) × (v ≡ v′) × (a ≡ a′)
+    → Runs ws top calls out r v a → Runs ws top calls out r′ v′ a′ → (r ≡ r′) × (v ≡ v′) × (a ≡ a′)

@@ -6,8 +6,8 @@ ghost use Prim.Native.Nat.{_+_, _*_, _/_, _%_, _≤_, _<_};
 ghost use lib.ListN.{length, take};
 ghost use Rattle.meaning.specs.Limits.{firstHeapCell};
 ghost use Rattle.meaning.specs.Sound.{Sound};
-ghost use Rattle.meaning.specs.Batch.{runs, callsTest, batchOf, batch};
-ghost use Rattle.calls.specs.Answers.{ranIn};
+ghost use Rattle.meaning.specs.Batch.{runs, callsTest, batchOf};
+ghost use Rattle.calls.specs.Answers.{ranIn, Runs};
 ghost use Rattle.calls.specs.Calling.{callAt, Leaves, ranTo};
 
 mod answer;
@@ -94,8 +94,8 @@ fn run_sound(ws: &mut [u32], top: usize, calls: &[u32], answers: &mut [u32]) -> 
 
 // A batch on any words: the store is checked first.
 pub fn run(ws: &mut [u32], top: usize, calls: &[u32], answers: &mut [u32]) -> Ran
-    ensures { λ r. ⌜ ranIn r (now (ws .exit)) top (now (answers .exit))
-        ≡ batch firstHeapCell (now (ws .entry)) top (now (calls .entry)) (now (answers .entry)) ⌝ }
+    ensures { λ r. ⌜ Runs (now (ws .entry)) top (now (calls .entry)) (now (answers .entry)) r (now (ws .exit))
+        (now (answers .exit)) ⌝ }
 {
     match store::check(ws, top) {
         store::Checked::Sound => run_sound(ws, top, calls, answers),

@@ -4,8 +4,8 @@ use mathlib.Core.Path.{_≡_, sym, ap, _∙_}
 use mathlib.Core.List.{List}
 use Prim.Native.Nat.{ℕ}
 use Rattle.meaning.specs.Verdicts.{Done}
-use Rattle.meaning.specs.Look.{Span}
 use Rattle.meaning.specs.Batch.{Outcome}
+use Rattle.store.proofs.Final as store
 use Rattle.capi.specs.Answers.{answer, verdictIs, doneIs, outcomeIs}
 use Rattle.capi.specs.Unique.{OneCheck, OneFresh, OneCollect, OneRun, OneLook}
 use Rattle.capi.specs.declared.Answer.{Answer}
@@ -37,4 +37,4 @@ one-run ws top calls out vs vs′ os os′ r r′ p q =
     )
 
 pub one-look : OneLook
-one-look ws top i r r′ p q = ap (λ (s : Span). record { from = s .from; to = s .to }) (p ∙ sym q)
+one-look = store.one-span

@@ -1,9 +1,15 @@
 -- What crosses to C, as the definitions have it: an answer's numbers with the slices as they are left.
 -- Assumes nothing.
+use mathlib.Core.Path.{_≡_}
 use mathlib.Core.List.{List}
 use Prim.Native.Nat.{ℕ}
+use Rattle.meaning.specs.Limits.{firstHeapCell}
 use Rattle.meaning.specs.Verdicts.{Verdict, Done}
-use Rattle.meaning.specs.Batch.{Outcome}
+use Rattle.meaning.specs.Check.{check, collectIn}
+use Rattle.meaning.specs.Fresh.{freshIn}
+use Rattle.meaning.specs.Batch.{Outcome, batch}
+use Rattle.store.specs.Answers.{Placed}
+use Rattle.store.specs.declared.Span as span
 use Rattle.capi.specs.declared.Answer.{Answer}
 
 -- a status, a value and `top`
@@ -21,3 +27,23 @@ doneIs r ws = record { verdict = verdictIs r; words = ws; top = r .top }
 -- with the words of the store and of the answer space
 abbrev pub outcomeIs : Answer → List ℕ → List ℕ → Outcome
 outcomeIs r ws out = record { verdict = verdictIs r; words = ws; top = r .top; answers = out }
+
+-- ---- what the exported functions promise: the contracts cite these, and so does every claim about them
+
+-- `zelmotar_check` gives `top` back as it came
+abbrev pub Checks : List ℕ → ℕ → Answer → Type 0
+Checks ws top r = (verdictIs r ≡ check firstHeapCell ws top) × (r .top ≡ top)
+
+-- the others: of the answer, and the words vs and answers os that they leave
+abbrev pub Makes : List ℕ → Answer → List ℕ → Type 0
+Makes ws r vs = doneIs r vs ≡ freshIn firstHeapCell ws
+
+abbrev pub Collects : List ℕ → ℕ → Answer → List ℕ → Type 0
+Collects ws top r vs = doneIs r vs ≡ collectIn firstHeapCell ws top
+
+abbrev pub Runs : List ℕ → ℕ → List ℕ → List ℕ → Answer → List ℕ → List ℕ → Type 0
+Runs ws top calls out r vs os = outcomeIs r vs os ≡ batch firstHeapCell ws top calls out
+
+-- `zelmotar_look` names a place that lies in the words, from ≤ to ≤ their number
+abbrev pub Places : List ℕ → ℕ → ℕ → span.Span → Type 0
+Places ws top i r = Placed firstHeapCell ws top i r

@@ -9,13 +9,9 @@ use store::Span;
 use store::Unsound;
 ghost use mathlib.Core.Path.{_≡_};
 ghost use Prim.Native.Nat.{_≤_};
-ghost use Rattle.meaning.specs.Limits.{firstHeapCell, limit};
-ghost use Rattle.meaning.specs.Check.{check, collectIn};
-ghost use Rattle.meaning.specs.Fresh.{freshIn};
-ghost use Rattle.meaning.specs.Look.{lookSpan};
-ghost use Rattle.meaning.specs.Batch.{batch};
-ghost use Rattle.store.specs.Answers.{refusalOf, spanIn};
-ghost use Rattle.capi.specs.Answers.{answer, verdictIs, doneIs, outcomeIs};
+ghost use Rattle.meaning.specs.Limits.{limit};
+ghost use Rattle.store.specs.Answers.{refusalOf};
+ghost use Rattle.capi.specs.Answers.{answer, Checks, Makes, Collects, Runs, Places};
 
 // A status, the value that goes with it, and `top` afterwards.
 #[repr(C)]
@@ -52,7 +48,7 @@ fn refuse(why: Unsound, top: usize) -> Answer
 // The check alone. `top` comes back as it came.
 #[no_mangle]
 pub extern "C" fn zelmotar_check(words: &[u32], top: usize) -> Answer
-    ensures { λ r. ⌜ (verdictIs r ≡ check firstHeapCell (now (words .entry)) top) × (r .top ≡ top) ⌝ }
+    ensures { λ r. ⌜ Checks (now (words .entry)) top r ⌝ }
 {
     match store::check(words, top) {
         Checked::Sound => reply(0, 0, top),
@@ -63,7 +59,7 @@ pub extern "C" fn zelmotar_check(words: &[u32], top: usize) -> Answer
 // A fresh store, with its `top`; 0 as `top` where the words are left as they are.
 #[no_mangle]
 pub extern "C" fn zelmotar_fresh(words: &mut [u32]) -> Answer
-    ensures { λ r. ⌜ doneIs r (now (words .exit)) ≡ freshIn firstHeapCell (now (words .entry)) ⌝ }
+    ensures { λ r. ⌜ Makes (now (words .entry)) r (now (words .exit)) ⌝ }
 {
     match store::fresh(words) {
         Made::Ready(top) => reply(0, 0, top),
@@ -74,7 +70,7 @@ pub extern "C" fn zelmotar_fresh(words: &mut [u32]) -> Answer
 // Collecting alone. The value is live.
 #[no_mangle]
 pub extern "C" fn zelmotar_collect(words: &mut [u32], top: usize) -> Answer
-    ensures { λ r. ⌜ doneIs r (now (words .exit)) ≡ collectIn firstHeapCell (now (words .entry)) top ⌝ }
+    ensures { λ r. ⌜ Collects (now (words .entry)) top r (now (words .exit)) ⌝ }
 {
     match collect::collect(words, top) {
         Collected::Done(live, low) => reply(0, live, low),
@@ -90,8 +86,8 @@ pub extern "C" fn zelmotar_run(
     calls: &[u32],
     answers: &mut [u32],
 ) -> Answer
-    ensures { λ r. ⌜ outcomeIs r (now (words .exit)) (now (answers .exit))
-        ≡ batch firstHeapCell (now (words .entry)) top (now (calls .entry)) (now (answers .entry)) ⌝ }
+    ensures { λ r. ⌜ Runs (now (words .entry)) top (now (calls .entry)) (now (answers .entry)) r (now (words .exit))
+        (now (answers .exit)) ⌝ }
 {
     match calls::run(words, top, calls, answers) {
         Ran::Ended(end) => reply(0, 0, end),
@@ -104,7 +100,7 @@ pub extern "C" fn zelmotar_run(
 // A look at a register: the place of its cells, by which the caller takes the part.
 #[no_mangle]
 pub extern "C" fn zelmotar_look(words: &[u32], top: usize, reg: usize) -> Span
-    ensures { λ r. ⌜ spanIn r ≡ lookSpan firstHeapCell (now (words .entry)) top reg ⌝ }
+    ensures { λ r. ⌜ Places (now (words .entry)) top reg r ⌝ }
 {
     store::look_span(words, top, reg)
 }

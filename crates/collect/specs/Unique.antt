@@ -4,14 +4,11 @@
 use mathlib.Core.Path.{_≡_}
 use mathlib.Core.List.{List}
 use Prim.Native.Nat.{ℕ}
-use Rattle.meaning.specs.Limits.{firstHeapCell}
-use Rattle.meaning.specs.Check.{collectIn}
-use Rattle.collect.specs.Answers.{collectedIn}
+use Rattle.collect.specs.Answers.{Collects}
 use Rattle.collect.specs.declared.Collected.{Collected}
 
 -- the answer and every word of the slice
 abbrev pub OneCollect : Type 0
 OneCollect =
     (ws : List ℕ) (top : ℕ) (r r′ : Collected) (vs vs′ : List ℕ)
-    → collectedIn r vs top ≡ collectIn firstHeapCell ws top → collectedIn r′ vs′ top ≡ collectIn firstHeapCell ws top
-    → (r ≡ r′) × (vs ≡ vs′)
+    → Collects ws top r vs → Collects ws top r′ vs′ → (r ≡ r′) × (vs ≡ vs′)

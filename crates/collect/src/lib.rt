@@ -19,8 +19,7 @@ ghost use Rattle.meaning.specs.Limits.{firstHeapCell};
 ghost use Rattle.meaning.specs.Sound.{Sound};
 ghost use Rattle.meaning.specs.Reach.{live};
 ghost use Rattle.meaning.specs.Collected.{collected, collectedTop};
-ghost use Rattle.meaning.specs.Check.{collectIn};
-ghost use Rattle.collect.specs.Answers.{collectedIn};
+ghost use Rattle.collect.specs.Answers.{Collects};
 use store::Checked;
 use store::Unsound;
 
@@ -61,7 +60,7 @@ pub enum Collected {
 
 // Collects any store that is sound; every other is left as it was lent.
 pub fn collect(ws: &mut [u32], top: usize) -> Collected
-    ensures { λ r. ⌜ collectedIn r (now (ws .exit)) top ≡ collectIn firstHeapCell (now (ws .entry)) top ⌝ }
+    ensures { λ r. ⌜ Collects (now (ws .entry)) top r (now (ws .exit)) ⌝ }
 {
     let found = store::check(ws, top);
     match found {

@@ -21,7 +21,7 @@ use Rattle.meaning.proofs.check.Checking.{length-yes, yes-length}
 use Rattle.meaning.proofs.batch.Cases.{batch-run, batch-runs}
 use Rattle.meaning.proofs.batch.Batches.{runs-length}
 use Rattle.store.specs.declared.Made.the-variants as made
-use Rattle.collect.specs.Answers.{collectedIn}
+use Rattle.collect.specs.Answers.{collectedIn, Collects}
 use Rattle.collect.specs.declared.Collected.{Collected}
 use Rattle.collect.specs.declared.Collected.the-variants as answer
 use Rattle.calls.specs.declared.Ran.the-variants as ran
@@ -29,7 +29,8 @@ use Rattle.promises.specs.Requests.{requests, verdicts}
 use Rattle.promises.specs.Alike.{Lent, calls, requestsOf, NoneRefused, Served, served, strike, strikeAnswers}
 use Rattle.promises.proofs.table.Rules.{refuted}
 use Rattle.promises.proofs.Final.{collecting-keeps, alike-is-collected, collections-never-show}
-use Rattle.demands.specs.Contracts.{Makes, Collects, Runs}
+use Rattle.store.specs.Answers.{Makes}
+use Rattle.calls.specs.Answers.{Runs}
 use Rattle.demands.specs.Runs.{Step, run, collect, Happened, asked, answered, wordsAfter, topAfter}
 use Rattle.demands.specs.Runs.{SameCollected, RunsNeverShow, FreshRunsNeverShow}
 use Rattle.demands.proofs.Lists.{strike-front, strikeAnswers-front, requests-many, verdicts-many}

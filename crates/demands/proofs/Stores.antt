@@ -16,7 +16,7 @@ use Rattle.meaning.specs.Call.{sought, planOf, lacks, roomWords, roomTop, withR
 use Rattle.meaning.specs.Batch.{ended, callsTest, batchOf, batch}
 use Rattle.collect.specs.declared.Collected.the-variants as done
 use Rattle.promises.proofs.Final.{check-answers, alike-is-collected}
-use Rattle.demands.specs.Contracts.{Collects}
+use Rattle.collect.specs.Answers.{Collects}
 use Rattle.demands.specs.Runs.{Happened, wordsAfter, topAfter}
 use Rattle.demands.specs.Example.{F, first, second, firstHistory, secondHistory, Met, PremisesMet}
 use Rattle.demands.specs.Example.{HistoriesUnseen, OneMoreCollection}

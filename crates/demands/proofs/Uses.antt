@@ -23,7 +23,7 @@ use Rattle.store.proofs.Final.{look-at-span}
 use Rattle.collect.specs.Answers.{collectedIn}
 use Rattle.collect.specs.declared.Collected.{Collected}
 use Rattle.collect.specs.declared.Collected.the-variants as collected
-use Rattle.calls.specs.Answers.{ranIn}
+use Rattle.calls.specs.Answers.{ranIn, Runs}
 use Rattle.calls.specs.declared.Ran.{Ran}
 use Rattle.calls.specs.declared.Ran.the-variants as ran
 use Rattle.promises.specs.Table.{Not, CheckTable, FreshTable, LookTable, CollectTable, BatchTable}
@@ -31,7 +31,6 @@ use Rattle.promises.specs.Collecting.{CollectedFrom}
 use Rattle.promises.specs.Calls.{BatchRun}
 use Rattle.promises.proofs.Final.{check-answers, fresh-answers, look-answers, collect-answers, batch-answers}
 use Rattle.promises.proofs.Final.{collecting-keeps, batches-run}
-use Rattle.demands.specs.Contracts.{Runs}
 use Rattle.demands.specs.Run.{CheckMeets, FreshMeets, LookMeets, SpanMeets, Collecting, CollectMeets}
 use Rattle.demands.specs.Run.{Running, RunMeets}
 

@@ -2,23 +2,18 @@
 -- `Learnt` are what Rattle reads off the contract in the lib.rt of `store`, `collect` or `calls`: what a caller must
 -- show, and what it may use. Each claim says that nothing is asked, and that this is learnt, whatever the lifetimes κs
 -- are. ws and top are lent, r is returned, v are the words that are left. Assumes nothing.
-use mathlib.Core.Path.{_≡_}
 use mathlib.Core.List.{List}
 use Prim.Native.Nat.{ℕ}
 use denote.Ref.{RefT, now}
 use contract.Lifetimes.{Lfts}
 use Rattle.meaning.specs.Limits.{firstHeapCell}
-use Rattle.meaning.specs.Check.{check, collectIn}
-use Rattle.meaning.specs.Fresh.{freshIn}
-use Rattle.meaning.specs.Batch.{batch}
-use Rattle.store.specs.Answers.{verdictOf, madeIn, Placed}
-use Rattle.store.specs.Unique.{Looks}
+use Rattle.store.specs.Answers.{Placed, Looks, Checks, Makes}
 use Rattle.store.specs.declared.Checked.{Checked}
 use Rattle.store.specs.declared.Made.{Made}
 use Rattle.store.specs.declared.Span.{Span}
-use Rattle.collect.specs.Answers.{collectedIn}
+use Rattle.collect.specs.Answers.{Collects}
 use Rattle.collect.specs.declared.Collected.{Collected}
-use Rattle.calls.specs.Answers.{ranIn}
+use Rattle.calls.specs.Answers.{Runs}
 use Rattle.calls.specs.declared.Ran.{Ran}
 use Rattle.store.proofs.check.Reads as check-contract
 use Rattle.store.proofs.fresh.Reads as fresh-contract
@@ -33,18 +28,12 @@ Slice = RefT (List ℕ)
 
 -- ---- `store::check`
 
-abbrev pub Checks : List ℕ → ℕ → Checked → Type 0
-Checks ws top r = verdictOf r ≡ check firstHeapCell ws top
-
 abbrev pub CheckSays : Type 0
 CheckSays =
     (κs : Lfts 1) (ws : Slice) (top : ℕ) → check-contract.Asked κs (ws, (top, tt))
     × ((r : Checked) (v : Slice) → check-contract.Learnt κs (ws, (top, tt)) r (v, (top, tt)) → Checks (now ws) top r)
 
 -- ---- `store::fresh`
-
-abbrev pub Makes : List ℕ → Made → List ℕ → Type 0
-Makes ws r v = madeIn r v ≡ freshIn firstHeapCell ws
 
 abbrev pub FreshSays : Type 0
 FreshSays =
@@ -66,9 +55,6 @@ SpanSays =
 
 -- ---- `collect::collect`
 
-abbrev pub Collects : List ℕ → ℕ → Collected → List ℕ → Type 0
-Collects ws top r v = collectedIn r v top ≡ collectIn firstHeapCell ws top
-
 abbrev pub CollectSays : Type 0
 CollectSays =
     (κs : Lfts 1) (ws : Slice) (top : ℕ) → collect-contract.Asked κs (ws, (top, tt))
@@ -76,9 +62,6 @@ CollectSays =
     → Collects (now ws) top r (now v))
 
 -- ---- `calls::run`, with a call list and an answer space `out`, which is left as a
-
-abbrev pub Runs : List ℕ → ℕ → List ℕ → List ℕ → Ran → List ℕ → List ℕ → Type 0
-Runs ws top calls out r v a = ranIn r v top a ≡ batch firstHeapCell ws top calls out
 
 abbrev pub RunSays : Type 0
 RunSays =

@@ -13,7 +13,7 @@ use Rattle.meaning.specs.Fresh.{emptyRegisters}
 use Rattle.collect.specs.declared.Collected.{Collected}
 use Rattle.collect.specs.declared.Collected.the-variants as collected
 use Rattle.promises.specs.Alike.{Alike, strike}
-use Rattle.demands.specs.Contracts.{Collects}
+use Rattle.collect.specs.Answers.{Collects}
 use Rattle.demands.specs.Runs.{Step, run, collect, Happened, asked, wordsAfter, topAfter, Unseen}
 
 abbrev pub F : ℕ

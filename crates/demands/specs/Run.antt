@@ -11,21 +11,20 @@ use Rattle.meaning.specs.Limits.{firstHeapCell}
 use Rattle.meaning.specs.Sound.{ends, at, Sound}
 use Rattle.meaning.specs.Reach.{live}
 use Rattle.meaning.specs.Verdicts.{only}
-use Rattle.store.specs.Answers.{verdictOf, madeIn, Placed}
-use Rattle.store.specs.Unique.{Looks}
+use Rattle.store.specs.Answers.{verdictOf, madeIn, Placed, Checks, Makes, Looks}
 use Rattle.store.specs.declared.Checked.{Checked}
 use Rattle.store.specs.declared.Made.{Made}
 use Rattle.store.specs.declared.Span.{Span}
-use Rattle.collect.specs.Answers.{collectedIn}
+use Rattle.collect.specs.Answers.{collectedIn, Collects}
 use Rattle.collect.specs.declared.Collected.{Collected}
 use Rattle.collect.specs.declared.Collected.the-variants as collected
-use Rattle.calls.specs.Answers.{ranIn}
+use Rattle.calls.specs.Answers.{ranIn, Runs}
 use Rattle.calls.specs.declared.Ran.{Ran}
 use Rattle.calls.specs.declared.Ran.the-variants as ran
 use Rattle.promises.specs.Table.{CheckTable, FreshTable, LookTable, CollectTable, BatchTable}
 use Rattle.promises.specs.Collecting.{CollectedFrom}
 use Rattle.promises.specs.Calls.{BatchRun}
-use Rattle.demands.specs.Contracts.{Slice, Checks, Makes, Collects, Runs}
+use Rattle.demands.specs.Contracts.{Slice}
 
 -- ---- the check, a fresh store
 

@@ -16,7 +16,9 @@ use Rattle.collect.specs.declared.Collected.the-variants as collected
 use Rattle.calls.specs.declared.Ran.the-variants as ran
 use Rattle.promises.specs.Requests.{Request, requests, verdicts}
 use Rattle.promises.specs.Alike.{Alike, strike, strikeAnswers}
-use Rattle.demands.specs.Contracts.{Makes, Collects, Runs}
+use Rattle.store.specs.Answers.{Makes}
+use Rattle.collect.specs.Answers.{Collects}
+use Rattle.calls.specs.Answers.{Runs}
 
 -- ---- a history
 

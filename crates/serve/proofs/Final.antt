@@ -6,7 +6,8 @@ use native.Mathlib.Omega.{arith}
 use lib.ListN.{length, drop, length-append}
 use Rattle.meaning.specs.Limits.{firstHeapCell}
 use Rattle.meaning.specs.Program.{program}
-use Rattle.serve.specs.Unique.{Serves, OneServe}
+use Rattle.serve.specs.Serves.{Serves}
+use Rattle.serve.specs.Unique.{OneServe}
 
 pub one-serve : OneServe
 one-serve input out r r′ out′ out″ p q = (cc, cc)

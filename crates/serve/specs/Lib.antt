@@ -2,4 +2,5 @@
 pub mod Front
 pub mod Lines
 pub mod Needs
+pub mod Serves
 pub mod Unique

@@ -6,10 +6,7 @@ mod writing;
 use meaning::PROGRAM_BYTES;
 use meaning::PROGRAM_CELLS;
 ghost use mathlib.Core.Path.{_≡_};
-ghost use mathlib.Core.List.{_++_};
-ghost use lib.ListN.{length, drop};
-ghost use Rattle.meaning.specs.Limits.{firstHeapCell};
-ghost use Rattle.meaning.specs.Program.{program};
+ghost use Rattle.serve.specs.Serves.{Serves};
 
 // The answers to the longest input: two to each call of 16 bytes, after the capacity's 4.
 const ANSWERS: usize = (PROGRAM_BYTES - 4) / 8;
@@ -20,8 +17,7 @@ pub const OUTPUT: usize = 11 * ANSWERS + 25;
 
 // Writes what the program has to write to the start of `out`, leaves the rest of it, and gives the number of bytes.
 pub fn serve(input: &[u8], out: &mut [u8; OUTPUT]) -> usize
-    ensures { λ r. ⌜ r ≡ length (program firstHeapCell (now (input .entry))) ⌝ }
-    ensures { λ r. ⌜ now (out .exit) ≡ program firstHeapCell (now (input .entry)) ++ drop r (now (out .entry)) ⌝ }
+    ensures { λ r. ⌜ Serves (now (input .entry)) (now (out .entry)) r (now (out .exit)) ⌝ }
 {
     if input.len() < 4 {
         return writing::refuse(out, 1); // no capacity

@@ -5,8 +5,11 @@ use mathlib.Core.List.{List}
 use Prim.Native.Nat.{ℕ, _+_, _*_, _≤_}
 use lib.ListN.{length}
 use denote.Ref.{RefT}
+use Rattle.meaning.specs.Limits.{firstHeapCell}
 use Rattle.meaning.specs.Verdicts.{Verdict, only, Done, done, refused}
-use Rattle.meaning.specs.Look.{Span, lookSpan}
+use Rattle.meaning.specs.Check.{check}
+use Rattle.meaning.specs.Fresh.{freshIn}
+use Rattle.meaning.specs.Look.{Span, lookSpan, look}
 use Rattle.store.specs.declared.Unsound.{Unsound}
 use Rattle.store.specs.declared.Unsound.the-variants as unsound
 use Rattle.store.specs.declared.Checked.{Checked}
@@ -42,3 +45,18 @@ Placed F ws top i e = (spanIn e ≡ lookSpan F ws top i) × (e .from ≤ e .to) 
 -- r refers to the place s of what ws refers to: `ptr` is a block of memory and a byte of it, and a word has four bytes
 abbrev pub PartAt : RefT (List ℕ) → Span → RefT (List ℕ) → Type 0
 PartAt ws s r = (r .ptr .0 ≡ ws .ptr .0) × (r .ptr .1 ≡ ws .ptr .1 + 4 * s .from)
+
+-- ---- what the public functions promise: the contracts cite these, and so does every claim about them
+
+-- `check`, of its answer
+abbrev pub Checks : List ℕ → ℕ → Checked → Type 0
+Checks ws top r = verdictOf r ≡ check firstHeapCell ws top
+
+-- `fresh`, of its answer and the words vs that it leaves
+abbrev pub Makes : List ℕ → Made → List ℕ → Type 0
+Makes ws r vs = madeIn r vs ≡ freshIn firstHeapCell ws
+
+-- `look`, of the part r: its words, and where it lies
+abbrev pub Looks : RefT (List ℕ) → ℕ → ℕ → RefT (List ℕ) → Type 0
+Looks ws top i r =
+    (r .now ≡ look firstHeapCell (ws .now) top i) × PartAt ws (lookSpan firstHeapCell (ws .now) top i) r

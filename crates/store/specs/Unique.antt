@@ -7,18 +7,11 @@ use Prim.Native.Nat.{ℕ, _-_}
 use lib.ListN.{take, drop}
 use denote.Ref.{RefT}
 use Rattle.meaning.specs.Limits.{firstHeapCell}
-use Rattle.meaning.specs.Check.{check}
-use Rattle.meaning.specs.Fresh.{freshIn}
-use Rattle.meaning.specs.Look.{lookSpan, look}
-use Rattle.store.specs.Answers.{verdictOf, madeIn, Placed, PartAt}
+use Rattle.meaning.specs.Look.{look}
+use Rattle.store.specs.Answers.{verdictOf, Placed, Checks, Makes, Looks}
 use Rattle.store.specs.declared.Checked.{Checked}
 use Rattle.store.specs.declared.Made.{Made}
 use Rattle.store.specs.declared.Span as span
-
--- what `look` promises of the slice r
-abbrev pub Looks : RefT (List ℕ) → ℕ → ℕ → RefT (List ℕ) → Type 0
-Looks ws top i r =
-    (r .now ≡ look firstHeapCell (ws .now) top i) × PartAt ws (lookSpan firstHeapCell (ws .now) top i) r
 
 -- no two answers have one number and value
 abbrev pub VerdictsDiffer : Type 0
@@ -26,14 +19,12 @@ VerdictsDiffer = (r r′ : Checked) → verdictOf r ≡ verdictOf r′ → r ≡
 
 abbrev pub OneCheck : Type 0
 OneCheck =
-    (ws : List ℕ) (top : ℕ) (r r′ : Checked) → verdictOf r ≡ check firstHeapCell ws top
-    → verdictOf r′ ≡ check firstHeapCell ws top → r ≡ r′
+    (ws : List ℕ) (top : ℕ) (r r′ : Checked) → Checks ws top r → Checks ws top r′ → r ≡ r′
 
 -- the answer and every word of the slice
 abbrev pub OneFresh : Type 0
 OneFresh =
-    (ws : List ℕ) (r r′ : Made) (vs vs′ : List ℕ) → madeIn r vs ≡ freshIn firstHeapCell ws
-    → madeIn r′ vs′ ≡ freshIn firstHeapCell ws → (r ≡ r′) × (vs ≡ vs′)
+    (ws : List ℕ) (r r′ : Made) (vs vs′ : List ℕ) → Makes ws r vs → Makes ws r′ vs′ → (r ≡ r′) × (vs ≡ vs′)
 
 abbrev pub OneSpan : Type 0
 OneSpan =

@@ -6,10 +6,9 @@ ghost use lib.Dec.{eqb};
 ghost use lib.ListN.{length, take};
 ghost use Rattle.meaning.specs.Limits.{firstHeapCell};
 ghost use Rattle.meaning.specs.Sound.{at};
-ghost use Rattle.meaning.specs.Check.{lengthTest, topTest, check};
-ghost use Rattle.meaning.specs.Fresh.{emptyRegisters, freshIn};
-ghost use Rattle.meaning.specs.Look.{lookSpan, look};
-ghost use Rattle.store.specs.Answers.{verdictOf, madeIn, Placed, PartAt};
+ghost use Rattle.meaning.specs.Check.{lengthTest, topTest};
+ghost use Rattle.meaning.specs.Fresh.{emptyRegisters};
+ghost use Rattle.store.specs.Answers.{verdictOf, Placed, Checks, Makes, Looks};
 ghost use Rattle.store.specs.Holds.{Bracketed, Termed, RunIs, termIs};
 
 pub mod cells;
@@ -53,7 +52,7 @@ fn top_ok(top: usize, cells: usize) -> bool
 // The length, then `top`, then the cells. Passes that are never left find a sound store sound. In any other a scan from
 // the lowest address up leaves at the first damaged cell.
 pub fn check(ws: &[u32], top: usize) -> Checked
-    ensures { λ r. ⌜ verdictOf r ≡ check firstHeapCell (now (ws .entry)) top ⌝ }
+    ensures { λ r. ⌜ Checks (now (ws .entry)) top r ⌝ }
 {
     if !length_ok(ws.len()) {
         return Checked::Refused(Unsound::BadLength);
@@ -110,7 +109,7 @@ fn empty_registers(ws: &mut [u32])
 
 // A fresh store, written into a slice of an allowed length. Any other slice is left as it is.
 pub fn fresh(ws: &mut [u32]) -> Made
-    ensures { λ r. ⌜ madeIn r (now (ws .exit)) ≡ freshIn firstHeapCell (now (ws .entry)) ⌝ }
+    ensures { λ r. ⌜ Makes (now (ws .entry)) r (now (ws .exit)) ⌝ }
 {
     if !length_ok(ws.len()) {
         return Made::BadLength;
@@ -185,8 +184,7 @@ pub fn look_span(ws: &[u32], top: usize, register: usize) -> Span
 // The part of the lent store that holds a register's cells, from its left end to its right end: not a copy of it, nor
 // equal words at another place.
 pub fn look(ws: &[u32], top: usize, register: usize) -> &[u32]
-    ensures words { λ r. ⌜ now r ≡ look firstHeapCell (now (ws .entry)) top register ⌝ }
-    ensures place { λ r. ⌜ PartAt (ws .entry) (lookSpan firstHeapCell (now (ws .entry)) top register) r ⌝ }
+    ensures { λ r. ⌜ Looks (ws .entry) top register r ⌝ }
 {
     let place = look_span(ws, top, register);
     let from = place.from;

@@ -76,7 +76,7 @@ three-false : (wrong : ℕ → ℕ → Bool) (o d a b : ℕ) → three wrong o d
     × (wrong (getD uses (3 * o + 2) 0) b ≡ false)
 three-false wrong o d a b e =
     let y = or-false (wrong (getD uses (3 * o) 0) d || wrong (getD uses (3 * o + 1) 0) a)
-        (wrong (getD uses (3 * o + 2) 0) b) e in
+    (wrong (getD uses (3 * o + 2) 0) b) e in
     let z = or-false (wrong (getD uses (3 * o) 0) d) (wrong (getD uses (3 * o + 1) 0) a) (y .0) in
     (z .0, z .1, y .1)
 

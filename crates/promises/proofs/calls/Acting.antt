@@ -205,8 +205,12 @@ module _ (F : ℕ) (ws : List ℕ) (top : ℕ) (p : 0 < F) (s : Sound F ws top) 
       same-copied : size (at ws a) ≢ 0 → size (at ws b) ≢ 0 → (j : ℕ)
           → newCell 4 (v JOIN) a b j ≡ newCell 4 ws a b j
       same-copied x y j =
-          rw (same-a, same-b, same-heap (start (at ws a) + j) (from-heap a j ha x),
-          same-heap (start (at ws b) + (j - size (at ws a))) (from-heap b (j - size (at ws a)) hb y)) refl
+          rw (
+            same-a,
+            same-b,
+            same-heap (start (at ws a) + j) (from-heap a j ha x),
+            same-heap (start (at ws b) + (j - size (at ws a))) (from-heap b (j - size (at ws a)) hb y),
+          ) refl
 
       join-words : (n m : ℕ) → size (at ws a) ≡ n → size (at ws b) ≡ m
           → carryOut F (joinPlan n m (v JOIN) d a b) ws top .verdict .status ≡ 0

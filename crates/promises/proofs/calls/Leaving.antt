@@ -30,8 +30,10 @@ use Rattle.promises.proofs.calls.Touching.{symbol-only, wrap-only, run-
 at-copy : (ws : List ℕ) (c x : ℕ) → 2 * c + 1 < length ws → at (copy ws c x) c ≡ at ws x
 unfolding at copy
 at-copy ws c x h =
-    rw (firstWord-same ws c (firstWord ws x) (secondWord ws x) h,
-    secondWord-same ws c (firstWord ws x) (secondWord ws x) h) refl
+    rw (
+      firstWord-same ws c (firstWord ws x) (secondWord ws x) h,
+      secondWord-same ws c (firstWord ws x) (secondWord ws x) h,
+    ) refl
 
 module _ (F : ℕ) (ws : List ℕ) (top : ℕ) (p : 0 < F) (s : Sound F ws top) (d a b : ℕ) (hd : d < F) where
   abbrev Left : ℕ → ℕ → Done → Type 0

@@ -11,9 +11,8 @@ use mathlib.Core.List.{List}
 use Prim.Native.Nat.{ℕ, zero, suc, _+_, _≤_, _<_}
 use native.Mathlib.Nat.{add-zero}
 use native.Mathlib.Omega.{arith}
-use lib.Dec.{ltb, eqb}
+use lib.Dec.{ltb}
 use borrow.Author.Tests.{lt-ltb, le-ltb, ltb-false, lt-leb, eq-eqb, ne-eqb}
-use Rattle.meaning.specs.Limits.{codeTest}
 use Rattle.meaning.specs.Expr.{Expr, nothing, symbol, parens, append, terms}
 use Rattle.meaning.specs.Sound.{IsCode, capacity, Sound}
 use Rattle.meaning.specs.Meaning.{meaning}
@@ -22,7 +21,7 @@ use Rattle.meaning.specs.Collected.{collected}
 use Rattle.meaning.specs.Verdicts.{Done, done}
 use Rattle.meaning.specs.Operands.{ops, opAt, uses, wrong11, wrong12, wrong13, fault}
 use Rattle.meaning.specs.Call.{joinNeed, step}
-use Rattle.meaning.specs.Effect.{Effect, effect, sets, becomes, liveForRoom, callStatus}
+use Rattle.meaning.specs.Effect.{effect, sets, becomes, liveForRoom, callStatus}
 use Rattle.meaning.proofs.operands.Uses.{right}
 use Rattle.meaning.proofs.effect.Steps.{no-need, step-meets}
 use Rattle.promises.specs.Outright.{Sets, SetsInRoom, Refuses, CallsOutright}
@@ -80,7 +79,7 @@ module _ (F : ℕ) (p : 0 < F) (ws : List ℕ) (top : ℕ) (s : Sound F ws top) 
       sets-d h l =
           let m = step-meets F ws top p s o d a b in
           let z : r .verdict .status ≡ 0 =
-              m .status ∙ rw (f, e, le-ltb (capacity ws) (F + liveForRoom F ws top o d a b + n) l) refl in
+          m .status ∙ rw (f, e, le-ltb (capacity ws) (F + liveForRoom F ws top o d a b + n) l) refl in
           record {
             status = z;
             value = m .value ∙ rw (z, e) refl;
@@ -125,7 +124,7 @@ module _ (F : ℕ) (p : 0 < F) (ws : List ℕ) (top : ℕ) (s : Sound F ws top) 
       let g = no-need F ws top p s 0 a 0 (opAt o) (right F o 0 a 0 f) in
       let y = stays F ws top p s in
       let e : step F ws top o 0 a 0 .verdict .status ≡ 0 =
-          step-meets F ws top p s o 0 a 0 .status ∙ rw (f, u, z, ← g) refl in
+      step-meets F ws top p s o 0 a 0 .status ∙ rw (f, u, z, ← g) refl in
       by-parts (step F ws top o 0 a 0) (cond x (collected F ws top) ws) (cond x (F + live F ws top) top) 0
       (effect F ws top o 0 a 0 .value) e
       (k .value ∙ rw e refl) (k .asked e l ∙ rw (c, z, y) refl)
