@@ -1,0 +1,214 @@
+// edits.rs INPUT: runs the input of a must-fail edit on the store's code, and prints a line for
+// each answer, its name and its numbers. edits.rs INPUT ANSWER: the answer that an edit says,
+// `NAME: WRONG, not RIGHT`, as a theorem of the definitions: that they give WRONG.
+// tools/edits-test compiles this file with the crates beside it, as modules of Rust.
+//
+// An input is steps with commas between them:
+//     N cells         a fresh store of N cells is lent, with `top` 16
+//     N words         N words are lent, each of them 7, with `top` 16
+//     cell C A B      cell C becomes the words A and B
+//     top N           `top` becomes N
+//     answers N       the next batch gets N words for its answers, and not two more than it needs;
+//                     each is 7
+//     SYMBOL 0 65     a call, as tools/batch has them; those that follow each other are one batch
+//     check, fresh, collect, look R    the other functions of the library
+//     bytes N B ..    the program reads N bytes: these, then zeros
+//     word W in N     the four bytes of W go to a space of N bytes, each of them 7, then zeros
+// A batch answers with its status and value, `run`; if it is run, with those of each call; with the
+// words of the answer space after those, `answers`; and with `top`. `check`, `fresh` and `collect`
+// answer with status, value and `top`, a look with its two word numbers. The cells come last.
+#![allow(warnings)]
+mod build;
+mod bytes;
+mod calls;
+mod capi;
+mod collect;
+mod meaning;
+mod serve;
+mod store;
+mod words;
+
+// Each call, by its number, with the places of its operands. CALL has any words.
+const CALLS: [(&str, &[usize]); 12] = [
+    ("CLEAR", &[1]),
+    ("COPY", &[1, 2]),
+    ("SYMBOL", &[1, 2]),
+    ("WRAP", &[1, 2]),
+    ("JOIN", &[1, 2, 3]),
+    ("HEAD", &[1, 2]),
+    ("REST", &[1, 2]),
+    ("OPEN", &[1, 2]),
+    ("LENGTH", &[2]),
+    ("FIRST", &[2]),
+    ("LIVE", &[]),
+    ("COLLECT", &[]),
+];
+
+fn call_words(name: &str, operands: &[u32]) -> Vec<u32> {
+    if name == "CALL" {
+        return operands.to_vec();
+    }
+    let number = CALLS.iter().position(|c| c.0 == name);
+    let number = number.unwrap_or_else(|| panic!("no call is `{name}`"));
+    let places = CALLS[number].1;
+    assert_eq!(places.len(), operands.len(), "operands of {name}");
+    let mut call = vec![number as u32, 0, 0, 0];
+    places.iter().zip(operands).for_each(|(&p, &w)| call[p] = w);
+    call
+}
+
+// A list of the definitions.
+fn list(numbers: &[u32]) -> String {
+    numbers.iter().map(|n| format!("{n} ∷ ")).collect::<String>() + "[]"
+}
+
+// What is lent, with the terms of the definitions for its words and its `top`.
+struct Lent {
+    words: Vec<u32>,
+    top: usize,
+    ws: String,
+    t: String,
+    space: Option<usize>,
+    batch: Vec<(String, Vec<u32>)>,
+    said: Option<String>,
+}
+
+impl Lent {
+    // One answer, and the term for it: a line, or the theorem if an edit says something of it.
+    fn say(&self, name: &str, numbers: &[u32], term: String) {
+        let right = numbers.iter().map(u32::to_string).collect::<Vec<_>>().join(" ");
+        let Some(said) = &self.said else {
+            println!("{name}\t{right}");
+            return;
+        };
+        let wrong = said
+            .strip_prefix(&format!("{name}: "))
+            .and_then(|s| s.strip_suffix(&format!(", not {right}")));
+        if let Some(wrong) = wrong.filter(|&w| w != right) {
+            let wrong: Vec<u32> = wrong.split(' ').map(|n| n.parse().unwrap()).collect();
+            println!("wrong : T (same ({term}) ({}))", list(&wrong));
+        }
+    }
+
+    // An answer to collecting or to a fresh store, by the term for it.
+    fn answered(&mut self, name: &str, a: capi::Answer, done: String) {
+        let term = format!("{done} .verdict .status ∷ {done} .verdict .value ∷ {done} .top ∷ []");
+        self.say(name, &[a.status, a.value, a.top as u32], term);
+        self.left(a.top, done);
+    }
+
+    // The store and `top` that a function leaves, by the term for what it does.
+    fn left(&mut self, top: usize, done: String) {
+        self.top = top;
+        self.ws = format!("({done} .words)");
+        self.t = format!("({done} .top)");
+    }
+
+    // The calls since the last other step, as one batch.
+    fn run(&mut self) {
+        let batch = std::mem::take(&mut self.batch);
+        if batch.is_empty() {
+            return;
+        }
+        let calls: Vec<u32> = batch.iter().flat_map(|c| c.1.clone()).collect();
+        let space = self.space.take().unwrap_or(calls.len() / 2 + 2);
+        let mut answers = vec![7; space];
+        let (ws, t, list) = (&self.ws, &self.t, list(&calls));
+        let done = format!("(batch 16 {ws} {t} ({list}) (replicate {space} 7))");
+        let a = capi::zelmotar_run(&mut self.words, self.top, &calls, &mut answers);
+        let verdict = format!("{done} .verdict .status ∷ {done} .verdict .value ∷ []");
+        self.say("run", &[a.status, a.value], verdict);
+        let used = if a.status == 0 { 2 * batch.len() } else { 0 };
+        for (i, pair) in answers[..used].chunks(2).enumerate() {
+            self.say(&batch[i].0, pair, format!("take 2 (drop {} ({done} .answers))", 2 * i));
+        }
+        self.say("answers", &answers[used..], format!("drop {used} ({done} .answers)"));
+        self.say("top", &[a.top as u32], format!("{done} .top ∷ []"));
+        self.left(a.top, done);
+    }
+
+    fn step(&mut self, text: &str) {
+        let numbers: Vec<u32> = text.split(' ').filter_map(|w| w.parse().ok()).collect();
+        let name = text.split(' ').find(|w| w.parse::<u32>().is_err()).expect("a step has a name");
+        if name.to_uppercase() == name {
+            self.batch.push((text.to_string(), call_words(name, &numbers)));
+            return;
+        }
+        self.run();
+        let (ws, t) = (self.ws.clone(), self.t.clone());
+        match (name, &numbers[..]) {
+            ("cells", &[n]) => {
+                self.words = vec![0; 2 * n as usize];
+                (0..16).for_each(|c| self.words[2 * c + 1] = 1 << 31);
+                self.ws = format!("(fresh 16 {n})");
+            }
+            ("words", &[n]) => {
+                self.words = vec![7; n as usize];
+                self.ws = format!("(replicate {n} 7)");
+            }
+            ("cell", &[c, a, b]) => {
+                self.words[2 * c as usize..][..2].copy_from_slice(&[a, b]);
+                self.ws = format!("(putCell {ws} {c} {a} {b})");
+            }
+            ("top", &[n]) => {
+                self.top = n as usize;
+                self.t = n.to_string();
+            }
+            ("answers", &[n]) => self.space = Some(n as usize),
+            ("check", []) => {
+                let a = capi::zelmotar_check(&self.words, self.top);
+                let v = format!("(check 16 {ws} {t})");
+                let term = format!("{v} .status ∷ {v} .value ∷ {t} ∷ []");
+                self.say(text, &[a.status, a.value, a.top as u32], term);
+            }
+            ("fresh", []) => {
+                let a = capi::zelmotar_fresh(&mut self.words);
+                self.answered(text, a, format!("(freshIn 16 {ws})"));
+            }
+            ("collect", []) => {
+                let a = capi::zelmotar_collect(&mut self.words, self.top);
+                self.answered(text, a, format!("(collectIn 16 {ws} {t})"));
+            }
+            ("look", &[r]) => {
+                let place = capi::zelmotar_look(&self.words, self.top, r as usize);
+                let s = format!("(lookSpan 16 {ws} {t} {r})");
+                let term = format!("{s} .from ∷ {s} .to ∷ []");
+                self.say(text, &[place.from as u32, place.to as u32], term);
+            }
+            ("bytes", [n, first @ ..]) => program(*n as usize, first),
+            ("word", &[w, n]) => self.word(w, n as usize),
+            _ => panic!("no step is `{text}`"),
+        }
+    }
+
+    fn word(&self, w: u32, n: usize) {
+        let mut out = vec![7; n];
+        let pen = bytes::writing::put_word(&mut out, bytes::writing::start(), w);
+        bytes::writing::zero_from(&mut out, pen.place);
+        let out: Vec<u32> = out.iter().map(|&b| b as u32).collect();
+        self.say("bytes", &out, String::new());
+        self.say("short", &[pen.short as u32], String::new());
+    }
+}
+
+fn program(n: usize, first: &[u32]) {
+    let mut input: Vec<u8> = first.iter().map(|&b| b as u8).collect();
+    input.resize(n, 0);
+    let mut out = [0; serve::OUTPUT];
+    let n = serve::serve(&input, &mut out);
+    String::from_utf8_lossy(&out[..n]).lines().for_each(|line| println!("output\t{line}"));
+}
+
+fn main() {
+    let mut args = std::env::args().skip(1);
+    let input = args.next().expect("an input");
+    let (ws, t) = ("[]".to_string(), "16".to_string());
+    let mut lent =
+        Lent { words: vec![], top: 16, ws, t, space: None, batch: vec![], said: args.next() };
+    input.split(", ").for_each(|step| lent.step(step));
+    lent.run();
+    for (c, cell) in lent.words.chunks(2).enumerate() {
+        let term = format!("firstWord {0} {c} ∷ secondWord {0} {c} ∷ []", lent.ws);
+        lent.say(&format!("cell {c}"), cell, term);
+    }
+}
