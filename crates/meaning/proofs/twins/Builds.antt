@@ -81,68 +81,84 @@ module _ (F : ℕ) (ws : List ℕ) (top : ℕ) (p : 0 < F) (s : Sound F ws top) 
 
   -- ---- JOIN
 
+  -- a copy of the reached cell c at y, and of its new place at y′
+  copy-laid : (m : ℕ) (v v′ : List ℕ) (y y′ c c′ : ℕ) → In c (reached F ws top) → new F ws top c ≡ c′
+      → at v y ≡ at ws c → at v′ y′ ≡ at ws′ c′
+      → Along (Kept F ws top p s m) (far F ws top p s m) (at v y)
+      × (at v′ y′ ≡ mapEnds (far F ws top p s m) (at v y))
+  copy-laid m v v′ y y′ c c′ i z e e′ =
+      let g = good F ws top p s .heap c (asc-in F c (reached F ws top) (reached-asc F ws top p s) i)
+          (reached-below F ws top p s c i) in
+      rw (e, e′) (old-along F ws top p s m c (at ws c) (at ws′ c′) g (along-heap F ws top p s c i)
+      (ap (λ (q : ℕ). at ws′ q) (sym z) ∙ at-new F ws top p s c i))
+
+  -- two runs, from l to r and from x to y, and their new places
+  module _ (l r x y : ℕ) (t : BracketIn F top (ends l r)) (u : BracketIn F top (ends x y))
+      (a : Along P (new F ws top) (ends l r)) (b : Along P (new F ws top) (ends x y))
+      (h : 2 * (top + ((suc r - l) + (suc y - x))) ≤ length ws) where
+    abbrev n : ℕ
+    n = suc r - l
+
+    abbrev k : ℕ
+    k = suc y - x
+
+    abbrev v : List ℕ
+    v = copies (copies ws top l n) (top + n) x k
+
+    abbrev v′ : List ℕ
+    v′ = copies (copies ws′ top′ (new F ws top l) n) (top′ + n) (new F ws top x) k
+
+    size-l : suc (new F ws top r) - new F ws top l ≡ n
+    size-l = size-moved F ws top p s top (ends l r) t a
+
+    size-x : suc (new F ws top y) - new F ws top x ≡ k
+    size-x = size-moved F ws top p s top (ends x y) u b
+
+    runs : Both F ws top l n x k v
+    runs = both F ws top l n x k p s (t .0) (omega (arith, t .1, t .2)) (u .0) (omega (arith, u .1, u .2)) h
+
+    runs′ : Both F ws′ top′ (new F ws top l) n (new F ws top x) k v′
+    runs′ =
+        let t′ = moved-in F ws top p s top l r t a in
+        let u′ = moved-in F ws top p s top x y u b in
+        both F ws′ top′ (new F ws top l) n (new F ws top x) k p s′ (t′ .0) (omega (arith, t′ .1, t′ .2, size-l))
+        (u′ .0) (omega (arith, u′ .1, u′ .2, size-x)) (room′ (n + k) h)
+
+    laid : (j : ℕ) → j < n + k → (j < n) ⊎ (n ≤ j)
+        → Along (Kept F ws top p s (n + k)) (far F ws top p s (n + k)) (at v (top + j))
+        × (at v′ (top′ + j) ≡ mapEnds (far F ws top p s (n + k)) (at v (top + j)))
+    laid j m (inl g) =
+        let q = a j (omega arith) in
+        copy-laid (n + k) v v′ (top + j) (top′ + j) (l + j) (new F ws top l + j) (q .0) (q .1) (runs .one j g)
+        (runs′ .one j g)
+    laid j m (inr g) =
+        let i : ℕ = j - n in
+        let e : n + i ≡ j = omega arith in
+        let q = b i (omega arith) in
+        copy-laid (n + k) v v′ (top + j) (top′ + j) (x + i) (new F ws top x + i) (q .0) (q .1)
+        (rw e at (runs .two i (omega arith))) (rw e at (runs′ .two i (omega arith)))
+
+    runs-agree : (d : ℕ) → d < F → 0 < n
+        → Agree F (newRunOf d (ends l r) (ends x y) ws top)
+        (newRunOf d (mapEnds (new F ws top) (ends l r)) (mapEnds (new F ws top) (ends x y)) ws′ top′)
+    unfolding newRunOf
+    runs-agree d hd z =
+        rw (size-l, size-x)
+        (record {
+          verdict = refl;
+          same = new-both F ws top p s (n + k) v v′ (runs .more) (runs′ .more) (λ j m. laid j m (lt-or-ge j n)) d hd
+              (omega arith);
+        })
+
   run-agree : (d : ℕ) → d < F → (x y : Cell) → BracketIn F top x → BracketIn F top y → Along P (new F ws top) x
       → Along P (new F ws top) y
       → 0 < size x → 0 < size y → 2 * (top + (size x + size y)) ≤ length ws
       → Agree F (newRunOf d x y ws top) (newRunOf d (mapEnds (new F ws top) x) (mapEnds (new F ws top) y) ws′ top′)
-  unfolding newRunOf
   run-agree d l (code c) y t u a b z w r = absurd t
   run-agree d l empty y t u a b z w r = absurd (not-suc-le-zero z)
   run-agree d l (ends x₁ x₂) (code c) t u a b z w r = absurd u
   run-agree d l (ends x₁ x₂) empty t u a b z w r = absurd (not-suc-le-zero w)
-  run-agree d l (ends x₁ x₂) (ends y₁ y₂) t u a b z w r =
-      let n : ℕ = suc x₂ - x₁ in
-      let k : ℕ = suc y₂ - y₁ in
-      let m = both F ws top x₁ n y₁ k p s (t .0) (omega (arith, t .1, t .2)) (u .0) (omega (arith, u .1, u .2)) r in
-      let t′ = moved-in F ws top p s top x₁ x₂ t a in
-      let u′ = moved-in F ws top p s top y₁ y₂ u b in
-      let e = size-moved F ws top p s top (ends x₁ x₂) t a in
-      let f = size-moved F ws top p s top (ends y₁ y₂) u b in
-      let m′ =
-      both F ws′ top′ (new F ws top x₁) n (new F ws top y₁) k p s′ (t′ .0) (omega (arith, t′ .1, t′ .2, e)) (u′ .0)
-      (omega (arith, u′ .1, u′ .2, f)) (room′ (n + k) r) in
-      rw (e, f)
-      (record {
-        verdict = refl;
-        same =
-            new-both F ws top p s (n + k) (copies (copies ws top x₁ n) (top + n) y₁ k)
-            (copies (copies ws′ top′ (new F ws top x₁) n) (top′ + n) (new F ws top y₁) k) (m .more) (m′ .more)
-            (λ j h. laid (copies (copies ws top x₁ n) (top + n) y₁ k)
-            (copies (copies ws′ top′ (new F ws top x₁) n) (top′ + n) (new F ws top y₁) k) j h (lt-or-ge j n) m m′) d l
-            (omega arith);
-      })
-    where
-      -- a copy of the reached cell c at y, and of its new place at y′
-      copy-laid : (m : ℕ) (v v′ : List ℕ) (y y′ c c′ : ℕ) → In c (reached F ws top) → new F ws top c ≡ c′
-          → at v y ≡ at ws c
-          → at v′ y′ ≡ at ws′ c′
-          → Along (Kept F ws top p s m) (far F ws top p s m) (at v y)
-          × (at v′ y′ ≡ mapEnds (far F ws top p s m) (at v y))
-      copy-laid m v v′ y y′ c c′ i z e e′ =
-          let g = good F ws top p s .heap c (asc-in F c (reached F ws top) (reached-asc F ws top p s) i)
-          (reached-below F ws top p s c i) in
-          rw (e, e′) (old-along F ws top p s m c (at ws c) (at ws′ c′) g (along-heap F ws top p s c i)
-          (ap (λ (q : ℕ). at ws′ q) (sym z) ∙ at-new F ws top p s c i))
-
-      laid : (v v′ : List ℕ) (j : ℕ) → j < (suc x₂ - x₁) + (suc y₂ - y₁) → (j < suc x₂ - x₁) ⊎ (suc x₂ - x₁ ≤ j)
-          → Both F ws top x₁ (suc x₂ - x₁) y₁ (suc y₂ - y₁) v
-          → Both F ws′ top′ (new F ws top x₁) (suc x₂ - x₁) (new F ws top y₁) (suc y₂ - y₁) v′
-          → Along (Kept F ws top p s ((suc x₂ - x₁) + (suc y₂ - y₁))) (far F ws top p s ((suc x₂ - x₁) + (suc y₂ - y₁)))
-          (at v (top + j))
-          × (at v′ (top′ + j) ≡ mapEnds (far F ws top p s ((suc x₂ - x₁) + (suc y₂ - y₁))) (at v (top + j)))
-      laid v v′ j h (inl g) m m′ =
-          let q = a j (omega arith) in
-          copy-laid ((suc x₂ - x₁) + (suc y₂ - y₁)) v v′ (top + j) (top′ + j) (x₁ + j) (new F ws top x₁ + j) (q .0)
-          (q .1)
-          (m .one j g) (m′ .one j g)
-      laid v v′ j h (inr g) m m′ =
-          let i : ℕ = j - (suc x₂ - x₁) in
-          let e : (suc x₂ - x₁) + i ≡ j = omega arith in
-          let u : i < suc y₂ - y₁ = omega arith in
-          let q = b i (omega arith) in
-          copy-laid ((suc x₂ - x₁) + (suc y₂ - y₁)) v v′ (top + j) (top′ + j) (y₁ + i) (new F ws top y₁ + i) (q .0)
-          (q .1)
-          (rw e at (m .two i u)) (rw e at (m′ .two i u))
+  run-agree d l (ends x₁ x₂) (ends y₁ y₂) t u a b z w r = runs-agree x₁ x₂ y₁ y₂ t u a b r d l z
 
   pub run-same : (d a b : ℕ) → d < F → a < F → b < F → 0 < size (at ws a) → 0 < size (at ws b)
       → 2 * (top + (size (at ws a) + size (at ws b))) ≤ length ws
