@@ -12,7 +12,7 @@ use Rattle.meaning.specs.Actions.{put, copy, share, head, rest, openTerm
 use Rattle.meaning.specs.Actions.{newSymbol, newBracket, newRunOf, newRun}
 use Rattle.meaning.specs.Call.{sought, planOf, lacks, roomWords, roomTop, withRoom, carryOut, perform, stepAfter}
 use Rattle.meaning.specs.Call.{step}
-use Rattle.meaning.specs.Program.{written, refusal, output, program}
+use Rattle.meaning.specs.Program.{written, refusal, output, inputFault, program}
 use Rattle.meaning.specs.Rows.{verdictTest, doneTest, ranTest, rowTest, p1, p1Lines, p2, p3Heap, p3, p6, lone, rows}
 use Rattle.meaning.specs.Rows.{RowsRight}
 
@@ -21,5 +21,5 @@ unfolding limit codeTest programCells programBytes at reached live newAddress co
     bracketTest termTest cellTest lengthTest topTest verdictAt check fresh collectIn ops opAt uses wrong11 wrong12
     wrong13 fault put copy share head rest openTerm openFirst codeTerm codeFirst newSymbol newBracket newRunOf newRun
     sought planOf lacks roomWords roomTop withRoom carryOut perform stepAfter step decimal written refusal output
-    program verdictTest doneTest ranTest rowTest p1 p1Lines p2 p3Heap p3 p6 lone rows
+    inputFault program verdictTest doneTest ranTest rowTest p1 p1Lines p2 p3Heap p3 p6 lone rows
 rows-right = tt

@@ -8,6 +8,7 @@ use lib.ListN.{length, getD, drop}
 use Rattle.bytes.specs.Little.{wordsOf}
 use Rattle.bytes.specs.Decimal.{decimal}
 use Rattle.meaning.specs.Limits.{programCells, programBytes}
+use Rattle.meaning.specs.Verdicts.{onZero}
 use Rattle.meaning.specs.Fresh.{fresh}
 use Rattle.meaning.specs.Batch.{Ran, runs}
 
@@ -29,10 +30,15 @@ refusal s v = 114 ∷ 101 ∷ 102 ∷ 117 ∷ 115 ∷ 101 ∷ 100 ∷ 32 ∷ dec
 unfoldable pub output : ℕ → ℕ → List ℕ → List ℕ
 output F cells calls = written (runs F (fresh F cells) F calls)
 
--- the first word is the capacity, the others are the calls
+-- what is wrong with an input: 1 for its capacity, which is its first word, then 4 for its length, else 0
+unfoldable pub inputFault : ℕ → List ℕ → ℕ
+inputFault F input =
+    let cells = getD (wordsOf input) 0 0 in
+    cond (ltb (length input) 4 || ltb cells F || ltb programCells cells) 1
+    (cond (ltb programBytes (length input) || ltb 0 ((length input - 4) % 16)) 4 0)
+
+-- the words after the capacity are the calls
 unfoldable pub program : ℕ → List ℕ → List ℕ
 program F input =
-    let cells = getD (wordsOf input) 0 0 in
-    cond (ltb (length input) 4 || ltb cells F || ltb programCells cells) (refusal 1 0)
-    (cond (ltb programBytes (length input) || ltb 0 ((length input - 4) % 16)) (refusal 4 0)
-    (output F cells (drop 1 (wordsOf input))))
+    onZero (inputFault F input) (output F (getD (wordsOf input) 0 0) (drop 1 (wordsOf input)))
+    (refusal (inputFault F input) 0)

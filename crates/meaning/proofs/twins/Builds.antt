@@ -88,7 +88,7 @@ module _ (F : ℕ) (ws : List ℕ) (top : ℕ) (p : 0 < F) (s : Sound F ws top) 
       × (at v′ y′ ≡ mapEnds (far F ws top p s m) (at v y))
   copy-laid m v v′ y y′ c c′ i z e e′ =
       let g = good F ws top p s .heap c (asc-in F c (reached F ws top) (reached-asc F ws top p s) i)
-          (reached-below F ws top p s c i) in
+      (reached-below F ws top p s c i) in
       rw (e, e′) (old-along F ws top p s m c (at ws c) (at ws′ c′) g (along-heap F ws top p s c i)
       (ap (λ (q : ℕ). at ws′ q) (sym z) ∙ at-new F ws top p s c i))
 

@@ -17,14 +17,14 @@ use Rattle.meaning.specs.Operands.{ops, opAt, uses, wrong11, wrong12, wrong13, 
 use Rattle.meaning.specs.Actions.{put, codeTerm, codeFirst, newSymbol}
 use Rattle.meaning.specs.Call.{sought, planOf, lacks, roomWords, roomTop, withRoom, carryOut, perform, stepAfter, step}
 use Rattle.meaning.specs.Batch.{Outcome, runs as calling, ended, AllowedCalls}
-use Rattle.meaning.specs.Program.{linesOf, written, refusal, output, program}
+use Rattle.meaning.specs.Program.{linesOf, written, refusal, output, inputFault, program}
 use Rattle.meaning.specs.Rows.{rowTest}
 use Rattle.meaning.proofs.Lists.{lt-or-ge}
 use Rattle.meaning.proofs.fresh.Fresh.{fresh-sound}
 use Rattle.meaning.proofs.batch.Batches.{runs-length}
 use Rattle.meaning.proofs.batch.Cases.{batch-run, batch-answers, batch-top}
 use Rattle.meaning.proofs.program.Tests.{too-short, too-small, too-large, too-long, broken, right}
-use Rattle.meaning.proofs.program.Tests.{program-take, program-cells}
+use Rattle.meaning.proofs.program.Tests.{program-refused, program-output, program-take, program-cells}
 use Rattle.promises.specs.Table.{Not}
 use Rattle.promises.specs.Requests.{verdicts}
 use Rattle.promises.specs.Program.{capacityIn, CapacityRule, BytesRule, callsIn, batchIn, refusedOne, refusedFour}
@@ -76,10 +76,11 @@ module _ (F : ℕ) (input : List ℕ) where
   refused-one : Not (CapacityRule F input) → program F input ≡ refusedOne
   unfolding refusal decimal
   refused-one n =
-      go (lt-or-ge (length input) 4) (lt-or-ge (capacityIn input) F) (lt-or-ge programCells (capacityIn input))
+      program-refused F input 1 (sym (go (lt-or-ge (length input) 4) (lt-or-ge (capacityIn input) F)
+      (lt-or-ge programCells (capacityIn input)))) (omega arith)
     where
       go : (length input < 4) ⊎ (4 ≤ length input) → (capacityIn input < F) ⊎ (F ≤ capacityIn input)
-          → (programCells < capacityIn input) ⊎ (capacityIn input ≤ programCells) → program F input ≡ refusal 1 0
+          → (programCells < capacityIn input) ⊎ (capacityIn input ≤ programCells) → inputFault F input ≡ 1
       go (inl a) b c = too-short F input a
       go (inr a) (inl b) c = too-small F input a (capacityIn input) (capacity-word input a) b
       go (inr a) (inr b) (inl c) = too-large F input a (capacityIn input) (capacity-word input a) b c
@@ -87,10 +88,12 @@ module _ (F : ℕ) (input : List ℕ) where
 
   refused-four : CapacityRule F input → Not (BytesRule input) → program F input ≡ refusedFour
   unfolding refusal decimal
-  refused-four (a, b, c) n = go (lt-or-ge programBytes (length input)) (lt-or-ge 0 ((length input - 4) % 16))
+  refused-four (a, b, c) n =
+      program-refused F input 4 (sym (go (lt-or-ge programBytes (length input)) (lt-or-ge 0 ((length input - 4) % 16))))
+      (omega arith)
     where
       go : (programBytes < length input) ⊎ (length input ≤ programBytes)
-          → (0 < (length input - 4) % 16) ⊎ ((length input - 4) % 16 ≤ 0) → program F input ≡ refusal 4 0
+          → (0 < (length input - 4) % 16) ⊎ ((length input - 4) % 16 ≤ 0) → inputFault F input ≡ 4
       go (inl d) f = too-long F input a (capacityIn input) (capacity-word input a) b c d
       go (inr d) (inl f) = broken F input a (capacityIn input) (capacity-word input a) b c d f
       go (inr d) (inr f) = absurd (n (d, omega arith))
@@ -140,8 +143,9 @@ module _ (F : ℕ) (input : List ℕ) (r : CapacityRule F input) (b : BytesRule 
 
   is-output : program F input ≡ output F cells calls
   is-output =
-      right F input (r .0) cells (capacity-word input (r .0)) (r .1) (r .2) (b .0) (omega (arith, b .1))
-      ∙ ap (output F cells) (calls-words input)
+      program-output F input (right F input (r .0) cells (capacity-word input (r .0)) (r .1) (r .2) (b .0)
+      (omega (arith, b .1)))
+      ∙ rw (← capacity-word input (r .0), calls-words input) refl
 
   batch-written : BatchWritten F input (program F input)
   unfolding output written ended
@@ -168,7 +172,7 @@ program-reads = program-take
 pub program-rows : ProgramRows
 unfolding limit codeTest programCells programBytes at reached live fresh ops opAt uses wrong11 wrong12 wrong13 fault
     put codeTerm codeFirst newSymbol sought planOf lacks roomWords roomTop withRoom carryOut perform stepAfter step decimal
-    written refusal output program rowTest
+    written refusal output inputFault program rowTest
 program-rows = tt
 
 pub one-program : OneProgram

@@ -36,7 +36,7 @@ use Rattle.meaning.specs.Actions.{put, copy, share, head, rest, openTerm, openF
 use Rattle.meaning.specs.Actions.{newBracket, newRunOf, newRun}
 use Rattle.meaning.specs.Call.{sought, planOf, lacks, roomWords, roomTop, withRoom, carryOut, perform, stepAfter, step}
 use Rattle.meaning.specs.Batch.{Outcome, ended, callsTest, batchOf, batch}
-use Rattle.meaning.specs.Program.{written, refusal, output, program}
+use Rattle.meaning.specs.Program.{written, refusal, output, inputFault, program}
 use Rattle.meaning.specs.Rows.{same}
 
 data Case : Type 0 where
@@ -78,7 +78,7 @@ unfolding limit codeTest callsLimit programCells programBytes at reached live ne
     bracketTest termTest cellTest lengthTest topTest verdictAt check fresh freshIn collectIn spanOf
     lookSpan ops opAt uses wrong11 wrong12 wrong13 fault put copy share head rest openTerm openFirst codeTerm
     codeFirst newSymbol newBracket newRunOf newRun sought planOf lacks roomWords roomTop withRoom carryOut perform
-    stepAfter step ended callsTest batchOf batch decimal written refusal output program verdict outcome left span
+    stepAfter step ended callsTest batchOf batch decimal written refusal output inputFault program verdict outcome left span
     right every";
 
 /// A list of numbers in antt.
