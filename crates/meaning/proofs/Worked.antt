@@ -13,7 +13,8 @@ use Rattle.meaning.specs.Actions.{newSymbol, newBracket, newRunOf, newRu
 use Rattle.meaning.specs.Call.{sought, planOf, lacks, roomWords, roomTop, withRoom, carryOut, perform, stepAfter}
 use Rattle.meaning.specs.Call.{step}
 use Rattle.meaning.specs.Program.{written, refusal, output, inputFault, program}
-use Rattle.meaning.specs.Rows.{verdictTest, doneTest, ranTest, rowTest, p1, p1Lines, p2, p3Heap, p3, p6, lone, rows}
+use Rattle.meaning.specs.Rows.{verdictTest, doneTest, ranTest, rowTest, p1, p1Lines, p2, p3Heap, p3, p6, lone}
+use Rattle.meaning.specs.Rows.{rows}
 use Rattle.meaning.specs.Rows.{RowsRight}
 
 pub rows-right : RowsRight firstHeapCell

@@ -110,7 +110,8 @@ rows F =
     -- of the rows of SCOPE 7.2: CLEAR of the last register, of one more, and with a third word of 1
     runsTo (fresh F F) F (0 ∷ (F - 1) ∷ 0 ∷ 0 ∷ 0 ∷ F ∷ 0 ∷ 0 ∷ 0 ∷ 0 ∷ 1 ∷ 0 ∷ []) (0 ∷ 0 ∷ 11 ∷ 0 ∷ 12 ∷ 0 ∷ [])
     (fresh F F) F ∷
-    -- in P3: COPY 1 0, REST 2 0, OPEN 3 0, which share; and CLEAR of one register too many with a stray word, 11 before 12
+    -- in P3: COPY 1 0, REST 2 0, OPEN 3 0, which share; and CLEAR of one register too many with a stray word, 11
+    -- before 12
     runsTo (p3 F) (6 + F) (1 ∷ 1 ∷ 0 ∷ 0 ∷ 6 ∷ 2 ∷ 0 ∷ 0 ∷ 7 ∷ 3 ∷ 0 ∷ 0 ∷ 0 ∷ F ∷ 1 ∷ 0 ∷ [])
     (0 ∷ 0 ∷ 0 ∷ 0 ∷ 0 ∷ 0 ∷ 11 ∷ 0 ∷ [])
     ((4 + F) ∷ bracketTo (5 + F) ∷ (4 + F) ∷ bracketTo (5 + F) ∷ (5 + F) ∷ bracketTo (5 + F) ∷ (1 + F) ∷

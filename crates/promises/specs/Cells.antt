@@ -1,5 +1,7 @@
--- Demand 2, cells: what a call that is done leaves in register d, in the new cells and everywhere else (SCOPE 4.2, 4.3).
--- w is the store in which it acts, t the first new cell; a register's bracket has its first cell and its size. In order:
+-- Demand 2, cells: what a call that is done leaves in register d, in the new cells and everywhere else (SCOPE 4.2,
+-- 4.3).
+-- w is the store in which it acts, t the first new cell; a register's bracket has its first cell and its size. In
+-- order:
 --   dCells, newCells   d's cell and new cell number j, by a row for each operation that sets d
 --   OnlyThere          no other cell changes
 --   Leaves             all three

@@ -1,4 +1,5 @@
--- Demand 2, the twelve outright: on a sound store each operation, by its number and with operands that are right, does to
+-- Demand 2, the twelve outright: on a sound store each operation, by its number and with operands that are right, does
+-- to
 -- expressions what SCOPE 4.1 says. In order:
 --   Sets, SetsInRoom, Refuses   what may come of a call
 --   Outright                    the twelve

@@ -67,7 +67,8 @@ module _ (F : ℕ) (input : List ℕ) where
   -- a number of one digit
   pub fault-few : inputFault F input ≤ 4
   unfolding inputFault
-  fault-few = go (ltb (length input) 4 || ltb (getD (wordsOf input) 0 0) F || ltb programCells (getD (wordsOf input) 0 0))
+  fault-few =
+      go (ltb (length input) 4 || ltb (getD (wordsOf input) 0 0) F || ltb programCells (getD (wordsOf input) 0 0))
       (ltb programBytes (length input) || ltb 0 ((length input - 4) % 16))
     where
       go : (t u : Bool) → cond t 1 (cond u 4 0) ≤ 4

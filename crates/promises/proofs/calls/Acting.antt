@@ -132,7 +132,8 @@ module _ (F : ℕ) (ws : List ℕ) (top : ℕ) (p : 0 < F) (s : Sound F ws top) 
     Left o y n r =
         Leaves (index o) d a b n (cond y (collected F (v o) top) ws) (cond y (F + lv o) top) (r .words)
 
-    plainly : (o : Op) (r : Done) → Leaves (index o) d a b 0 ws top (r .words) → Left o (ltb (capacity ws) (top + 0)) 0 r
+    plainly : (o : Op) (r : Done) → Leaves (index o) d a b 0 ws top (r .words)
+        → Left o (ltb (capacity ws) (top + 0)) 0 r
     plainly o r h = rw stays h
 
     -- where nothing is collected, the store in which room is sought differs from the store at d alone

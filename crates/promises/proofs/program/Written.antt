@@ -150,7 +150,8 @@ module _ (F : ℕ) (input : List ℕ) (r : CapacityRule F input) (b : BytesRule 
   batch-written : BatchWritten F input (program F input)
   unfolding output written ended
   batch-written = record {
-    ended = ap (λ (o : Outcome). o .verdict) (batch-run F (fresh F cells) F calls space sound list (omega (arith, just)));
+    ended =
+        ap (λ (o : Outcome). o .verdict) (batch-run F (fresh F cells) F calls space sound list (omega (arith, just)));
     many = rw answers
         (let v = verdicts-length (calling F (fresh F cells) F calls .answers) in
         let n = runs-length F (fresh F cells) F calls in
@@ -171,7 +172,8 @@ program-reads = program-take
 
 pub program-rows : ProgramRows
 unfolding limit codeTest programCells programBytes at reached live fresh ops opAt uses wrong11 wrong12 wrong13 fault
-    put codeTerm codeFirst newSymbol sought planOf lacks roomWords roomTop withRoom carryOut perform stepAfter step decimal
+    put codeTerm codeFirst newSymbol sought planOf lacks roomWords roomTop withRoom carryOut perform stepAfter step
+        decimal
     written refusal output inputFault program rowTest
 program-rows = tt
 
