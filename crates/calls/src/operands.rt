@@ -63,6 +63,29 @@ fn any(x: bool, y: bool, z: bool) -> bool
     z
 }
 
+// Whether one of the words d, a and b, used as u, v and w say, gives the call status 11, 12 or 13.
+fn no_register(u: u32, v: u32, w: u32, d: u32, a: u32, b: u32) -> bool
+    ensures { λ r. ⌜ r ≡ (wrong11 firstHeapCell u d || wrong11 firstHeapCell v a || wrong11 firstHeapCell w b) ⌝ }
+{
+    any(
+        is_no_register(u, d),
+        is_no_register(v, a),
+        is_no_register(w, b),
+    )
+}
+
+fn stray(u: u32, v: u32, w: u32, d: u32, a: u32, b: u32) -> bool
+    ensures { λ r. ⌜ r ≡ (wrong12 u d || wrong12 v a || wrong12 w b) ⌝ }
+{
+    any(is_stray(u, d), is_stray(v, a), is_stray(w, b))
+}
+
+fn no_code(u: u32, v: u32, w: u32, d: u32, a: u32, b: u32) -> bool
+    ensures { λ r. ⌜ r ≡ (wrong13 u d || wrong13 v a || wrong13 w b) ⌝ }
+{
+    any(is_no_code(u, d), is_no_code(v, a), is_no_code(w, b))
+}
+
 // A register word that names register r.
 fn names(u: u32, w: u32, r: u32) -> bool
     ensures { λ x. ⌜ x ≡ names u w r ⌝ }
@@ -94,20 +117,13 @@ pub fn fault(o: u32, d: u32, a: u32, b: u32) -> u32
     let u = row[0];
     let v = row[1];
     let w = row[2];
-    let no_register = any(
-        is_no_register(u, d),
-        is_no_register(v, a),
-        is_no_register(w, b),
-    );
-    let stray = any(is_stray(u, d), is_stray(v, a), is_stray(w, b));
-    let no_code = any(is_no_code(u, d), is_no_code(v, a), is_no_code(w, b));
-    if no_register {
+    if no_register(u, v, w, d, a, b) {
         return 11;
     }
-    if stray {
+    if stray(u, v, w, d, a, b) {
         return 12;
     }
-    if no_code {
+    if no_code(u, v, w, d, a, b) {
         return 13;
     }
     0

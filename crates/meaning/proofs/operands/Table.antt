@@ -33,14 +33,15 @@ rows-at (x ∷ y ∷ z ∷ xs) (suc o) k h l =
 
 module _ (o d a b : ℕ) where
   -- from the row that was read
-  pub three-read : (wrong : ℕ → ℕ → Bool) {x y z r : Bool} → 3 * o + 2 < length uses
-      → x ≡ wrong (getD (getD (rows uses) o []) 0 0) d → y ≡ wrong (getD (getD (rows uses) o []) 1 0) a
-      → z ≡ wrong (getD (getD (rows uses) o []) 2 0) b → r ≡ (x || y || z) → three wrong o d a b ≡ r
-  three-read wrong h p q t k =
+  pub three-read : (wrong : ℕ → ℕ → Bool) {r : Bool} → 3 * o + 2 < length uses
+      → (let row = getD (rows uses) o [] in
+      r ≡ (wrong (getD row 0 0) d || wrong (getD row 1 0) a || wrong (getD row 2 0) b))
+      → three wrong o d a b ≡ r
+  three-read wrong h k =
       let u = rows-at uses o 0 h (omega arith) in
       let v = rows-at uses o 1 h (omega arith) in
       let w = rows-at uses o 2 h (omega arith) in
-      simp (k, p, q, t, u, v, w, add-zero)
+      simp (k, u, v, w, add-zero)
 
 -- ---- the operand registers, from the row that was read
 
