@@ -113,7 +113,7 @@ static void limits(void)
                         ZELMOTAR_MOST_CALL_WORDS).status == 4);
 }
 
-/* The bits of a second word: each where document 01 has it, together all of the word. */
+/* The bits of a second word: each where SCOPE 1.2 has it, together all of the word. */
 static void masks(void)
 {
     EXPECT(ZELMOTAR_BRACKET == (uint32_t)1 << 31);
