@@ -39,7 +39,9 @@
 //! # Linking
 //!
 //! The build looks for `libzelmotar.a` in the folder that the environment variable `ZELMOTAR_LIB`
-//! names, else in `target/native` of the repository, where `tools/archive` puts it.
+//! names, which must be an absolute path: cargo builds in the package's folder, wherever it is called.
+//! Where it is not set, or empty, the folder is `target/native` of the repository; there
+//! `tools/archive target/native/libzelmotar.a` puts it.
 
 #![no_std]
 #![warn(missing_docs)]

@@ -181,8 +181,10 @@ impl<W: AsRef<[u32]> + AsMut<[u32]>> Store<W> {
 
     /// Runs a batch of calls and gives one answer for each.
     ///
-    /// A refused call does not stop the calls after it; with [`run_all`](Store::run_all) it does. The
-    /// store collects itself where a call would not fit otherwise, and only there.
+    /// A refused call does not stop the calls after it; with [`run_all`](Store::run_all) it does. So the
+    /// answers are to be looked at, though the compiler, which warns of one that is dropped, does not
+    /// warn of a vector of them. The store collects itself where a call would not fit otherwise, and
+    /// only there.
     ///
     /// # Errors
     ///

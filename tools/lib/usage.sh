@@ -9,6 +9,8 @@
 usage() {
     least=$1 most=$2
     shift 2
+    # The script may go elsewhere before it refuses, so its head is read here.
+    takes=$(sed -n '2s/^# \([^:]*\):.*/\1/p' "$0")
     for word in "$@"; do
         case $word in
         -h | --help)
@@ -25,6 +27,6 @@ usage() {
 
 # refuse WHY: ends with 2. The script's head begins with its name and the words that it takes.
 refuse() {
-    echo "${0##*/}: $1; usage: $(sed -n '2s/^# \([^:]*\):.*/\1/p' "$0")" >&2
+    echo "${0##*/}: $1; usage: $takes" >&2
     exit 2
 }

@@ -3,13 +3,13 @@
 use std::ffi::OsString;
 use std::io::{self, BufRead, IsTerminal, Read, Write};
 
-use zelmotar::Store;
+use zelmotar::{status_text, Store};
 
 use crate::args::{self, Args, Takes};
 use crate::call::Call;
 use crate::input;
 use crate::outcome::{Ended, Outcome, Stop};
-use crate::{run, show, statuses, steps};
+use crate::{run, show, steps};
 
 /// The capacity where none is named.
 const CAPACITY: u32 = 64;
@@ -49,7 +49,7 @@ pub fn command(words: &[OsString], out: &mut dyn Write) -> Ended {
     let mut store = match steps::fresh(capacity.unwrap_or(CAPACITY)) {
         Ok(store) => store,
         Err((status, value)) => {
-            writeln!(out, "refused {status} {value}: {}", statuses::of_batch(status))?;
+            writeln!(out, "refused {status} {value}: {}", status_text(status))?;
             return Ok(Outcome::Refused);
         }
     };

@@ -162,7 +162,7 @@ mod tests {
     #[test]
     fn a_fault_is_found_exactly_where_the_library_finds_damage() {
         let mut fresh = vec![0; 48];
-        raw::fresh(&mut fresh);
+        assert_eq!(raw::fresh(&mut fresh).status, 0);
         let seconds = EDGES.iter().flat_map(|&edge| [edge, edge | BRACKET]);
         let mut damaged = 0;
         for c in 0..24 {

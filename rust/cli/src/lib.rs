@@ -5,7 +5,6 @@
 //!
 //! - [`args`], [`input`], [`outcome`]: arguments, files, and how a command ends
 //! - [`call`], [`batch`]: calls and batches as they are written; [`steps`] runs them one by one
-//! - [`statuses`]: the numbers that come back, in words
 //! - [`dump`]: a store in a file; [`cells`]: what the words of a cell say
 //! - [`run`], [`ask`], [`show`], [`check`], [`draw`]: a command each
 //! - [`svg`], [`plots`]: drawings, and those of docs/BENCHMARKS.md
@@ -27,6 +26,5 @@ pub mod outcome;
 pub mod plots;
 pub mod run;
 pub mod show;
-pub mod statuses;
 pub mod steps;
 pub mod svg;

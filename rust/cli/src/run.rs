@@ -4,7 +4,7 @@ use std::ffi::OsString;
 use std::fs;
 use std::io::Write;
 
-use zelmotar::{Store, REGISTERS};
+use zelmotar::{status_text, Store, REGISTERS};
 
 use crate::args::{Args, Takes};
 use crate::batch::Batch;
@@ -12,7 +12,6 @@ use crate::call::Call;
 use crate::expression;
 use crate::input;
 use crate::outcome::{Ended, Outcome, Stop};
-use crate::statuses;
 use crate::steps::{self, Step};
 use crate::{dump, outcome};
 
@@ -88,7 +87,7 @@ fn opened(batch: &Batch) -> Result<Store, (u32, u32)> {
 fn refused((status, value): (u32, u32), plain: bool, out: &mut dyn Write) -> Ended {
     match plain {
         true => writeln!(out, "refused {status} {value}")?,
-        false => writeln!(out, "refused {status} {value}: {}", statuses::of_batch(status))?,
+        false => writeln!(out, "refused {status} {value}: {}", status_text(status))?,
     }
     Ok(Outcome::Refused)
 }
@@ -123,7 +122,7 @@ fn beside(store: &mut Store, calls: &[Call], out: &mut dyn Write) -> Result<bool
 /// the store was collected for it.
 pub fn line(store: &Store, call: &Call, step: Step) -> String {
     let Step { status, value, freed } = step;
-    let mut line = format!("{call:<24} {status:>2} {value:>10}   {}", statuses::of_call(status));
+    let mut line = format!("{call:<24} {status:>2} {value:>10}   {}", status_text(status));
     if let (0, Some(register)) = (status, call.sets()) {
         line +=
             &format!("; register {register}: {}", expression::register(store, register, BESIDE));

@@ -152,7 +152,7 @@ fn names_and_bytes_of_all_kinds() {
 #[test]
 fn two_million_calls_are_refused_as_the_program_refuses_them() {
     let many = made("many.batch", format!("CAPACITY 16\n{}", "LIVE\n".repeat(2_000_000)));
-    ends(&tool(&[&"run", &many]), 3, "refused 4 0: there are more calls than the program takes\n");
+    ends(&tool(&[&"run", &many]), 3, "refused 4 0: too many calls, or a broken call\n");
     assert_eq!(tool(&[&"run", &"--plain", &many]).stdout, b"refused 4 0\n");
     assert_eq!(tool(&[&"run", &"--bytes", &many]).stdout.len(), 4 + 32_000_000);
     let both = made("both.batch", format!("CAPACITY 15\n{}", "LIVE\n".repeat(1025)));
