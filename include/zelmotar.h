@@ -8,7 +8,7 @@
  * registers, and the cells from 16 up to but not including top are occupied. A register holds an
  * expression: terms in order, each a symbol with a code or a bracket around an expression.
  *
- *   second word 0x00000000        a symbol; the first word is its code, at most ZELMOTAR_MOST_CODE
+ *   second word 0x00000000        a symbol; the first word is its code, at most ZELMOTAR_MAX_CODE
  *   second word 0x80000000        an empty bracket or register; the first word is 0
  *   second word 0x80000000 + r    a bracket or register around the cells l to r; the first word is l
  *
@@ -68,11 +68,11 @@ extern "C" {
 #endif
 
 /* Limits. */
-#define ZELMOTAR_REGISTERS 16          /* registers, and so the address of the first heap cell */
-#define ZELMOTAR_LEAST_WORDS 32        /* words of the smallest store, 16 cells */
-#define ZELMOTAR_MOST_WORDS 8192       /* words of the largest store, 4,096 cells */
-#define ZELMOTAR_MOST_CALL_WORDS 4096  /* words of the longest call list, 1,024 calls */
-#define ZELMOTAR_MOST_CODE 0x0fffffffu /* the largest code of a symbol, 268,435,455 */
+#define ZELMOTAR_REGISTERS 16         /* registers, and so the address of the first heap cell */
+#define ZELMOTAR_MIN_WORDS 32         /* words of the smallest store, 16 cells */
+#define ZELMOTAR_MAX_WORDS 8192       /* words of the largest store, 4,096 cells */
+#define ZELMOTAR_MAX_CALL_WORDS 4096  /* words of the longest call list, 1,024 calls */
+#define ZELMOTAR_MAX_CODE 0x0fffffffu /* the largest code of a symbol, 268,435,455 */
 
 /* A cell's second word. Bits 30 to 28 are for collections, and zero between calls. */
 #define ZELMOTAR_BRACKET 0x80000000u     /* bit 31: a bracket or register; nothing else is set if it is empty */
@@ -105,7 +105,7 @@ typedef struct {
     uint32_t status;
     uint32_t value;
     size_t top;
-} zelmotar_answer;
+} zelmotar_reply;
 
 /* A part of a store, as offsets in words: words[from] up to but not including words[to]. */
 typedef struct {
@@ -115,12 +115,12 @@ typedef struct {
 
 /* Status of a whole request. The first that applies is given. */
 enum {
-    ZELMOTAR_DONE = 0,        /* done */
-    ZELMOTAR_BAD_LENGTH = 1,  /* n is odd, under 32 or over 8,192; value 0 */
-    ZELMOTAR_BAD_TOP = 2,     /* top is under 16 or over n / 2; value 0 */
-    ZELMOTAR_DAMAGED = 3,     /* a cell breaks its rule; value: the first such cell, lowest address */
-    ZELMOTAR_BAD_CALLS = 4,   /* the call list is over 4,096 words or not a multiple of four; value 0 */
-    ZELMOTAR_BAD_ANSWERS = 5  /* the answer space is under two words a call; value 0 */
+    ZELMOTAR_DONE = 0,         /* done */
+    ZELMOTAR_BAD_LENGTH = 1,   /* n is odd, under 32 or over 8,192; value 0 */
+    ZELMOTAR_BAD_TOP = 2,      /* top is under 16 or over n / 2; value 0 */
+    ZELMOTAR_DAMAGED = 3,      /* a cell breaks its rule; value: the first such cell, lowest address */
+    ZELMOTAR_BAD_CALLS = 4,    /* the call list is over 4,096 words or not a multiple of four; value 0 */
+    ZELMOTAR_SHORT_ANSWERS = 5 /* the answer space is under two words a call; value 0 */
 };
 
 /* Status of one call in a batch: ZELMOTAR_DONE, or the first of these that applies. A refused call has
@@ -138,10 +138,10 @@ enum {
 /* Operations. A call is four words: operation, d, a, b. Words that are not named here must be 0. Registers
  * may coincide. A shared expression takes no new cells. */
 enum {
-    ZELMOTAR_CLEAR = 0,   /* d        register d becomes empty */
-    ZELMOTAR_COPY = 1,    /* d a      d becomes a, shared */
-    ZELMOTAR_SYMBOL = 2,  /* d a      d becomes the one symbol with code a; 1 new cell */
-    ZELMOTAR_WRAP = 3,    /* d a      d becomes one bracket around a; 1 new cell */
+    ZELMOTAR_CLEAR = 0,  /* d        register d becomes empty */
+    ZELMOTAR_COPY = 1,   /* d a      d becomes a, shared */
+    ZELMOTAR_SYMBOL = 2, /* d a      d becomes the one symbol with code a; 1 new cell */
+    ZELMOTAR_WRAP = 3,   /* d a      d becomes one bracket around a; 1 new cell */
     ZELMOTAR_JOIN = 4,    /* d a b    d becomes a then b. If a is empty b is shared, else if b is empty a is
                            *          shared, else there is a new cell for each term of both */
     ZELMOTAR_HEAD = 5,    /* d a      d becomes the first term of a, shared */
@@ -163,7 +163,7 @@ static inline const char *zelmotar_status_text(uint32_t status)
     case ZELMOTAR_BAD_TOP: return "top is out of range";
     case ZELMOTAR_DAMAGED: return "a cell breaks its rule";
     case ZELMOTAR_BAD_CALLS: return "too many calls, or a broken call";
-    case ZELMOTAR_BAD_ANSWERS: return "the answer space is too short";
+    case ZELMOTAR_SHORT_ANSWERS: return "the answer space is too short";
     case ZELMOTAR_BAD_OPERATION: return "no such operation";
     case ZELMOTAR_BAD_REGISTER: return "no such register";
     case ZELMOTAR_STRAY_WORD: return "a word that it does not use is not 0";
@@ -180,13 +180,13 @@ static inline const char *zelmotar_status_text(uint32_t status)
  * Reads the n words, and those of a damaged store twice. Writes nothing.
  * Answers ZELMOTAR_DONE with value 0 if the store is sound, else ZELMOTAR_BAD_LENGTH, ZELMOTAR_BAD_TOP or
  * ZELMOTAR_DAMAGED with the values named there. top comes back as it came. */
-ZELMOTAR_USE_RESULT zelmotar_answer zelmotar_check(const uint32_t *words, size_t n, size_t top);
+ZELMOTAR_USE_RESULT zelmotar_reply zelmotar_check(const uint32_t *words, size_t n, size_t top);
 
 /* Writes a fresh store: sixteen empty registers and zeros after them, whatever the words held.
  *
  * Writes all n words, or none.
  * Answers ZELMOTAR_DONE with value 0 and top 16, or ZELMOTAR_BAD_LENGTH with value 0 and top 0. */
-ZELMOTAR_USE_RESULT zelmotar_answer zelmotar_fresh(uint32_t *words, size_t n);
+ZELMOTAR_USE_RESULT zelmotar_reply zelmotar_fresh(uint32_t *words, size_t n);
 
 /* Collects a store: live cells close up in their order from cell 16 on, every reference follows, and what
  * comes after them is zero. Registers keep their expressions, and shared cells stay shared.
@@ -194,7 +194,7 @@ ZELMOTAR_USE_RESULT zelmotar_answer zelmotar_fresh(uint32_t *words, size_t n);
  * Reads and writes the n words: after the check two passes over the occupied cells, whatever they share.
  * Answers ZELMOTAR_DONE with the number of live cells as value and 16 more than it as top; else, as
  * zelmotar_check does, ZELMOTAR_BAD_LENGTH, ZELMOTAR_BAD_TOP or ZELMOTAR_DAMAGED, with top as it came. */
-ZELMOTAR_USE_RESULT zelmotar_answer zelmotar_collect(uint32_t *words, size_t n, size_t top);
+ZELMOTAR_USE_RESULT zelmotar_reply zelmotar_collect(uint32_t *words, size_t n, size_t top);
 
 /* Runs a batch of calls, in order.
  *
@@ -207,9 +207,9 @@ ZELMOTAR_USE_RESULT zelmotar_answer zelmotar_collect(uint32_t *words, size_t n, 
  * New cells are laid from top upward. Only where they would not fit is the store collected, and only if
  * they do not fit then is the call refused with ZELMOTAR_NO_ROOM.
  * Answers ZELMOTAR_DONE with value 0 and the new top once every call has its answer, refused ones too;
- * else one of ZELMOTAR_BAD_LENGTH to ZELMOTAR_BAD_ANSWERS, and then no call is run and top comes back as it
+ * else one of ZELMOTAR_BAD_LENGTH to ZELMOTAR_SHORT_ANSWERS, and then no call is run and top comes back as it
  * came. A batch of no calls is done and changes no word of the store. */
-ZELMOTAR_USE_RESULT zelmotar_answer zelmotar_run(uint32_t *words, size_t n, size_t top, const uint32_t *calls,
+ZELMOTAR_USE_RESULT zelmotar_reply zelmotar_run(uint32_t *words, size_t n, size_t top, const uint32_t *calls,
                                                  size_t calls_n, uint32_t *answers, size_t answers_n);
 
 /* Looks at a register: the part of the lent words that holds its cells, whole cells in their order.

@@ -91,7 +91,7 @@ impl Lent {
     }
 
     // An answer to collecting or to a fresh store, by the term for it.
-    fn answered(&mut self, name: &str, a: capi::Answer, done: String) {
+    fn answered(&mut self, name: &str, a: capi::Reply, done: String) {
         let term = format!("{done} .verdict .status ∷ {done} .verdict .value ∷ {done} .top ∷ []");
         self.say(name, &[a.status, a.value, a.top as u32], term);
         self.left(a.top, done);

@@ -41,7 +41,7 @@ static void spell_reading(uint32_t calls[9][4], uint32_t feed, uint32_t value)
 static uint32_t ask(uint32_t operation, uint32_t a)
 {
     uint32_t call[4] = {0, 0, 0, 0}, answers[2];
-    zelmotar_answer answer;
+    zelmotar_reply answer;
     call[0] = operation;
     call[2] = a;
     answer = zelmotar_run(store, WORDS, top, call, 4, answers, 2);
@@ -59,7 +59,7 @@ static uint32_t add_reading(uint32_t feed, uint32_t value)
 {
     uint32_t calls[9][4], answers[18];
     size_t before = top;
-    zelmotar_answer answer;
+    zelmotar_reply answer;
     int i;
     spell_reading(calls, feed, value);
     answer = zelmotar_run(store, WORDS, top, calls[0], 36, answers, 18);
@@ -101,7 +101,7 @@ static void fill(void)
 
 int main(void)
 {
-    zelmotar_answer answer = zelmotar_fresh(store, WORDS);
+    zelmotar_reply answer = zelmotar_fresh(store, WORDS);
     demand("a fresh store", answer.status, ZELMOTAR_DONE);
     top = answer.top;
     fill();

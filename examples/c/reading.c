@@ -14,7 +14,7 @@ int main(void)
         {ZELMOTAR_FIRST, 0, 1, 0},                                                            /* its value: AMPS */
     };
     uint32_t words[80], answers[20]; /* 40 cells; a status and a value for each call */
-    zelmotar_answer answer = zelmotar_fresh(words, 80);
+    zelmotar_reply answer = zelmotar_fresh(words, 80);
     answer = zelmotar_run(words, 80, answer.top, calls[0], 40, answers, 20);
     printf("unit %u, %s\n", (unsigned)answers[19], zelmotar_status_text(answers[18]));
     /* A fresh store that is refused has top 0, with which the batch is refused too. */

@@ -14,7 +14,7 @@ use std::{env, fs, hint::black_box};
 use zelmotar::{raw, Call};
 use zelmotar_model::make::{self, Runs};
 use zelmotar_model::ordinary::{self, Better, Checks, Marks, Ordinary, Usual, WithBits};
-use zelmotar_model::plain::{self, Cell, Reply, HEAP, MOST_CELLS};
+use zelmotar_model::plain::{self, Cell, Reply, FIRST_HEAP_CELL, MAX_CELLS};
 use zelmotar_model::random::Random;
 
 /// Words and `top` of a store.
@@ -70,7 +70,7 @@ fn site(capacity: usize, each: usize) -> Lent {
 fn lists(capacity: usize, one_in: usize) -> Lent {
     let (mut words, _) = empty_store(capacity);
     let mut last = [Cell::Empty; KEPT];
-    for (group, c) in (HEAP..capacity).step_by(4).enumerate() {
+    for (group, c) in (FIRST_HEAP_CELL..capacity).step_by(4).enumerate() {
         let list = group / one_in % KEPT;
         plain::put(&mut words, c, last[list]);
         (1..4).for_each(|i| plain::put(&mut words, c + i, Cell::Symbol(i as u32)));
@@ -95,7 +95,7 @@ fn all_live(capacity: usize) -> Lent {
 /// one, and then the old one is dead.
 fn one_dead(capacity: usize) -> Lent {
     let (mut words, top) = all_live(capacity);
-    let list_of_last = ((top - HEAP) / 4 - 1) % KEPT;
+    let list_of_last = ((top - FIRST_HEAP_CELL) / 4 - 1) % KEPT;
     plain::put(&mut words, list_of_last, Cell::Bracket(top - 4, top - 3));
     plain::put(&mut words, SCRATCH[3] as usize, Cell::Bracket(top - 1, top - 1));
     (words, top)
@@ -106,7 +106,7 @@ fn one_dead(capacity: usize) -> Lent {
 fn random(capacity: usize) -> Lent {
     let mut random = Random::of("benchmark");
     let (mut words, _) = empty_store(capacity);
-    for c in HEAP..capacity {
+    for c in FIRST_HEAP_CELL..capacity {
         plain::put(&mut words, c, make::heap_cell(&mut random, c, Runs::Recent));
     }
     for register in 0..KEPT {
@@ -398,7 +398,7 @@ fn stores() {
 fn growth(title: &str, store: impl Fn(usize) -> Lent, works: &[Work], overlaps: bool) {
     table(title);
     for &work in works {
-        for cells in SIZES.into_iter().filter(|&cells| cells < MOST_CELLS).chain([MOST_CELLS]) {
+        for cells in SIZES.into_iter().filter(|&cells| cells < MAX_CELLS).chain([MAX_CELLS]) {
             let large = cells > ALL_UP_TO;
             if large && matches!(work, Work::Run(_)) {
                 break;
@@ -414,7 +414,7 @@ fn growths() {
     let works = [Work::Check, Work::Collect, Work::Live, run];
     growth("Growth, full stores half dead.", half_dead, &works, false);
     growth("Growth, full stores all live.", all_live, &works[1..3], false);
-    let site_like = |cells| site(cells, (cells - HEAP) * 49 / 100);
+    let site_like = |cells| site(cells, (cells - FIRST_HEAP_CELL) * 49 / 100);
     growth("Growth, brackets that all hold the same symbols.", site_like, &works[1..], true);
 }
 

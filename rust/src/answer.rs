@@ -152,9 +152,9 @@ impl Error for Fault {}
 #[non_exhaustive]
 pub enum Refusal {
     /// 1: the number of words is odd, under 32 or over 8,192.
-    Length,
+    BadLength,
     /// 2: `top` is under 16 or over the capacity.
-    Top,
+    BadTop,
     /// 3: a cell breaks its rule.
     #[non_exhaustive]
     Damaged {
@@ -162,20 +162,20 @@ pub enum Refusal {
         cell: u32,
     },
     /// 4: the call list is over 4,096 words or not a multiple of four.
-    Calls,
+    BadCalls,
     /// 5: the answer space is under two words a call.
-    Answers,
+    ShortAnswers,
 }
 
 impl Refusal {
     /// The status number of the refusal, 1 to 5.
     pub const fn number(self) -> u32 {
         match self {
-            Refusal::Length => 1,
-            Refusal::Top => 2,
+            Refusal::BadLength => 1,
+            Refusal::BadTop => 2,
             Refusal::Damaged { .. } => 3,
-            Refusal::Calls => 4,
-            Refusal::Answers => 5,
+            Refusal::BadCalls => 4,
+            Refusal::ShortAnswers => 5,
         }
     }
 
@@ -195,11 +195,11 @@ impl Refusal {
     pub(crate) fn of(reply: Reply) -> Result<(), Refusal> {
         match reply.status {
             0 => Ok(()),
-            1 => Err(Refusal::Length),
-            2 => Err(Refusal::Top),
+            1 => Err(Refusal::BadLength),
+            2 => Err(Refusal::BadTop),
             3 => Err(Refusal::Damaged { cell: reply.value }),
-            4 => Err(Refusal::Calls),
-            5 => Err(Refusal::Answers),
+            4 => Err(Refusal::BadCalls),
+            5 => Err(Refusal::ShortAnswers),
             other => panic!("the linked library answers {other}, which is no status of zelmotar"),
         }
     }

@@ -5,7 +5,7 @@
 
 /// What a function of the library answers, in numbers.
 ///
-/// It is laid out as `zelmotar_answer` of the C header.
+/// It is laid out as `zelmotar_reply` of the C header.
 #[repr(C)]
 #[derive(Clone, Copy, Debug, PartialEq, Eq)]
 #[must_use = "the status says whether anything was done"]

@@ -27,7 +27,7 @@ pub const STATUSES: [Status; 13] = [
     row(2, "BAD_TOP", "top is out of range"),
     row(3, "DAMAGED", "a cell breaks its rule"),
     row(4, "BAD_CALLS", "too many calls, or a broken call"),
-    row(5, "BAD_ANSWERS", "the answer space is too short"),
+    row(5, "SHORT_ANSWERS", "the answer space is too short"),
     row(10, "BAD_OPERATION", "no such operation"),
     row(11, "BAD_REGISTER", "no such register"),
     row(12, "STRAY_WORD", "a word that it does not use is not 0"),

@@ -57,7 +57,7 @@ impl Store<Vec<u32>> {
     ///
     /// # Errors
     ///
-    /// [`Refusal::Length`] if the capacity is under 16 or over [`MAX_CELLS`].
+    /// [`Refusal::BadLength`] if the capacity is under 16 or over [`MAX_CELLS`].
     ///
     /// # Panics
     ///
@@ -67,7 +67,7 @@ impl Store<Vec<u32>> {
     /// use zelmotar::{Refusal, Store};
     ///
     /// assert_eq!(Store::new(64)?.top(), 16);
-    /// assert_eq!(Store::new(15), Err(Refusal::Length));
+    /// assert_eq!(Store::new(15), Err(Refusal::BadLength));
     /// # Ok::<(), Refusal>(())
     /// ```
     pub fn new(capacity: usize) -> Result<Self, Refusal> {
@@ -111,7 +111,7 @@ impl<W: AsRef<[u32]> + AsMut<[u32]>> Store<W> {
     ///
     /// # Errors
     ///
-    /// [`Refusal::Length`] if the number of words is odd, under 32 or over 8,192. A borrowed slice
+    /// [`Refusal::BadLength`] if the number of words is odd, under 32 or over 8,192. A borrowed slice
     /// is then as it was.
     ///
     /// # Panics
@@ -137,7 +137,7 @@ impl<W: AsRef<[u32]> + AsMut<[u32]>> Store<W> {
     ///
     /// # Errors
     ///
-    /// [`Refusal::Length`], [`Refusal::Top`] or [`Refusal::Damaged`], in this order.
+    /// [`Refusal::BadLength`], [`Refusal::BadTop`] or [`Refusal::Damaged`], in this order.
     ///
     /// # Panics
     ///
@@ -188,7 +188,7 @@ impl<W: AsRef<[u32]> + AsMut<[u32]>> Store<W> {
     ///
     /// # Errors
     ///
-    /// As for [`check`](Store::check), or [`Refusal::Calls`] for more than
+    /// As for [`check`](Store::check), or [`Refusal::BadCalls`] for more than
     /// [`MAX_CALLS`](crate::MAX_CALLS) calls; no call is run then and the store is as it was.
     ///
     /// # Panics
@@ -305,8 +305,8 @@ impl<W: AsRef<[u32]> + AsMut<[u32]>> Store<W> {
     ///
     /// # Errors
     ///
-    /// As for [`check`](Store::check), then [`Refusal::Calls`] if the list is over 4,096 words or
-    /// not a multiple of four, or [`Refusal::Answers`] if `answers` is under two words a call.
+    /// As for [`check`](Store::check), then [`Refusal::BadCalls`] if the list is over 4,096 words or
+    /// not a multiple of four, or [`Refusal::ShortAnswers`] if `answers` is under two words a call.
     /// Store and answers are then as they were.
     ///
     /// # Panics

@@ -25,7 +25,7 @@ fn a_batch_in_words() {
     let mut answers = [9; 6];
     store.run_words(&[10, 0, 0, 0, 2, 0, 1, 0], &mut answers).expect("the store is sound");
     assert_eq!(answers, [0, 0, 16, 0, 0, 0]);
-    assert_eq!(store.run_words(&[0; 4], &mut []), Err(Refusal::Answers));
+    assert_eq!(store.run_words(&[0; 4], &mut []), Err(Refusal::ShortAnswers));
 }
 
 #[test]
@@ -47,7 +47,7 @@ fn a_static_store_needs_no_other_type() {
 fn what_is_said_needs_no_allocator() {
     assert_eq!(format!("{}", Call::Join { d: 1, a: 2, b: 3 }), "JOIN 1 2 3");
     assert_eq!(format!("{}", Answer::Refused(Fault::Room)), "refused: no room");
-    assert_eq!(format!("{}", Refusal::Top), status_text(2));
+    assert_eq!(format!("{}", Refusal::BadTop), status_text(2));
     let mut words = [0; 40];
     let mut store = Store::fresh(&mut words).expect("the length is allowed");
     assert_eq!(store.call(Call::Wrap { d: 0, a: 0 }), Ok(Answer::Done));

@@ -12,8 +12,8 @@
 #include "expect.h"
 #include "zelmotar.h"
 
-#define MOST_STORE (ZELMOTAR_MOST_WORDS + 2)
-#define MOST_CALLS (ZELMOTAR_MOST_CALL_WORDS + 4)
+#define MOST_STORE (ZELMOTAR_MAX_WORDS + 2)
+#define MOST_CALLS (ZELMOTAR_MAX_CALL_WORDS + 4)
 #define MOST_ANSWERS (MOST_CALLS / 2 + 8)
 
 /* What goes into the five functions. */
@@ -60,14 +60,14 @@ static inline void random_calls(uint32_t *calls, size_t count)
 static inline size_t random_capacity(void)
 {
     size_t kind = below(20);
-    return kind == 0 ? ZELMOTAR_MOST_WORDS / 2 : kind < 3 ? 512 : 16 + below(40);
+    return kind == 0 ? ZELMOTAR_MAX_WORDS / 2 : kind < 3 ? 512 : 16 + below(40);
 }
 
 /* A sound store in the case's words. */
 static inline void make_store(struct test_case *c)
 {
     uint32_t answers[200];
-    zelmotar_answer answer;
+    zelmotar_reply answer;
     c->words_n = 2 * random_capacity();
     answer = zelmotar_fresh(c->words, c->words_n);
     EXPECT(answer.status == ZELMOTAR_DONE);
@@ -91,7 +91,7 @@ static inline void damage(struct test_case *c)
 /* A call list and the length of its answer space, each now and then not as it should be. */
 static inline void make_lists(struct test_case *c)
 {
-    size_t kind = below(12), count = kind == 0 ? ZELMOTAR_MOST_CALL_WORDS / 4 : below(25);
+    size_t kind = below(12), count = kind == 0 ? ZELMOTAR_MAX_CALL_WORDS / 4 : below(25);
     random_calls(c->calls, count);
     c->calls_n = kind == 1 ? MOST_CALLS : 4 * count + (kind == 2 ? below(4) : 0);
     c->answers_n = c->calls_n / 4 * 2;
@@ -112,7 +112,7 @@ static inline void make_case(struct test_case *c)
 }
 
 /* Counts the status of a run and those of its calls. */
-static inline void count(zelmotar_answer answer, const uint32_t *answers, size_t calls_n)
+static inline void count(zelmotar_reply answer, const uint32_t *answers, size_t calls_n)
 {
     size_t i;
     met[answer.status]++;
@@ -125,7 +125,7 @@ static inline void expect_all_met(void)
 {
     unsigned status;
     for (status = 0; status <= ZELMOTAR_NO_ROOM; status++)
-        EXPECT((met[status] > 0) == (status <= ZELMOTAR_BAD_ANSWERS || status >= ZELMOTAR_BAD_OPERATION));
+        EXPECT((met[status] > 0) == (status <= ZELMOTAR_SHORT_ANSWERS || status >= ZELMOTAR_BAD_OPERATION));
 }
 
 #endif

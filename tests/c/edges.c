@@ -76,7 +76,7 @@ static void expect_same(size_t i, size_t n)
     EXPECT(other == 0);
 }
 
-static int same(zelmotar_answer one, zelmotar_answer other)
+static int same(zelmotar_reply one, zelmotar_reply other)
 {
     return one.status == other.status && one.value == other.value && one.top == other.top;
 }
@@ -121,7 +121,7 @@ static void edges_run(void)
     uint32_t *words = lend(STORE, c.words, c.words_n, PROT_READ | PROT_WRITE);
     const uint32_t *calls = lend(CALLS, c.calls, c.calls_n, PROT_READ);
     uint32_t *answers = lend(ANSWERS, NULL, c.answers_n, PROT_READ | PROT_WRITE);
-    zelmotar_answer here, there;
+    zelmotar_reply here, there;
     doing = "zelmotar_run";
     here = zelmotar_run(words, c.words_n, c.top, calls, c.calls_n, answers, c.answers_n);
     there = zelmotar_run(plain[STORE], c.words_n, c.top, plain[CALLS], c.calls_n, plain[ANSWERS], c.answers_n);

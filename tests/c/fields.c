@@ -16,19 +16,19 @@ enum { offsetof_status = 0, offsetof_value = 4, offsetof_top = 8, offsetof_from 
 
 static void layout(void)
 {
-    EXPECT(offsetof(zelmotar_answer, status) == offsetof_status);
-    EXPECT(offsetof(zelmotar_answer, value) == offsetof_value);
-    EXPECT(offsetof(zelmotar_answer, top) == offsetof_top);
-    EXPECT(sizeof(((zelmotar_answer *)0)->status) == 4 && sizeof(((zelmotar_answer *)0)->value) == 4);
-    EXPECT(sizeof(((zelmotar_answer *)0)->top) == sizeof(size_t));
-    EXPECT(sizeof(zelmotar_answer) == 8 + sizeof(size_t));
+    EXPECT(offsetof(zelmotar_reply, status) == offsetof_status);
+    EXPECT(offsetof(zelmotar_reply, value) == offsetof_value);
+    EXPECT(offsetof(zelmotar_reply, top) == offsetof_top);
+    EXPECT(sizeof(((zelmotar_reply *)0)->status) == 4 && sizeof(((zelmotar_reply *)0)->value) == 4);
+    EXPECT(sizeof(((zelmotar_reply *)0)->top) == sizeof(size_t));
+    EXPECT(sizeof(zelmotar_reply) == 8 + sizeof(size_t));
     EXPECT(offsetof(zelmotar_span, from) == offsetof_from && offsetof(zelmotar_span, to) == offsetof_to);
     EXPECT(sizeof(((zelmotar_span *)0)->from) == sizeof(size_t) && sizeof(((zelmotar_span *)0)->to) == sizeof(size_t));
     EXPECT(sizeof(zelmotar_span) == 2 * sizeof(size_t));
 }
 
 /* An answer, field by field: by name and by bytes. */
-static void reads(zelmotar_answer answer, uint32_t status, uint32_t value, size_t top)
+static void reads(zelmotar_reply answer, uint32_t status, uint32_t value, size_t top)
 {
     EXPECT(answer.status == status && AT(answer, status, status));
     EXPECT(answer.value == value && AT(answer, value, value));

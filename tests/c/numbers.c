@@ -12,8 +12,8 @@
 
 #define CELLS 40
 
-static uint32_t words[ZELMOTAR_MOST_WORDS + 4], calls[ZELMOTAR_MOST_CALL_WORDS + 8];
-static uint32_t answers[ZELMOTAR_MOST_CALL_WORDS + 8];
+static uint32_t words[ZELMOTAR_MAX_WORDS + 4], calls[ZELMOTAR_MAX_CALL_WORDS + 8];
+static uint32_t answers[ZELMOTAR_MAX_CALL_WORDS + 8];
 static size_t top;
 static uint32_t value; /* of the last call */
 
@@ -21,7 +21,7 @@ static uint32_t value; /* of the last call */
 static uint32_t call(uint32_t operation, uint32_t d, uint32_t a, uint32_t b)
 {
     uint32_t list[4], told[2] = {99, 99};
-    zelmotar_answer answer;
+    zelmotar_reply answer;
     list[0] = operation, list[1] = d, list[2] = a, list[3] = b;
     answer = zelmotar_run(words, 2 * CELLS, top, list, 4, told, 2);
     EXPECT(answer.status == 0 && answer.value == 0);
@@ -32,7 +32,7 @@ static uint32_t call(uint32_t operation, uint32_t d, uint32_t a, uint32_t b)
 
 static void start(void)
 {
-    zelmotar_answer answer = zelmotar_fresh(words, 2 * CELLS);
+    zelmotar_reply answer = zelmotar_fresh(words, 2 * CELLS);
     EXPECT(answer.status == ZELMOTAR_DONE);
     top = answer.top;
 }
@@ -74,8 +74,8 @@ static void statuses_of_a_call(void)
     EXPECT(call(ZELMOTAR_CLEAR, ZELMOTAR_REGISTERS, 0, 0) == ZELMOTAR_BAD_REGISTER);
     EXPECT(call(ZELMOTAR_CLEAR, ZELMOTAR_REGISTERS - 1, 0, 0) == ZELMOTAR_DONE);
     EXPECT(call(ZELMOTAR_CLEAR, 0, 1, 0) == ZELMOTAR_STRAY_WORD);
-    EXPECT(call(ZELMOTAR_SYMBOL, 0, ZELMOTAR_MOST_CODE + 1, 0) == ZELMOTAR_BAD_CODE);
-    EXPECT(call(ZELMOTAR_SYMBOL, 0, ZELMOTAR_MOST_CODE, 0) == ZELMOTAR_DONE);
+    EXPECT(call(ZELMOTAR_SYMBOL, 0, ZELMOTAR_MAX_CODE + 1, 0) == ZELMOTAR_BAD_CODE);
+    EXPECT(call(ZELMOTAR_SYMBOL, 0, ZELMOTAR_MAX_CODE, 0) == ZELMOTAR_DONE);
     EXPECT(call(ZELMOTAR_HEAD, 1, 1, 0) == ZELMOTAR_EMPTY);
     EXPECT(call(ZELMOTAR_OPEN, 1, 0, 0) == ZELMOTAR_WRONG_KIND);
     for (n = 0; n < CELLS - ZELMOTAR_REGISTERS - 1; n++)
@@ -86,13 +86,13 @@ static void statuses_of_a_call(void)
 /* Each status of a whole request, with its value, and `top` as it came. */
 static void statuses_of_a_request(void)
 {
-    zelmotar_answer answer;
+    zelmotar_reply answer;
     start();
     EXPECT(zelmotar_check(words, 2 * CELLS, top).status == ZELMOTAR_DONE);
     EXPECT(zelmotar_check(words, 2 * CELLS + 1, top).status == ZELMOTAR_BAD_LENGTH);
     EXPECT(zelmotar_check(words, 2 * CELLS, CELLS + 1).status == ZELMOTAR_BAD_TOP);
     EXPECT(zelmotar_run(words, 2 * CELLS, top, calls, 3, answers, 2).status == ZELMOTAR_BAD_CALLS);
-    EXPECT(zelmotar_run(words, 2 * CELLS, top, calls, 4, answers, 1).status == ZELMOTAR_BAD_ANSWERS);
+    EXPECT(zelmotar_run(words, 2 * CELLS, top, calls, 4, answers, 1).status == ZELMOTAR_SHORT_ANSWERS);
     ZELMOTAR_FIRST_WORD(words, 7) = 1;
     answer = zelmotar_check(words, 2 * CELLS, top);
     EXPECT(answer.status == ZELMOTAR_DAMAGED && answer.value == 7 && answer.top == top);
@@ -100,17 +100,17 @@ static void statuses_of_a_request(void)
 
 static void limits(void)
 {
-    EXPECT(zelmotar_fresh(words, ZELMOTAR_LEAST_WORDS).status == 0);
-    EXPECT(zelmotar_fresh(words, ZELMOTAR_LEAST_WORDS).top == ZELMOTAR_REGISTERS);
-    EXPECT(zelmotar_fresh(words, ZELMOTAR_LEAST_WORDS - 2).status == 1);
-    EXPECT(zelmotar_fresh(words, ZELMOTAR_MOST_WORDS).status == 0);
-    EXPECT(zelmotar_fresh(words, ZELMOTAR_MOST_WORDS + 2).status == 1);
+    EXPECT(zelmotar_fresh(words, ZELMOTAR_MIN_WORDS).status == 0);
+    EXPECT(zelmotar_fresh(words, ZELMOTAR_MIN_WORDS).top == ZELMOTAR_REGISTERS);
+    EXPECT(zelmotar_fresh(words, ZELMOTAR_MIN_WORDS - 2).status == 1);
+    EXPECT(zelmotar_fresh(words, ZELMOTAR_MAX_WORDS).status == 0);
+    EXPECT(zelmotar_fresh(words, ZELMOTAR_MAX_WORDS + 2).status == 1);
     start();
     memset(calls, 0, sizeof calls);
-    EXPECT(zelmotar_run(words, 2 * CELLS, top, calls, ZELMOTAR_MOST_CALL_WORDS, answers,
-                        ZELMOTAR_MOST_CALL_WORDS / 2).status == 0);
-    EXPECT(zelmotar_run(words, 2 * CELLS, top, calls, ZELMOTAR_MOST_CALL_WORDS + 4, answers,
-                        ZELMOTAR_MOST_CALL_WORDS).status == 4);
+    EXPECT(zelmotar_run(words, 2 * CELLS, top, calls, ZELMOTAR_MAX_CALL_WORDS, answers,
+                        ZELMOTAR_MAX_CALL_WORDS / 2).status == 0);
+    EXPECT(zelmotar_run(words, 2 * CELLS, top, calls, ZELMOTAR_MAX_CALL_WORDS + 4, answers,
+                        ZELMOTAR_MAX_CALL_WORDS).status == 4);
 }
 
 /* The bits of a second word: each where SCOPE 1.2 has it, together all of the word. */
@@ -152,7 +152,7 @@ static void cells_made(void)
     const uint32_t symbol[2] = {ZELMOTAR_SYMBOL_CELL(66)}, hollow[2] = {ZELMOTAR_EMPTY_CELL};
     const uint32_t bracket[2] = {ZELMOTAR_BRACKET_CELL(16, 17)}, holder[2] = {ZELMOTAR_BRACKET_CELL(18, 18)};
     const uint32_t stray[3] = {ZELMOTAR_USED, ZELMOTAR_LEFT_CHAIN, ZELMOTAR_RIGHT_CHAIN};
-    zelmotar_answer answer;
+    zelmotar_reply answer;
     int i;
     start();
     put(16, symbol), put(17, hollow), put(18, bracket), put(0, holder);

@@ -26,29 +26,29 @@ static ucontext_t outside, inside;
 static int function, hollow; /* which function is called, and whether it is the one that does nothing */
 static size_t used;          /* bytes from the lowest that lost its paint to the end of the room */
 
-static const zelmotar_answer no_answer;
+static const zelmotar_reply no_answer;
 static const zelmotar_span no_span;
 
 /* One function for each of the five that takes the same and does nothing. */
-static zelmotar_answer no_check(const uint32_t *w, size_t n, size_t top)
+static zelmotar_reply no_check(const uint32_t *w, size_t n, size_t top)
 {
     (void)w, (void)n, (void)top;
     return no_answer;
 }
 
-static zelmotar_answer no_fresh(uint32_t *w, size_t n)
+static zelmotar_reply no_fresh(uint32_t *w, size_t n)
 {
     (void)w, (void)n;
     return no_answer;
 }
 
-static zelmotar_answer no_collect(uint32_t *w, size_t n, size_t top)
+static zelmotar_reply no_collect(uint32_t *w, size_t n, size_t top)
 {
     (void)w, (void)n, (void)top;
     return no_answer;
 }
 
-static zelmotar_answer no_run(uint32_t *w, size_t n, size_t top, const uint32_t *calls, size_t calls_n, uint32_t *a,
+static zelmotar_reply no_run(uint32_t *w, size_t n, size_t top, const uint32_t *calls, size_t calls_n, uint32_t *a,
                               size_t answers_n)
 {
     (void)w, (void)n, (void)top, (void)calls, (void)calls_n, (void)a, (void)answers_n;
@@ -62,10 +62,10 @@ static zelmotar_span no_look(const uint32_t *w, size_t n, size_t top, size_t reg
 }
 
 /* Both of each kind, volatile so that the call is the same code for both. */
-static zelmotar_answer (*volatile check[2])(const uint32_t *, size_t, size_t) = {zelmotar_check, no_check};
-static zelmotar_answer (*volatile fresh[2])(uint32_t *, size_t) = {zelmotar_fresh, no_fresh};
-static zelmotar_answer (*volatile collect[2])(uint32_t *, size_t, size_t) = {zelmotar_collect, no_collect};
-static zelmotar_answer (*volatile run[2])(uint32_t *, size_t, size_t, const uint32_t *, size_t, uint32_t *,
+static zelmotar_reply (*volatile check[2])(const uint32_t *, size_t, size_t) = {zelmotar_check, no_check};
+static zelmotar_reply (*volatile fresh[2])(uint32_t *, size_t) = {zelmotar_fresh, no_fresh};
+static zelmotar_reply (*volatile collect[2])(uint32_t *, size_t, size_t) = {zelmotar_collect, no_collect};
+static zelmotar_reply (*volatile run[2])(uint32_t *, size_t, size_t, const uint32_t *, size_t, uint32_t *,
                                           size_t) = {zelmotar_run, no_run};
 static zelmotar_span (*volatile look[2])(const uint32_t *, size_t, size_t, size_t) = {zelmotar_look, no_look};
 

@@ -22,7 +22,7 @@ static uint32_t *lend(const uint32_t *words, size_t n)
 static void stress_reading(void)
 {
     uint32_t *words = lend(c.words, c.words_n);
-    zelmotar_answer answer = zelmotar_check(words, c.words_n, c.top);
+    zelmotar_reply answer = zelmotar_check(words, c.words_n, c.top);
     zelmotar_span span = zelmotar_look(words, c.words_n, c.top, c.reg);
     EXPECT(answer.top == c.top && memcmp(words, c.words, c.words_n * sizeof *words) == 0);
     EXPECT(span.from <= span.to && span.to <= c.words_n);
@@ -33,7 +33,7 @@ static void stress_reading(void)
 static void stress_fresh(void)
 {
     uint32_t *words = lend(NULL, c.words_n);
-    zelmotar_answer answer = zelmotar_fresh(words, c.words_n);
+    zelmotar_reply answer = zelmotar_fresh(words, c.words_n);
     if (answer.status == ZELMOTAR_DONE)
         EXPECT(zelmotar_check(words, c.words_n, answer.top).status == ZELMOTAR_DONE);
     free(words);
@@ -42,7 +42,7 @@ static void stress_fresh(void)
 static void stress_collect(void)
 {
     uint32_t *words = lend(c.words, c.words_n);
-    zelmotar_answer answer = zelmotar_collect(words, c.words_n, c.top);
+    zelmotar_reply answer = zelmotar_collect(words, c.words_n, c.top);
     if (answer.status == ZELMOTAR_DONE)
         EXPECT(answer.top == answer.value + ZELMOTAR_REGISTERS && answer.top <= c.top);
     else
@@ -53,7 +53,7 @@ static void stress_collect(void)
 static void stress_run(void)
 {
     uint32_t *words = lend(c.words, c.words_n), *calls = lend(c.calls, c.calls_n), *answers = lend(NULL, c.answers_n);
-    zelmotar_answer answer = zelmotar_run(words, c.words_n, c.top, calls, c.calls_n, answers, c.answers_n);
+    zelmotar_reply answer = zelmotar_run(words, c.words_n, c.top, calls, c.calls_n, answers, c.answers_n);
     size_t i;
     count(answer, answers, c.calls_n);
     if (answer.status == ZELMOTAR_DONE) {

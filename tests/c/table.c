@@ -12,9 +12,9 @@ static void print_limits(void)
 {
     printf("version %d.%d.%d\n", ZELMOTAR_VERSION_MAJOR, ZELMOTAR_VERSION_MINOR, ZELMOTAR_VERSION_PATCH);
     printf("registers %u\n", (unsigned)ZELMOTAR_REGISTERS);
-    printf("most cells %u\n", (unsigned)ZELMOTAR_MOST_WORDS / 2);
-    printf("most calls %u\n", (unsigned)ZELMOTAR_MOST_CALL_WORDS / 4);
-    printf("most code %u\n", (unsigned)ZELMOTAR_MOST_CODE);
+    printf("most cells %u\n", (unsigned)ZELMOTAR_MAX_WORDS / 2);
+    printf("most calls %u\n", (unsigned)ZELMOTAR_MAX_CALL_WORDS / 4);
+    printf("most code %u\n", (unsigned)ZELMOTAR_MAX_CODE);
 }
 
 static void print_statuses(void)
@@ -24,7 +24,7 @@ static void print_statuses(void)
     STATUS(BAD_TOP);
     STATUS(DAMAGED);
     STATUS(BAD_CALLS);
-    STATUS(BAD_ANSWERS);
+    STATUS(SHORT_ANSWERS);
     STATUS(BAD_OPERATION);
     STATUS(BAD_REGISTER);
     STATUS(STRAY_WORD);
@@ -61,10 +61,10 @@ static void print_texts(void)
 
 static void print_layout(void)
 {
-    printf("answer of %u bytes:", (unsigned)sizeof(zelmotar_answer));
-    PLACE(zelmotar_answer, status);
-    PLACE(zelmotar_answer, value);
-    PLACE(zelmotar_answer, top);
+    printf("answer of %u bytes:", (unsigned)sizeof(zelmotar_reply));
+    PLACE(zelmotar_reply, status);
+    PLACE(zelmotar_reply, value);
+    PLACE(zelmotar_reply, top);
     printf("\nspan of %u bytes:", (unsigned)sizeof(zelmotar_span));
     PLACE(zelmotar_span, from);
     PLACE(zelmotar_span, to);

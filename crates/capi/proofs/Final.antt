@@ -1,4 +1,4 @@
--- The claims of specs/Unique.antt. An answer is got back from what it says.
+-- The claims of specs/Unique.antt. A reply is got back from what it says.
 -- Assumes nothing.
 use mathlib.Core.Path.{_≡_, sym, ap, _∙_}
 use mathlib.Core.List.{List}
@@ -6,13 +6,13 @@ use Prim.Native.Nat.{ℕ}
 use Rattle.meaning.specs.Verdicts.{Done}
 use Rattle.meaning.specs.Batch.{Outcome}
 use Rattle.store.proofs.Final as store
-use Rattle.capi.specs.Answers.{answer, verdictIs, doneIs, outcomeIs}
+use Rattle.capi.specs.Answers.{reply, verdictIs, doneIs, outcomeIs}
 use Rattle.capi.specs.Unique.{OneCheck, OneFresh, OneCollect, OneRun, OneLook}
-use Rattle.capi.specs.declared.Answer.{Answer}
+use Rattle.capi.specs.declared.Reply.{Reply}
 
-done-same : (r r′ : Answer) (vs vs′ : List ℕ) → doneIs r vs ≡ doneIs r′ vs′ → (r ≡ r′) × (vs ≡ vs′)
+done-same : (r r′ : Reply) (vs vs′ : List ℕ) → doneIs r vs ≡ doneIs r′ vs′ → (r ≡ r′) × (vs ≡ vs′)
 done-same r r′ vs vs′ e = (
-  ap (λ (d : Done). answer (d .verdict .status) (d .verdict .value) (d .top)) e,
+  ap (λ (d : Done). reply (d .verdict .status) (d .verdict .value) (d .top)) e,
   ap (λ (d : Done). d .words) e,
 )
 
@@ -20,7 +20,7 @@ pub one-check : OneCheck
 one-check ws top r r′ p q =
     let e : verdictIs r ≡ verdictIs r′ = p .0 ∙ sym (q .0) in
     let t : r .top ≡ r′ .top = p .1 ∙ sym (q .1) in
-    λ j. answer (e j .status) (e j .value) (t j)
+    λ j. reply (e j .status) (e j .value) (t j)
 
 pub one-fresh : OneFresh
 one-fresh ws vs vs′ r r′ p q = done-same r r′ vs vs′ (p ∙ sym q)
@@ -31,7 +31,7 @@ one-collect ws top vs vs′ r r′ p q = done-same r r′ vs vs′ (p ∙ sym q)
 pub one-run : OneRun
 one-run ws top calls out vs vs′ os os′ r r′ p q =
     let e : outcomeIs r vs os ≡ outcomeIs r′ vs′ os′ = p ∙ sym q in (
-      ap (λ (o : Outcome). answer (o .verdict .status) (o .verdict .value) (o .top)) e,
+      ap (λ (o : Outcome). reply (o .verdict .status) (o .verdict .value) (o .top)) e,
       ap (λ (o : Outcome). o .words) e,
       ap (λ (o : Outcome). o .answers) e,
     )

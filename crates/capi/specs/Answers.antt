@@ -1,4 +1,4 @@
--- What crosses to C, as the definitions have it: an answer's numbers with the slices as they are left.
+-- What crosses to C, as the definitions have it: a reply's numbers with the slices as they are left.
 -- Assumes nothing.
 use mathlib.Core.Path.{_≡_}
 use mathlib.Core.List.{List}
@@ -10,38 +10,38 @@ use Rattle.meaning.specs.Fresh.{freshIn}
 use Rattle.meaning.specs.Batch.{Outcome, batch}
 use Rattle.store.specs.Answers.{Placed}
 use Rattle.store.specs.declared.Span as span
-use Rattle.capi.specs.declared.Answer.{Answer}
+use Rattle.capi.specs.declared.Reply.{Reply}
 
 -- a status, a value and `top`
-abbrev pub answer : ℕ → ℕ → ℕ → Answer
-answer s v t = record { status = s; value = v; top = t }
+abbrev pub reply : ℕ → ℕ → ℕ → Reply
+reply s v t = record { status = s; value = v; top = t }
 
--- an answer's status and value
-abbrev pub verdictIs : Answer → Verdict
+-- a reply's status and value
+abbrev pub verdictIs : Reply → Verdict
 verdictIs r = record { status = r .status; value = r .value }
 
 -- with the words of the store
-abbrev pub doneIs : Answer → List ℕ → Done
+abbrev pub doneIs : Reply → List ℕ → Done
 doneIs r ws = record { verdict = verdictIs r; words = ws; top = r .top }
 
 -- with the words of the store and of the answer space
-abbrev pub outcomeIs : Answer → List ℕ → List ℕ → Outcome
+abbrev pub outcomeIs : Reply → List ℕ → List ℕ → Outcome
 outcomeIs r ws out = record { verdict = verdictIs r; words = ws; top = r .top; answers = out }
 
 -- ---- what the exported functions promise: the contracts cite these, and so does every claim about them
 
 -- `zelmotar_check` gives `top` back as it came
-abbrev pub Checks : List ℕ → ℕ → Answer → Type 0
+abbrev pub Checks : List ℕ → ℕ → Reply → Type 0
 Checks ws top r = (verdictIs r ≡ check firstHeapCell ws top) × (r .top ≡ top)
 
--- the others: of the answer, and the words vs and answers os that they leave
-abbrev pub Makes : List ℕ → Answer → List ℕ → Type 0
+-- the others: of the reply, and the words vs and answers os that they leave
+abbrev pub Makes : List ℕ → Reply → List ℕ → Type 0
 Makes ws r vs = doneIs r vs ≡ freshIn firstHeapCell ws
 
-abbrev pub Collects : List ℕ → ℕ → Answer → List ℕ → Type 0
+abbrev pub Collects : List ℕ → ℕ → Reply → List ℕ → Type 0
 Collects ws top r vs = doneIs r vs ≡ collectIn firstHeapCell ws top
 
-abbrev pub Runs : List ℕ → ℕ → List ℕ → List ℕ → Answer → List ℕ → List ℕ → Type 0
+abbrev pub Runs : List ℕ → ℕ → List ℕ → List ℕ → Reply → List ℕ → List ℕ → Type 0
 Runs ws top calls out r vs os = outcomeIs r vs os ≡ batch firstHeapCell ws top calls out
 
 -- `zelmotar_look` names a place that lies in the words, from ≤ to ≤ their number

@@ -1,4 +1,4 @@
--- The claims that a statement of this crate leaves no second outcome (SCOPE 8.5): the answer, and
+-- The claims that a statement of this crate leaves no second outcome (SCOPE 8.5): the reply, and
 -- every word of the slices lent. Proved in proofs/Final.antt.
 -- Assumes nothing.
 use mathlib.Core.Path.{_≡_}
@@ -6,22 +6,22 @@ use mathlib.Core.List.{List}
 use Prim.Native.Nat.{ℕ}
 use Rattle.store.specs.declared.Span as span
 use Rattle.capi.specs.Answers.{Checks, Makes, Collects, Runs, Places}
-use Rattle.capi.specs.declared.Answer.{Answer}
+use Rattle.capi.specs.declared.Reply.{Reply}
 
 abbrev pub OneCheck : Type 0
-OneCheck = (ws : List ℕ) (top : ℕ) (r r′ : Answer) → Checks ws top r → Checks ws top r′ → r ≡ r′
+OneCheck = (ws : List ℕ) (top : ℕ) (r r′ : Reply) → Checks ws top r → Checks ws top r′ → r ≡ r′
 
 abbrev pub OneFresh : Type 0
-OneFresh = (ws vs vs′ : List ℕ) (r r′ : Answer) → Makes ws r vs → Makes ws r′ vs′ → (r ≡ r′) × (vs ≡ vs′)
+OneFresh = (ws vs vs′ : List ℕ) (r r′ : Reply) → Makes ws r vs → Makes ws r′ vs′ → (r ≡ r′) × (vs ≡ vs′)
 
 abbrev pub OneCollect : Type 0
 OneCollect =
-    (ws : List ℕ) (top : ℕ) (vs vs′ : List ℕ) (r r′ : Answer) → Collects ws top r vs → Collects ws top r′ vs′
+    (ws : List ℕ) (top : ℕ) (vs vs′ : List ℕ) (r r′ : Reply) → Collects ws top r vs → Collects ws top r′ vs′
     → (r ≡ r′) × (vs ≡ vs′)
 
 abbrev pub OneRun : Type 0
 OneRun =
-    (ws : List ℕ) (top : ℕ) (calls out vs vs′ os os′ : List ℕ) (r r′ : Answer)
+    (ws : List ℕ) (top : ℕ) (calls out vs vs′ os os′ : List ℕ) (r r′ : Reply)
     → Runs ws top calls out r vs os → Runs ws top calls out r′ vs′ os′ → (r ≡ r′) × (vs ≡ vs′) × (os ≡ os′)
 
 abbrev pub OneLook : Type 0

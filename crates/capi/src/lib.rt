@@ -1,5 +1,5 @@
-// The store for C and Rust. A slice crosses as a pointer and a count of words. No enum and no slice can come back: an
-// answer is a struct of SCOPE's numbers (5), and a look is a place. Each exported function is one call of a proved
+// The store for C and Rust. A slice crosses as a pointer and a count of words. No enum and no slice can come back: a
+// reply is a struct of SCOPE's numbers (5), and a look is a place. Each exported function is one call of a proved
 // one, and takes whatever it is handed.
 use calls::Ran;
 use collect::Collected;
@@ -11,22 +11,22 @@ ghost use mathlib.Core.Path.{_≡_};
 ghost use Prim.Native.Nat.{_≤_};
 ghost use Rattle.meaning.specs.Limits.{limit};
 ghost use Rattle.store.specs.Answers.{refusalOf};
-ghost use Rattle.capi.specs.Answers.{answer, Checks, Makes, Collects, Runs, Places};
+ghost use Rattle.capi.specs.Answers.{reply, Checks, Makes, Collects, Runs, Places};
 
 // A status, the value that goes with it, and `top` afterwards.
 #[repr(C)]
-pub struct Answer {
+pub struct Reply {
     pub status: u32,
     pub value: u32,
     pub top: usize,
 }
 
 // A value is a cell or a number of cells, so it fits a word.
-fn reply(status: u32, value: usize, top: usize) -> Answer
+fn reply_with(status: u32, value: usize, top: usize) -> Reply
     requires { ⌜ value ≤ limit ⌝ }
-    ensures { λ r. ⌜ r ≡ answer status value top ⌝ }
+    ensures { λ r. ⌜ r ≡ reply status value top ⌝ }
 {
-    Answer {
+    Reply {
         status,
         value: value as u32,
         top,
@@ -34,46 +34,46 @@ fn reply(status: u32, value: usize, top: usize) -> Answer
 }
 
 // Why a store is refused. `top` comes back as it came.
-fn refuse(why: Unsound, top: usize) -> Answer
+fn refuse(why: Unsound, top: usize) -> Reply
     requires { ⌜ refusalOf why .value ≤ limit ⌝ }
-    ensures { λ r. ⌜ r ≡ answer (refusalOf why .status) (refusalOf why .value) top ⌝ }
+    ensures { λ r. ⌜ r ≡ reply (refusalOf why .status) (refusalOf why .value) top ⌝ }
 {
     match why {
-        Unsound::BadLength => reply(1, 0, top),
-        Unsound::BadTop => reply(2, 0, top),
-        Unsound::Damaged(cell) => reply(3, cell, top),
+        Unsound::BadLength => reply_with(1, 0, top),
+        Unsound::BadTop => reply_with(2, 0, top),
+        Unsound::Damaged(cell) => reply_with(3, cell, top),
     }
 }
 
 // The check alone. `top` comes back as it came.
 #[no_mangle]
-pub extern "C" fn zelmotar_check(words: &[u32], top: usize) -> Answer
+pub extern "C" fn zelmotar_check(words: &[u32], top: usize) -> Reply
     ensures { λ r. ⌜ Checks (now (words .entry)) top r ⌝ }
 {
     match store::check(words, top) {
-        Checked::Sound => reply(0, 0, top),
+        Checked::Sound => reply_with(0, 0, top),
         Checked::Refused(why) => refuse(why, top),
     }
 }
 
 // A fresh store, with its `top`; 0 as `top` where the words are left as they are.
 #[no_mangle]
-pub extern "C" fn zelmotar_fresh(words: &mut [u32]) -> Answer
+pub extern "C" fn zelmotar_fresh(words: &mut [u32]) -> Reply
     ensures { λ r. ⌜ Makes (now (words .entry)) r (now (words .exit)) ⌝ }
 {
     match store::fresh(words) {
-        Made::Ready(top) => reply(0, 0, top),
-        Made::BadLength => reply(1, 0, 0),
+        Made::Ready(top) => reply_with(0, 0, top),
+        Made::BadLength => reply_with(1, 0, 0),
     }
 }
 
 // Collecting alone. The value is live.
 #[no_mangle]
-pub extern "C" fn zelmotar_collect(words: &mut [u32], top: usize) -> Answer
+pub extern "C" fn zelmotar_collect(words: &mut [u32], top: usize) -> Reply
     ensures { λ r. ⌜ Collects (now (words .entry)) top r (now (words .exit)) ⌝ }
 {
     match collect::collect(words, top) {
-        Collected::Done(live, low) => reply(0, live, low),
+        Collected::Done(live, low) => reply_with(0, live, low),
         Collected::Refused(why) => refuse(why, top),
     }
 }
@@ -85,15 +85,15 @@ pub extern "C" fn zelmotar_run(
     top: usize,
     calls: &[u32],
     answers: &mut [u32],
-) -> Answer
+) -> Reply
     ensures { λ r. ⌜ Runs (now (words .entry)) top (now (calls .entry)) (now (answers .entry)) r (now (words .exit))
         (now (answers .exit)) ⌝ }
 {
     match calls::run(words, top, calls, answers) {
-        Ran::Ended(end) => reply(0, 0, end),
+        Ran::Ended(end) => reply_with(0, 0, end),
         Ran::Refused(why) => refuse(why, top),
-        Ran::BadCalls => reply(4, 0, top),
-        Ran::ShortAnswers => reply(5, 0, top),
+        Ran::BadCalls => reply_with(4, 0, top),
+        Ran::ShortAnswers => reply_with(5, 0, top),
     }
 }
 

@@ -4,7 +4,7 @@
 //! between live ones and brackets that no call would lay. Small capacities are the most frequent:
 //! there a few calls fill the store, and room runs out.
 
-use crate::plain::{put, Cell, BRACKET, HEAP, MOST_CODE};
+use crate::plain::{put, Cell, BRACKET, FIRST_HEAP_CELL, MAX_CODE};
 use crate::random::Random;
 
 /// How long the runs of a random store are, and where they lie.
@@ -29,18 +29,18 @@ pub fn capacity(random: &mut Random) -> usize {
 
 /// The ends of a run of cells from 16 up to but not including `limit`, or none if there is no cell.
 pub fn run(random: &mut Random, limit: usize, runs: Runs) -> Option<(usize, usize)> {
-    if limit <= HEAP {
+    if limit <= FIRST_HEAP_CELL {
         return None;
     }
     let lowest = match runs {
-        Runs::Short | Runs::Any => HEAP,
-        Runs::Recent => random.within(HEAP..=limit - 1),
+        Runs::Short | Runs::Any => FIRST_HEAP_CELL,
+        Runs::Recent => random.within(FIRST_HEAP_CELL..=limit - 1),
     };
     let end = random.within(lowest..=limit - 1);
     let other = match runs {
-        Runs::Short => end.saturating_sub(random.below(4)).max(HEAP),
-        Runs::Recent => end.saturating_sub(random.below(8)).max(HEAP),
-        Runs::Any => random.within(HEAP..=limit - 1),
+        Runs::Short => end.saturating_sub(random.below(4)).max(FIRST_HEAP_CELL),
+        Runs::Recent => end.saturating_sub(random.below(8)).max(FIRST_HEAP_CELL),
+        Runs::Any => random.within(FIRST_HEAP_CELL..=limit - 1),
     };
     Some((end.min(other), end.max(other)))
 }
@@ -48,8 +48,8 @@ pub fn run(random: &mut Random, limit: usize, runs: Runs) -> Option<(usize, usiz
 /// A symbol code, often a small one or the largest.
 fn code(random: &mut Random) -> u32 {
     match random.below(8) {
-        0 => MOST_CODE,
-        1 => random.word() & MOST_CODE,
+        0 => MAX_CODE,
+        1 => random.word() & MAX_CODE,
         _ => random.below(6) as u32,
     }
 }
@@ -67,16 +67,16 @@ pub fn heap_cell(random: &mut Random, c: usize, runs: Runs) -> Cell {
 pub fn sound(random: &mut Random, capacity: usize, runs: Runs) -> (Vec<u32>, usize) {
     let mut words = vec![0; 2 * capacity];
     let top = match random.below(4) {
-        0 => HEAP,
+        0 => FIRST_HEAP_CELL,
         1 => capacity,
-        _ => random.within(HEAP..=capacity),
+        _ => random.within(FIRST_HEAP_CELL..=capacity),
     };
-    for c in HEAP..top {
+    for c in FIRST_HEAP_CELL..top {
         let cell = heap_cell(random, c, runs);
         put(&mut words, c, cell);
     }
     let sparse = random.pick(&[2, 4, 12]);
-    for register in 0..HEAP {
+    for register in 0..FIRST_HEAP_CELL {
         let cell = match run(random, top, runs) {
             Some((l, r)) if random.one_in(sparse) => Cell::Bracket(l, r),
             _ => Cell::Empty,
@@ -88,7 +88,7 @@ pub fn sound(random: &mut Random, capacity: usize, runs: Runs) -> (Vec<u32>, usi
 
 /// A word that is likely to break a rule only just.
 fn telling_word(random: &mut Random, top: usize) -> u32 {
-    let near = random.pick(&[0, 1, 15, 16, 17, top.wrapping_sub(1) as u32, top as u32, MOST_CODE]);
+    let near = random.pick(&[0, 1, 15, 16, 17, top.wrapping_sub(1) as u32, top as u32, MAX_CODE]);
     let flags = random.pick(&[0, 0, BRACKET, BRACKET, BRACKET, 1 << 30, 1 << 29, 1 << 28]);
     match random.below(6) {
         0 => random.word(),
@@ -164,7 +164,7 @@ fn spoilt_call(random: &mut Random) -> [u32; 4] {
         call[random.below(4)] = match random.below(8) {
             0..=3 => random.below(21) as u32,
             4 => random.word(),
-            _ => random.pick(&[1, 12, 15, 16, 99, MOST_CODE, MOST_CODE + 1, u32::MAX]),
+            _ => random.pick(&[1, 12, 15, 16, 99, MAX_CODE, MAX_CODE + 1, u32::MAX]),
         };
     }
     call

@@ -13,7 +13,7 @@ mod marks;
 pub use checks::{ByBlocks, Checks, OneByOne};
 pub use marks::{BitSet, ByteSet, Linear, Marks, Set, Walk};
 
-use crate::plain::{Reply, BRACKET, HEAP, MOST_CALL_WORDS, MOST_CELLS, MOST_CODE};
+use crate::plain::{Reply, BRACKET, FIRST_HEAP_CELL, MAX_CALL_WORDS, MAX_CELLS, MAX_CODE};
 
 /// The store with a check, a way of marking and the side tables of the collector.
 #[derive(Debug, Default)]
@@ -71,9 +71,9 @@ fn mended(words: &[u32], place: &[u32], c: usize) -> [u32; 2] {
 /// slices end at the old one. As arguments they are known to lie apart, so that the loop need not
 /// look again where they are.
 fn slide(words: &mut [u32], place: &mut [u32], marks: &impl Marks) -> usize {
-    let mut next = HEAP;
+    let mut next = FIRST_HEAP_CELL;
     // Contents lie below their bracket, so their new addresses are known when it moves.
-    for c in HEAP..place.len() {
+    for c in FIRST_HEAP_CELL..place.len() {
         place[c] = next as u32;
         if marks.has(c) {
             let moved = mended(words, place, c);
@@ -81,7 +81,7 @@ fn slide(words: &mut [u32], place: &mut [u32], marks: &impl Marks) -> usize {
             next += 1;
         }
     }
-    for register in 0..HEAP {
+    for register in 0..FIRST_HEAP_CELL {
         let moved = mended(words, place, register);
         set(words, register, moved);
     }
@@ -116,7 +116,7 @@ fn misspelt(call: &[u32]) -> u32 {
         11
     } else if (set(1) | set(2) | set(3)) & unused != 0 {
         12
-    } else if call[0] == 2 && call[2] > MOST_CODE {
+    } else if call[0] == 2 && call[2] > MAX_CODE {
         13
     } else {
         0
@@ -125,7 +125,7 @@ fn misspelt(call: &[u32]) -> u32 {
 
 /// Whether a slice of `n` words may hold a store.
 fn fits(n: usize) -> bool {
-    n % 2 == 0 && (2 * HEAP..=2 * MOST_CELLS).contains(&n)
+    n % 2 == 0 && (2 * FIRST_HEAP_CELL..=2 * MAX_CELLS).contains(&n)
 }
 
 /// A fresh store, or refusal 1. Nothing is checked or marked, so it is the same for all.
@@ -133,10 +133,10 @@ pub fn fresh(words: &mut [u32]) -> Reply {
     if !fits(words.len()) {
         return Reply { status: 1, value: 0, top: 0 };
     }
-    let (registers, rest) = words.split_at_mut(2 * HEAP);
+    let (registers, rest) = words.split_at_mut(2 * FIRST_HEAP_CELL);
     registers.chunks_exact_mut(2).for_each(|cell| cell.copy_from_slice(&EMPTY));
     rest.fill(0);
-    Reply { status: 0, value: 0, top: HEAP }
+    Reply { status: 0, value: 0, top: FIRST_HEAP_CELL }
 }
 
 impl<C: Checks, M: Marks> Ordinary<C, M> {
@@ -145,7 +145,7 @@ impl<C: Checks, M: Marks> Ordinary<C, M> {
         let n = words.len();
         let (status, value) = if !fits(n) {
             (1, 0)
-        } else if top < HEAP || top > n / 2 {
+        } else if top < FIRST_HEAP_CELL || top > n / 2 {
             (2, 0)
         } else {
             self.checks.damaged(words, top).map_or((0, 0), |c| (3, c as u32))
@@ -155,7 +155,7 @@ impl<C: Checks, M: Marks> Ordinary<C, M> {
 
     /// A look at a register: the part of the words that holds its cells, as offsets.
     pub fn look(&self, words: &[u32], top: usize, register: usize) -> (usize, usize) {
-        if register >= HEAP || self.check(words, top).status != 0 {
+        if register >= FIRST_HEAP_CELL || self.check(words, top).status != 0 {
             return (0, 0);
         }
         ends(words, register).map_or((0, 0), |(l, r)| (2 * l, 2 * r + 2))
@@ -176,7 +176,7 @@ impl<C: Checks, M: Marks> Ordinary<C, M> {
             return checked;
         }
         let top = self.compact(words, top);
-        Reply { status: 0, value: (top - HEAP) as u32, top }
+        Reply { status: 0, value: (top - FIRST_HEAP_CELL) as u32, top }
     }
 
     /// Makes room for `need` cells, collecting if it must.
@@ -250,7 +250,7 @@ impl<C: Checks, M: Marks> Ordinary<C, M> {
             10 => return Ok(self.marks.mark(words, *top)),
             11 => {
                 *top = self.compact(words, *top);
-                return Ok(*top - HEAP);
+                return Ok(*top - FIRST_HEAP_CELL);
             }
             operation => return first(words, operation, d, a),
         }
@@ -269,7 +269,7 @@ impl<C: Checks, M: Marks> Ordinary<C, M> {
         if checked.status != 0 {
             return checked;
         }
-        if calls.len() > MOST_CALL_WORDS || calls.len() % 4 != 0 {
+        if calls.len() > MAX_CALL_WORDS || calls.len() % 4 != 0 {
             return Reply { status: 4, ..checked };
         }
         if answers.len() < calls.len() / 2 {

@@ -5,13 +5,13 @@
 //! here is quick or in place.
 
 /// The number of registers, and so the address of the first heap cell.
-pub const HEAP: usize = 16;
+pub const FIRST_HEAP_CELL: usize = 16;
 /// The largest capacity, in cells.
-pub const MOST_CELLS: usize = 4096;
+pub const MAX_CELLS: usize = 4096;
 /// The longest call list, in words.
-pub const MOST_CALL_WORDS: usize = 4096;
+pub const MAX_CALL_WORDS: usize = 4096;
 /// The largest symbol code.
-pub const MOST_CODE: u32 = (1 << 28) - 1;
+pub const MAX_CODE: u32 = (1 << 28) - 1;
 /// The second word of an empty bracket.
 pub const BRACKET: u32 = 1 << 31;
 
@@ -40,9 +40,9 @@ pub enum Cell {
 impl Cell {
     /// The cell that two words spell. `None` where they spell none at any address.
     pub fn read(first: u32, second: u32) -> Option<Cell> {
-        let (flags, right) = (second >> 28, second & MOST_CODE);
+        let (flags, right) = (second >> 28, second & MAX_CODE);
         match (flags, right) {
-            (0, 0) if first <= MOST_CODE => Some(Cell::Symbol(first)),
+            (0, 0) if first <= MAX_CODE => Some(Cell::Symbol(first)),
             (8, 0) if first == 0 => Some(Cell::Empty),
             (8, 1..) => Some(Cell::Bracket(first as usize, right as usize)),
             _ => None,
@@ -84,18 +84,18 @@ fn keeps_its_rule(words: &[u32], top: usize, c: usize) -> bool {
     if c >= top {
         return first == 0 && second == 0;
     }
-    let limit = if c < HEAP { top } else { c };
+    let limit = if c < FIRST_HEAP_CELL { top } else { c };
     match Cell::read(first, second) {
         None => false,
-        Some(Cell::Symbol(_)) => c >= HEAP,
+        Some(Cell::Symbol(_)) => c >= FIRST_HEAP_CELL,
         Some(Cell::Empty) => true,
-        Some(Cell::Bracket(l, r)) => HEAP <= l && l <= r && r < limit,
+        Some(Cell::Bracket(l, r)) => FIRST_HEAP_CELL <= l && l <= r && r < limit,
     }
 }
 
 /// Whether a slice of `n` words may hold a store.
 fn fits(n: usize) -> bool {
-    n % 2 == 0 && (2 * HEAP..=2 * MOST_CELLS).contains(&n)
+    n % 2 == 0 && (2 * FIRST_HEAP_CELL..=2 * MAX_CELLS).contains(&n)
 }
 
 /// The check: 0, or refusals 1 to 3. `top` comes back as it came.
@@ -105,7 +105,7 @@ pub fn check(words: &[u32], top: usize) -> Reply {
         return reply(1, 0);
     }
     let capacity = words.len() / 2;
-    if !(HEAP..=capacity).contains(&top) {
+    if !(FIRST_HEAP_CELL..=capacity).contains(&top) {
         return reply(2, 0);
     }
     match (0..capacity).find(|&c| !keeps_its_rule(words, top, c)) {
@@ -120,15 +120,15 @@ pub fn fresh(words: &mut [u32]) -> Reply {
         return Reply { status: 1, value: 0, top: 0 };
     }
     words.fill(0);
-    for register in 0..HEAP {
+    for register in 0..FIRST_HEAP_CELL {
         put(words, register, Cell::Empty);
     }
-    Reply { status: 0, value: 0, top: HEAP }
+    Reply { status: 0, value: 0, top: FIRST_HEAP_CELL }
 }
 
 /// The part of the words that holds a register's cells, as offsets; (0, 0) where there is none.
 pub fn look(words: &[u32], top: usize, register: usize) -> (usize, usize) {
-    if check(words, top).status != 0 || register >= HEAP {
+    if check(words, top).status != 0 || register >= FIRST_HEAP_CELL {
         return (0, 0);
     }
     match ends(words, register) {
@@ -140,7 +140,8 @@ pub fn look(words: &[u32], top: usize, register: usize) -> (usize, usize) {
 /// For each address below `top`, whether a heap cell there is reached. The store is sound.
 pub fn reached(words: &[u32], top: usize) -> Vec<bool> {
     let mut seen = vec![false; top];
-    let mut runs: Vec<_> = (0..HEAP).filter_map(|register| ends(words, register)).collect();
+    let mut runs: Vec<_> =
+        (0..FIRST_HEAP_CELL).filter_map(|register| ends(words, register)).collect();
     while let Some((l, r)) = runs.pop() {
         for (c, seen) in (l..).zip(&mut seen[l..=r]) {
             if !*seen {
@@ -161,13 +162,13 @@ pub fn live(words: &[u32], top: usize) -> usize {
 fn compact(words: &mut [u32], top: usize) -> usize {
     let seen = reached(words, top);
     let mut place: Vec<usize> = (0..top).collect();
-    let mut next = HEAP;
-    for c in HEAP..top {
+    let mut next = FIRST_HEAP_CELL;
+    for c in FIRST_HEAP_CELL..top {
         place[c] = next;
         next += usize::from(seen[c]);
     }
     let mut second = vec![0; words.len()];
-    for c in (0..top).filter(|&c| c < HEAP || seen[c]) {
+    for c in (0..top).filter(|&c| c < FIRST_HEAP_CELL || seen[c]) {
         let moved = match at(words, c) {
             Cell::Bracket(l, r) => Cell::Bracket(place[l], place[r]),
             other => other,
@@ -185,7 +186,7 @@ pub fn collect(words: &mut [u32], top: usize) -> Reply {
         return checked;
     }
     let top = compact(words, top);
-    Reply { status: 0, value: (top - HEAP) as u32, top }
+    Reply { status: 0, value: (top - FIRST_HEAP_CELL) as u32, top }
 }
 
 /// What an operand word is to an operation.
@@ -226,7 +227,7 @@ fn refused_by_words(call: &[u32]) -> u32 {
         11
     } else if any(Operand::Unused, |word| word != 0) {
         12
-    } else if any(Operand::Code, |word| word > MOST_CODE) {
+    } else if any(Operand::Code, |word| word > MAX_CODE) {
         13
     } else {
         0
@@ -320,7 +321,7 @@ fn perform(words: &mut [u32], top: &mut usize, call: &[u32]) -> u32 {
         10 => return live(words, *top) as u32,
         _ => {
             *top = compact(words, *top);
-            return (*top - HEAP) as u32;
+            return (*top - FIRST_HEAP_CELL) as u32;
         }
     }
     0
@@ -352,7 +353,7 @@ pub fn run(words: &mut [u32], top: usize, calls: &[u32], answers: &mut [u32]) ->
         return checked;
     }
     let reply = |status, top| Reply { status, value: 0, top };
-    if calls.len() > MOST_CALL_WORDS || calls.len() % 4 != 0 {
+    if calls.len() > MAX_CALL_WORDS || calls.len() % 4 != 0 {
         return reply(4, top);
     }
     if answers.len() < calls.len() / 4 * 2 {

@@ -1,7 +1,7 @@
 //! The three parts of the model, held against each other and against the rules said word for word.
 
 use zelmotar_model::ordinary::{self, Better, Checks, Marks, Ordinary, Usual, WithBits};
-use zelmotar_model::plain::{self, HEAP};
+use zelmotar_model::plain::{self, FIRST_HEAP_CELL};
 use zelmotar_model::random::Random;
 use zelmotar_model::trees::Trees;
 use zelmotar_model::{make, make::Runs};
@@ -15,10 +15,11 @@ fn reached_by_definition(words: &[u32], top: usize) -> Vec<bool> {
         second > 1 << 31 && l <= c && c <= (second - (1 << 31)) as usize
     };
     loop {
-        let new: Vec<usize> = (HEAP..top)
+        let new: Vec<usize> = (FIRST_HEAP_CELL..top)
             .filter(|&c| !reached[c])
             .filter(|&c| {
-                (0..top).any(|holder| (holder < HEAP || reached[holder]) && holds(holder, c))
+                (0..top)
+                    .any(|holder| (holder < FIRST_HEAP_CELL || reached[holder]) && holds(holder, c))
             })
             .collect();
         if new.is_empty() {
@@ -31,11 +32,12 @@ fn reached_by_definition(words: &[u32], top: usize) -> Vec<bool> {
 /// The words after a collection, by the words of the definition.
 fn collected_by_definition(words: &[u32], top: usize) -> Vec<u32> {
     let reached = reached_by_definition(words, top);
-    let place = |c: usize| HEAP + (HEAP..c).filter(|&below| reached[below]).count();
+    let place =
+        |c: usize| FIRST_HEAP_CELL + (FIRST_HEAP_CELL..c).filter(|&below| reached[below]).count();
     let mut after = vec![0; words.len()];
-    for c in (0..top).filter(|&c| c < HEAP || reached[c]) {
+    for c in (0..top).filter(|&c| c < FIRST_HEAP_CELL || reached[c]) {
         let (first, second) = (words[2 * c], words[2 * c + 1]);
-        let to = if c < HEAP { c } else { place(c) };
+        let to = if c < FIRST_HEAP_CELL { c } else { place(c) };
         let has_contents = second > 1 << 31;
         after[2 * to] = if has_contents { place(first as usize) as u32 } else { first };
         after[2 * to + 1] = if has_contents {
@@ -69,7 +71,10 @@ fn plain_collects_as_the_definition_says() {
             (collected_by_definition(&words, top), reached_by_definition(&words, top));
         let live = reached.iter().filter(|&&reached| reached).count();
         let reply = plain::collect(&mut words, top);
-        assert_eq!((reply.status, reply.value as usize, reply.top), (0, live, HEAP + live));
+        assert_eq!(
+            (reply.status, reply.value as usize, reply.top),
+            (0, live, FIRST_HEAP_CELL + live)
+        );
         assert_eq!(words, expected);
         assert_eq!(plain::check(&words, reply.top).status, 0);
     }
@@ -123,7 +128,7 @@ fn same_as_plain<C: Checks, M: Marks>(
     assert_eq!(quick.collect(&mut ours, top), plain::collect(&mut theirs, top));
     assert_eq!(ours, theirs);
     assert_eq!(quick.check(words, top), plain::check(words, top));
-    for register in 0..=HEAP {
+    for register in 0..=FIRST_HEAP_CELL {
         assert_eq!(quick.look(words, top, register), plain::look(words, top, register));
     }
 }

@@ -6,7 +6,7 @@
 
 use zelmotar::raw;
 use zelmotar_model::make::{self, Runs};
-use zelmotar_model::plain::{self, Cell, HEAP};
+use zelmotar_model::plain::{self, Cell, FIRST_HEAP_CELL};
 use zelmotar_model::random::Random;
 
 use crate::case::Ran;
@@ -41,7 +41,7 @@ fn gaps(words: &[u32], top: usize) -> Vec<usize> {
             torn[l + 1..=r].fill(true);
         }
     }
-    (HEAP..=top).filter(|&c| !torn[c]).collect()
+    (FIRST_HEAP_CELL..=top).filter(|&c| !torn[c]).collect()
 }
 
 /// A store alike to a collected one, with dead cells put in at random.

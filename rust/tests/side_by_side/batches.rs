@@ -1,7 +1,7 @@
 //! Random stores, sound and damaged, with random lists and answer spaces.
 
 use zelmotar_model::make::{self, Runs};
-use zelmotar_model::plain::{put, Cell, HEAP};
+use zelmotar_model::plain::{put, Cell, FIRST_HEAP_CELL};
 use zelmotar_model::random::Random;
 
 use crate::case::Case;
@@ -66,8 +66,8 @@ fn large_stores() {
         let (runs, most) = random.pick(&[(Runs::Short, 1024), (Runs::Short, 100), (Runs::Any, 4)]);
         let mut store = make::sound(&mut random, capacity, runs);
         // A register over the whole heap keeps every cell, so that room runs out on a large store too.
-        if store.1 > HEAP && random.one_in(2) {
-            put(&mut store.0, HEAP - 1, Cell::Bracket(HEAP, store.1 - 1));
+        if store.1 > FIRST_HEAP_CELL && random.one_in(2) {
+            put(&mut store.0, FIRST_HEAP_CELL - 1, Cell::Bracket(FIRST_HEAP_CELL, store.1 - 1));
         }
         if random.one_in(5) {
             make::damage(&mut random, &mut store.0, &mut store.1);

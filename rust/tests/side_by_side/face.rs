@@ -176,7 +176,7 @@ fn every_refusal_by_name() {
 fn capacities_at_the_border() {
     assert_eq!(Store::new(MAX_CELLS).map(|store| store.capacity()), Ok(MAX_CELLS));
     for capacity in [0, 15, MAX_CELLS + 1, usize::MAX] {
-        assert_eq!(Store::new(capacity), Err(Refusal::Length));
+        assert_eq!(Store::new(capacity), Err(Refusal::BadLength));
     }
 }
 
@@ -189,7 +189,7 @@ fn borrowed_words_stay_with_their_owner() {
     assert_eq!((top, &words[32..34]), (17, &[5, 0][..]));
     let store = Store::from_parts(words, top);
     assert_eq!(store.look(3).to_string(), "5");
-    assert_eq!(Store::fresh(&mut [7; 33][..]), Err(Refusal::Length));
+    assert_eq!(Store::fresh(&mut [7; 33][..]), Err(Refusal::BadLength));
 }
 
 #[test]
@@ -207,7 +207,7 @@ fn a_refused_request_changes_nothing() {
     assert_eq!(store, before);
     assert_eq!(store.look(0).len(), 0);
     let top = Store::from_parts(store.into_parts().0, usize::MAX);
-    assert_eq!(top.check(), Err(Refusal::Top));
+    assert_eq!(top.check(), Err(Refusal::BadTop));
 }
 
 /// Runs calls one by one up to the first that is refused.

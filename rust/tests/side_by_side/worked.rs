@@ -190,7 +190,7 @@ fn run_only_call_lists() {
 fn run_only_answer_space() {
     let two_calls = [[10, 0, 0, 0], [10, 0, 0, 0]].concat();
     let mut answers = [9; 3];
-    assert_eq!(fresh(16).run_words(&two_calls, &mut answers), Err(Refusal::Answers));
+    assert_eq!(fresh(16).run_words(&two_calls, &mut answers), Err(Refusal::ShortAnswers));
     assert_eq!(answers, [9; 3]);
     assert_eq!(fresh(16).run_words(&two_calls, &mut [9; 4]), Ok(()));
 }

@@ -13,7 +13,7 @@ refuse-requires c κs =
 returns : tie.Need-returns
 returns c =
     let found = c .before .before .before .check in
-    rw (c .reply .ensures) (rw (c .before .enum-told .given .1) at (found .ensures), refl)
+    rw (c .reply-with .ensures) (rw (c .before .enum-told .given .1) at (found .ensures), refl)
 
 returns-2 : tie.Need-returns-2
 returns-2 c =

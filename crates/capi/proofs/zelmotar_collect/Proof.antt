@@ -6,8 +6,8 @@ use borrow.Author.Needs.{needs}
 use Rattle.capi.proofs.zelmotar_collect.Statement.{statement}
 use Rattle.capi.proofs.zelmotar_collect.Tie as tie
 
-reply-requires : tie.Need-reply-requires
-reply-requires c κs =
+reply-with-requires : tie.Need-reply-with-requires
+reply-with-requires c κs =
     let found = c .before .before .before .before .before .collect in
     collect-fits firstHeapCell _ _ firstHeapCell-pos (rw (c .before .live .given .1) at (found .ensures))
 
@@ -19,7 +19,7 @@ refuse-requires c κs =
 returns : tie.Need-returns
 returns c =
     let found = c .before .before .before .before .before .before .collect in
-    rw (c .reply .ensures) (rw (c .before .before .live .given .1) at (found .ensures))
+    rw (c .reply-with .ensures) (rw (c .before .before .live .given .1) at (found .ensures))
 
 returns-2 : tie.Need-returns-2
 returns-2 c =
@@ -30,5 +30,5 @@ pub zelmotar-collect-spec : {M : Type 1} → statement M
 zelmotar-collect-spec =
     tie.close
     (tie.spec
-    (λ c κs. search needs) (λ c. search needs) reply-requires (λ c. search needs) refuse-requires (λ c. search needs)
+    (λ c κs. search needs) (λ c. search needs) reply-with-requires (λ c. search needs) refuse-requires (λ c. search needs)
     returns (λ c. search needs) returns-2)

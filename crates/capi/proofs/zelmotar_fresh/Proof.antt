@@ -6,12 +6,12 @@ use Rattle.capi.proofs.zelmotar_fresh.Tie as tie
 returns : tie.Need-returns
 returns c =
     let made = c .before .before .before .before .before .before .fresh in
-    rw (c .reply .ensures) (rw (c .before .before .top .given .1) at (made .ensures))
+    rw (c .reply-with .ensures) (rw (c .before .before .top .given .1) at (made .ensures))
 
 returns-2 : tie.Need-returns-2
 returns-2 c =
     let made = c .before .before .before .before .before .fresh in
-    rw (c .reply2 .ensures) (rw (c .before .enum-told .given .1) at (made .ensures))
+    rw (c .reply-with2 .ensures) (rw (c .before .enum-told .given .1) at (made .ensures))
 
 pub zelmotar-fresh-spec : {M : Type 1} → statement M
 zelmotar-fresh-spec =

@@ -13,7 +13,7 @@ refuse-requires c κs =
 returns : tie.Need-returns
 returns c =
     let ran = c .before .before .before .before .before .before .before .before .run in
-    rw (c .reply .ensures) (rw (c .before .before .end .given .1) at (ran .ensures))
+    rw (c .reply-with .ensures) (rw (c .before .before .end .given .1) at (ran .ensures))
 
 returns-2 : tie.Need-returns-2
 returns-2 c =
@@ -23,12 +23,12 @@ returns-2 c =
 returns-3 : tie.Need-returns-3
 returns-3 c =
     let ran = c .before .before .before .before .before .before .before .run in
-    rw (c .reply2 .ensures) (rw (c .before .enum-told .given .1) at (ran .ensures))
+    rw (c .reply-with2 .ensures) (rw (c .before .enum-told .given .1) at (ran .ensures))
 
 returns-4 : tie.Need-returns-4
 returns-4 c =
     let ran = c .before .before .before .before .before .before .before .run in
-    rw (c .reply3 .ensures) (rw (c .before .enum-told2 .given .1) at (ran .ensures))
+    rw (c .reply-with3 .ensures) (rw (c .before .enum-told2 .given .1) at (ran .ensures))
 
 pub zelmotar-run-spec : {M : Type 1} → statement M
 zelmotar-run-spec =

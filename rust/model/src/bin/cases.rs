@@ -6,14 +6,14 @@
 
 use std::fmt::Write;
 use zelmotar_model::make::{self, Runs};
-use zelmotar_model::plain::{self, Reply, HEAP};
+use zelmotar_model::plain::{self, Reply, FIRST_HEAP_CELL};
 use zelmotar_model::random::Random;
 
 /// The cases of one theorem.
 const GROUP: usize = 20;
 
 /// Stores stay small: the definitions are computed by unfolding, which is slow on long lists.
-const MOST_CELLS: usize = 30;
+const MAX_CELLS: usize = 30;
 
 /// Everything before the cases: their type, and the test of each kind.
 const HEAD: &str = "\
@@ -92,11 +92,11 @@ fn list<T: std::fmt::Display>(numbers: &[T]) -> String {
 
 /// A store of few cells, sound or damaged.
 fn store(random: &mut Random) -> (Vec<u32>, usize) {
-    let capacity = random.within(HEAP..=MOST_CELLS);
+    let capacity = random.within(FIRST_HEAP_CELL..=MAX_CELLS);
     let (mut words, mut top) = make::sound(random, capacity, Runs::Any);
     if random.one_in(4) {
         make::damage(random, &mut words, &mut top);
-        words.truncate(2 * MOST_CELLS + 3);
+        words.truncate(2 * MAX_CELLS + 3);
     }
     (words, top)
 }
@@ -125,7 +125,7 @@ fn collection(random: &mut Random) -> String {
 
 /// A fresh store over words of any kind.
 fn fresh(random: &mut Random) -> String {
-    let length = random.below(2 * MOST_CELLS + 4);
+    let length = random.below(2 * MAX_CELLS + 4);
     let mut words: Vec<u32> = (0..length).map(|_| random.word()).collect();
     let lent = list(&words);
     let Reply { status, top, .. } = plain::fresh(&mut words);
@@ -135,7 +135,7 @@ fn fresh(random: &mut Random) -> String {
 /// A look at a register, or at a number that is none.
 fn look(random: &mut Random) -> String {
     let (words, top) = store(random);
-    let register = random.below(HEAP + 3);
+    let register = random.below(FIRST_HEAP_CELL + 3);
     let (from, to) = plain::look(&words, top, register);
     format!("looks {} {top} {register} {from} {to}", list(&words))
 }
@@ -148,7 +148,7 @@ fn word(bytes: &[u8]) -> u32 {
 /// What the program has to write: the batch on a fresh store, or a refusal.
 fn written(input: &[u8]) -> String {
     let capacity = input.get(..4).map_or(0, |bytes| word(bytes) as usize);
-    if !(HEAP..=4096).contains(&capacity) {
+    if !(FIRST_HEAP_CELL..=4096).contains(&capacity) {
         return "refused 1 0\n".into();
     }
     if input.len() > 16388 || (input.len() - 4) % 16 != 0 {

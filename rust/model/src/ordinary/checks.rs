@@ -4,7 +4,7 @@
 //! - [`ByBlocks`]: all cells of a block, and then it asks whether any was damaged. No test waits
 //!   for another, so the compiler makes vectors of them, and there is no branch to guess wrong.
 
-use crate::plain::{BRACKET, HEAP, MOST_CODE};
+use crate::plain::{BRACKET, FIRST_HEAP_CELL, MAX_CODE};
 
 /// A way of looking for damage.
 pub trait Checks: Default {
@@ -14,8 +14,8 @@ pub trait Checks: Default {
 
 /// The words of the registers, of the occupied heap cells and of the cells from `top` on.
 fn parts(words: &[u32], top: usize) -> [&[u32]; 3] {
-    let (registers, heap) = words.split_at(2 * HEAP);
-    let (heap, beyond) = heap.split_at(2 * (top - HEAP));
+    let (registers, heap) = words.split_at(2 * FIRST_HEAP_CELL);
+    let (heap, beyond) = heap.split_at(2 * (top - FIRST_HEAP_CELL));
     [registers, heap, beyond]
 }
 
@@ -32,7 +32,7 @@ impl OneByOne {
         if right == 0 {
             first == 0
         } else {
-            HEAP as u32 <= first && first <= right && right < limit
+            FIRST_HEAP_CELL as u32 <= first && first <= right && right < limit
         }
     }
 }
@@ -44,8 +44,8 @@ impl Checks for OneByOne {
         if let Some(c) = registers.chunks_exact(2).position(|cell| !register(cell)) {
             return Some(c);
         }
-        for (c, cell) in (HEAP as u32..).zip(heap.chunks_exact(2)) {
-            let symbol = cell[1] == 0 && cell[0] <= MOST_CODE;
+        for (c, cell) in (FIRST_HEAP_CELL as u32..).zip(heap.chunks_exact(2)) {
+            let symbol = cell[1] == 0 && cell[0] <= MAX_CODE;
             if !symbol && !Self::bracket(cell[0], cell[1], c) {
                 return Some(c as usize);
             }
@@ -82,7 +82,7 @@ impl ByBlocks {
     /// Whether two words are a symbol in order.
     #[inline]
     fn symbol(first: u32, second: u32) -> bool {
-        (second == 0) & (first <= MOST_CODE)
+        (second == 0) & (first <= MAX_CODE)
     }
 
     /// Whether two words are a bracket in order, as [`OneByOne`] says it, without a branch.
@@ -90,7 +90,7 @@ impl ByBlocks {
     fn bracket(first: u32, second: u32, limit: u32) -> bool {
         let right = second ^ BRACKET;
         let empty = first | right == 0;
-        empty | (HEAP as u32 <= first) & (first <= right) & (right < limit)
+        empty | (FIRST_HEAP_CELL as u32 <= first) & (first <= right) & (right < limit)
     }
 }
 
@@ -101,7 +101,7 @@ impl Checks for ByBlocks {
         let no_term =
             |first, second, c| !(Self::symbol(first, second) | Self::bracket(first, second, c));
         Self::first_bad(registers, 0, no_register)
-            .or_else(|| Self::first_bad(heap, HEAP, no_term))
+            .or_else(|| Self::first_bad(heap, FIRST_HEAP_CELL, no_term))
             .or_else(|| Self::first_bad(beyond, top, |first, second, _| first | second != 0))
     }
 }

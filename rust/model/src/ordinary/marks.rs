@@ -6,7 +6,7 @@
 //! - [`Linear`]: an address a cell and no stack. It looks at every cell once, however runs overlap.
 
 use super::ends;
-use crate::plain::HEAP;
+use crate::plain::FIRST_HEAP_CELL;
 
 /// A way of marking.
 pub trait Marks: Default {
@@ -89,7 +89,7 @@ impl<S: Set> Marks for Walk<S> {
     fn mark(&mut self, words: &[u32], top: usize) -> usize {
         self.met.reset(top);
         self.runs.clear();
-        self.runs.extend((0..HEAP).filter_map(|register| ends(words, register)));
+        self.runs.extend((0..FIRST_HEAP_CELL).filter_map(|register| ends(words, register)));
         let mut live = 0;
         while let Some((l, r)) = self.runs.pop() {
             let runs = &mut self.runs;
@@ -126,10 +126,10 @@ impl Marks for Linear {
         self.0.clear();
         self.0.resize(top, u32::MAX);
         let (words, low) = (&words[..2 * top], &mut self.0[..top]);
-        (0..HEAP).for_each(|register| enter(words, low, register));
+        (0..FIRST_HEAP_CELL).for_each(|register| enter(words, low, register));
         let (mut lowest, mut live) = (u32::MAX, 0);
         // Contents lie below their bracket, so all runs over a cell are entered when it is met.
-        for c in (HEAP..top).rev() {
+        for c in (FIRST_HEAP_CELL..top).rev() {
             lowest = lowest.min(low[c]);
             low[c] = lowest;
             if lowest as usize <= c {
