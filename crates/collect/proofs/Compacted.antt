@@ -27,7 +27,8 @@ use Rattle.collect.specs.Heap.{Heap, holder, Proper, place}
 use Rattle.collect.specs.Chain.{placedCell}
 use Rattle.collect.specs.Step.{lowered}
 use Rattle.collect.specs.Phases.{Sweeping}
-use Rattle.collect.specs.Passes.{Sweeps, Layable, Lowerable, Lowers, Settleable, Settles, Cleared}
+use Rattle.collect.specs.Passes.{Sweeps}
+use Rattle.collect.specs.Lowering.{Layable, Lowerable, Lowers, Settleable, Settles, Cleared}
 use Rattle.meaning.proofs.sound.Fields.{Fields, cell-fields, ends-in}
 use Rattle.collect.proofs.heap.Order.{holder-full}
 use Rattle.collect.proofs.heap.Places.{new-bound, place-own, place-packed, place-up}

@@ -4,7 +4,7 @@
 --   Chain    its cells in closed form while chains stand
 --   Step     what one step makes of them
 --   Phases   the phases of the sweep
---   Passes   what the functions ask for and leave
+--   Passes   what the functions of the sweep ask for and leave;  Lowering  those of the pass up
 --   Answers  SCOPE's number and values for each case of the answer
 --   Unique   the claim that collecting's statement leaves no second outcome
 -- Assumes nothing.
@@ -14,5 +14,6 @@ pub mod Chain
 pub mod Step
 pub mod Phases
 pub mod Passes
+pub mod Lowering
 pub mod Answers
 pub mod Unique

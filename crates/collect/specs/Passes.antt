@@ -1,20 +1,19 @@
 -- What the functions of the collector ask for and leave, on words: a function is asked for some heap in its phase, and
--- leaves every such heap in the next. In order: a cell put down, the sweep, then the pass up that lowers what the sweep
--- has packed. Assumes nothing.
+-- leaves every such heap in the next. In order: a cell put down, then the sweep. Lowering has the pass up.
+-- Assumes nothing.
 use mathlib.Core.Path.{_≡_}
 use mathlib.Core.Logic.{_≢_}
-use mathlib.Core.Bool.{Bool, true, false, cond}
+use mathlib.Core.Bool.{Bool, true, false}
 use mathlib.Core.List.{List}
 use Prim.Native.Nat.{ℕ, suc, _+_, _-_, _*_, _^_, _≤_, _<_}
-use lib.Dec.{ltb}
 use lib.ListN.{length}
-use Rattle.words.specs.Cell.{firstWord, secondWord, putCell}
+use Rattle.words.specs.Cell.{firstWord, putCell}
 use Rattle.words.specs.Second.{decode, plain, fullWord}
-use Rattle.meaning.specs.Limits.{firstHeapCell, limit}
+use Rattle.meaning.specs.Limits.{limit}
 use Rattle.collect.specs.Cells.{linked, cell}
 use Rattle.collect.specs.Heap.{Heap, pos}
 use Rattle.collect.specs.Chain.{SweptTo, Known}
-use Rattle.collect.specs.Step.{Laid, Linked, lowered}
+use Rattle.collect.specs.Step.{Laid, Linked}
 use Rattle.collect.specs.Phases.{Sweeping, Turn, Head, Passed, Begun}
 
 -- a second word without mark and chains
@@ -86,37 +85,3 @@ Sweepable s top packs = (g : Heap) × Begun g s top packs
 abbrev pub Sweeps : List ℕ → List ℕ → ℕ → Bool → ℕ → Type 0
 Sweeps s s′ top packs dead =
     (g : Heap) → Begun g s top packs → Sweeping g s′ (g .T) × (dead + g .new (g .T) ≡ g .T)
-
--- ---- the pass up
-
--- a cell with the words a and w can be put down at `to`, its ends d lower
-pub record Layable (s : List ℕ) (to a w d : ℕ) : Type 0 where
-  pub to-in : 2 * to + 1 < length s
-  pub bare : PlainWord w
-  pub far : fullWord w ≡ true → (d ≤ a) × (d ≤ decode w .ri)
-
-abbrev pub Lays : List ℕ → List ℕ → ℕ → ℕ → ℕ → ℕ → Type 0
-Lays s s′ to a w d = Laid (cell s) (cell s′) to (lowered d (linked a (decode w)))
-
--- the heap cells from d past the first one up to `top` move down by d, and so do their ends
-pub record Lowerable (s : List ℕ) (top d : ℕ) : Type 0 where
-  pub some : firstHeapCell + d ≤ top
-  pub room : 2 * top ≤ length s
-  pub len : length s ≤ 2 * limit
-  pub cells : (i : ℕ) → firstHeapCell + d ≤ i → i < top → Layable s (i - d) (firstWord s i) (secondWord s i) d
-
-pub record Lowers (s s′ : List ℕ) (top d : ℕ) : Type 0 where
-  pub down : (i : ℕ) → firstHeapCell + d ≤ i → i < top → cell s′ (i - d) ≡ lowered d (cell s i)
-  pub rest : (c : ℕ) → (firstHeapCell ≤ c → top ≤ c + d) → cell s′ c ≡ cell s c
-
--- the registers stay where they are
-abbrev pub Settleable : List ℕ → ℕ → Type 0
-Settleable s d = (r : ℕ) → r < firstHeapCell → Layable s r (firstWord s r) (secondWord s r) d
-
-abbrev pub Settles : List ℕ → List ℕ → ℕ → Type 0
-Settles s s′ d = (c : ℕ) → cell s′ c ≡ cond (ltb c firstHeapCell) (lowered d (cell s c)) (cell s c)
-
--- the cells from m up to n are two zero words, the others as they were
-pub record Cleared (s s′ : List ℕ) (m n : ℕ) : Type 0 where
-  pub gone : (c : ℕ) → m ≤ c → c < n → (firstWord s′ c ≡ 0) × (secondWord s′ c ≡ 0)
-  pub kept : (c : ℕ) → (m ≤ c → n ≤ c) → (firstWord s′ c ≡ firstWord s c) × (secondWord s′ c ≡ secondWord s c)

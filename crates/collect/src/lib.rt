@@ -13,7 +13,8 @@
 // Lowers   they have moved down to the first heap cell, and their ends by as much.
 // Settles  so have the registers' ends.
 // Cleared  the cells that have come free are zero.
-// Each is a definition of specs/Passes.antt; the phases within the sweep are in specs/Phases.antt.
+// Sweeps is a definition of specs/Passes.antt, the others of specs/Lowering.antt; the phases within the sweep are in
+// specs/Phases.antt.
 ghost use mathlib.Core.Path.{_≡_};
 ghost use Rattle.meaning.specs.Limits.{firstHeapCell};
 ghost use Rattle.meaning.specs.Sound.{Sound};

@@ -2,7 +2,7 @@
 // then the registers' ends, and zeros in the cells that have come free.
 ghost use Prim.Native.Nat.{_*_, _≤_};
 ghost use lib.ListN.{length};
-ghost use Rattle.collect.specs.Passes.{Layable, Lays, Lowerable, Lowers, Settleable, Settles, Cleared};
+ghost use Rattle.collect.specs.Lowering.{Layable, Lays, Lowerable, Lowers, Settleable, Settles, Cleared};
 
 // Puts the cell with the words a and w down at `to`, with its ends d lower.
 fn lay(ws: &mut [u32], to: usize, a: u32, w: u32, d: u32)

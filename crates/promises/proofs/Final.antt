@@ -6,7 +6,8 @@ use Rattle.promises.specs.Collecting.{LiveCounts, CollectingKeeps}
 use Rattle.promises.specs.Calls.{CallsDo, BatchesRun}
 use Rattle.promises.specs.Outright.{CallsOutright}
 use Rattle.promises.specs.Alike.{AlikeIsCollected, CollectionsNeverShow}
-use Rattle.promises.specs.Program.{ProgramWrites, ProgramReads, ProgramRows}
+use Rattle.promises.specs.Program.{ProgramWrites, ProgramReads}
+use Rattle.promises.specs.ProgramRows.{ProgramRows}
 use Rattle.promises.specs.Unique.{OneAnswer, OneCheck, OneFresh, OneCollected, OneLook, OneCollect, OneBatch}
 use Rattle.promises.specs.Unique.{OneCall, OneProgram}
 use Rattle.promises.specs.OwnWords.{FaultsInWords, FaultRows, OneFault}

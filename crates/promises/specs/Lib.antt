@@ -7,7 +7,7 @@
 --   Calls       demand 2: what each call does, and a batch call by call
 --   Outright    demand 2: what each of the twelve does
 --   Alike       demand 3: collections never show
---   Program     what the program writes for what it reads
+--   Program     what the program writes for what it reads;  ProgramRows  byte for byte
 --   Unique      no claim leaves a second outcome
 -- Everything is over the first heap cell F, which is more than 0.
 -- Assumes nothing.
@@ -20,4 +20,5 @@ pub mod Calls
 pub mod Outright
 pub mod Alike
 pub mod Program
+pub mod ProgramRows
 pub mod Unique

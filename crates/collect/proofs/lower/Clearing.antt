@@ -8,7 +8,7 @@ use native.Mathlib.Decide.{ℕ-discrete}
 use lib.ListN.{length}
 use Rattle.words.specs.Cell.{firstWord, secondWord, putCell}
 use Rattle.words.proofs.Cells.{putCell-length, firstWord-same, secondWord-same, firstWord-other, secondWord-other}
-use Rattle.collect.specs.Passes.{Cleared}
+use Rattle.collect.specs.Lowering.{Cleared}
 
 pub record Clearing (s₀ : List ℕ) (m n : ℕ) (s : List ℕ) (c : ℕ) : Type 0 where
   pub lo : m ≤ c

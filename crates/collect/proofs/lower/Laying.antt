@@ -11,7 +11,7 @@ use Rattle.words.proofs.Laws.{ri-lt}
 use Rattle.words.proofs.Plain.{decode-bracket}
 use Rattle.collect.specs.Cells.{linked}
 use Rattle.collect.specs.Step.{lowered}
-use Rattle.collect.specs.Passes.{Layable, Lays}
+use Rattle.collect.specs.Lowering.{Layable, Lays}
 use Rattle.collect.proofs.Puts.{cell-put, cell-put-other}
 
 and-left : (a b : Bool) → (a && b) ≡ true → a ≡ true

@@ -16,7 +16,7 @@ use Rattle.meaning.specs.Limits.{firstHeapCell}
 use Rattle.meaning.proofs.Lists.{lt-or-ge}
 use Rattle.collect.specs.Cells.{ChainCell, linked, cell}
 use Rattle.collect.specs.Step.{lowered}
-use Rattle.collect.specs.Passes.{Layable, Lays, Lowers, Settles}
+use Rattle.collect.specs.Lowering.{Layable, Lays, Lowers, Settles}
 
 -- the cells below i are done
 pub record Lowering (d from by high : ℕ) (s₀ s : List ℕ) (i : ℕ) : Type 0 where

@@ -28,7 +28,8 @@ use Rattle.meaning.proofs.program.Tests.{program-refused, program-output, progr
 use Rattle.promises.specs.Table.{Not}
 use Rattle.promises.specs.Requests.{verdicts}
 use Rattle.promises.specs.Program.{capacityIn, CapacityRule, BytesRule, callsIn, batchIn, refusedOne, refusedFour}
-use Rattle.promises.specs.Program.{linesFor, topLine, BatchWritten, ProgramWrites, ProgramReads, ProgramRows}
+use Rattle.promises.specs.Program.{linesFor, topLine, BatchWritten, ProgramWrites, ProgramReads}
+use Rattle.promises.specs.ProgramRows.{ProgramRows}
 use Rattle.promises.specs.Unique.{OneProgram}
 
 -- ---- the words of an input are the capacity and the calls
@@ -173,7 +174,7 @@ program-reads = program-take
 pub program-rows : ProgramRows
 unfolding limit codeTest programCells programBytes at reached live fresh ops opAt uses wrong11 wrong12 wrong13 fault
     put codeTerm codeFirst newSymbol sought planOf lacks roomWords roomTop withRoom carryOut perform stepAfter step
-        decimal
+    decimal
     written refusal output inputFault program rowTest
 program-rows = tt
 
