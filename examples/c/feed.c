@@ -8,7 +8,7 @@
 
 #include "zelmotar.h"
 
-#define WORDS 96 /* 48 cells */
+#define WORDS (ZELMOTAR_LEAST_WORDS + 64) /* a heap of 32 cells */
 #define MILLIAMPS 2
 
 static uint32_t store[WORDS];
@@ -113,7 +113,7 @@ int main(void)
     printf("register 0 has %u readings\n", (unsigned)ask(ZELMOTAR_LENGTH, 0));
     print_readings();
 
-    ZELMOTAR_SECOND_WORD(store, 20) = 1;
+    ZELMOTAR_SECOND_WORD(store, ZELMOTAR_REGISTERS + 4) = 1;
     answer = zelmotar_check(store, WORDS, top);
     demand("the check after a stray write", answer.status, ZELMOTAR_DAMAGED);
     printf("after a stray write: %s, the first is cell %u\n", zelmotar_status_text(answer.status),

@@ -6,7 +6,10 @@
 
 use std::error::Error;
 
-use zelmotar::{Call, Store, Term, Terms};
+use zelmotar::{Call, Store, Term, Terms, FIRST_HEAP_CELL};
+
+/// The cells of the store's heap.
+const HEAP: usize = 496;
 
 const DAY: u32 = 0;
 const HOUR: u32 = 1;
@@ -81,7 +84,7 @@ fn print_feed(feed: u32, day: Terms) {
 }
 
 fn main() -> Result<(), Box<dyn Error>> {
-    let mut store = Store::new(512)?;
+    let mut store = Store::new(FIRST_HEAP_CELL + HEAP)?;
     for hour in 0..24 {
         let mut calls = vec![Call::Clear { d: HOUR }];
         calls.extend(readings_of(hour).into_iter().flat_map(Reading::calls));
@@ -99,11 +102,7 @@ fn main() -> Result<(), Box<dyn Error>> {
     }
     let before = store.top();
     let live = store.collect()?;
-    println!(
-        "{live} of {} cells are live; top was {before} and is {}",
-        store.capacity() - 16,
-        store.top()
-    );
+    println!("{live} of {HEAP} cells are live; top was {before} and is {}", store.top());
     Ok(())
 }
 

@@ -1,77 +1,95 @@
-// SCOPE's numbers for the answers (5.1), in code: status, value and `top`.
+// SCOPE's numbers for the answers (5.1), in code: status, value and `top`. Each function promises those of the
+// definition that gives them.
 use calls::Ran;
 use store::Checked;
 use store::Made;
 use store::Unsound;
+ghost use mathlib.Core.Path.{_≡_};
+ghost use Rattle.store.specs.Answers.{refusalOf, verdictOf};
+ghost use Rattle.vectors.specs.Answers.{verdictIs, IsMade, IsRan};
 
-pub fn made_status(m: Made) -> u64 {
+// A status, the value that goes with it, and `top` afterwards.
+pub struct Answer {
+    pub status: u64,
+    pub value: u64,
+    pub top: usize,
+}
+
+// Why a store is refused. `top` comes back as it came.
+fn refused(why: Unsound, top: usize) -> Answer
+    ensures { λ r. ⌜ (verdictIs r ≡ refusalOf why) × (r .top ≡ top) ⌝ }
+{
+    match why {
+        Unsound::BadLength => Answer {
+            status: 1,
+            value: 0,
+            top,
+        },
+        Unsound::BadTop => Answer {
+            status: 2,
+            value: 0,
+            top,
+        },
+        Unsound::Damaged(cell) => Answer {
+            status: 3,
+            value: cell as u64,
+            top,
+        },
+    }
+}
+
+// The check. `top` comes back as it came.
+pub fn checked(found: Checked, top: usize) -> Answer
+    ensures { λ r. ⌜ (verdictIs r ≡ verdictOf found) × (r .top ≡ top) ⌝ }
+{
+    match found {
+        Checked::Sound => Answer {
+            status: 0,
+            value: 0,
+            top,
+        },
+        Checked::Refused(why) => refused(why, top),
+    }
+}
+
+// A fresh store.
+pub fn made(m: Made) -> Answer
+    ensures { λ r. ⌜ IsMade r m ⌝ }
+{
     match m {
-        Made::Ready(_) => 0,
-        Made::BadLength => 1,
+        Made::Ready(top) => Answer {
+            status: 0,
+            value: 0,
+            top,
+        },
+        Made::BadLength => Answer {
+            status: 1,
+            value: 0,
+            top: 0,
+        },
     }
 }
 
-pub fn made_top(m: Made) -> usize {
-    match m {
-        Made::Ready(top) => top,
-        Made::BadLength => 0,
-    }
-}
-
-fn unsound_status(u: Unsound) -> u64 {
-    match u {
-        Unsound::BadLength => 1,
-        Unsound::BadTop => 2,
-        Unsound::Damaged(_) => 3,
-    }
-}
-
-fn unsound_value(u: Unsound) -> u64 {
-    match u {
-        Unsound::BadLength => 0,
-        Unsound::BadTop => 0,
-        Unsound::Damaged(cell) => cell as u64,
-    }
-}
-
-pub fn checked_status(c: Checked) -> u64 {
-    match c {
-        Checked::Sound => 0,
-        Checked::Refused(why) => unsound_status(why),
-    }
-}
-
-pub fn checked_value(c: Checked) -> u64 {
-    match c {
-        Checked::Sound => 0,
-        Checked::Refused(why) => unsound_value(why),
-    }
-}
-
-pub fn ran_status(r: Ran) -> u64 {
-    match r {
-        Ran::Ended(_) => 0,
-        Ran::Refused(why) => unsound_status(why),
-        Ran::BadCalls => 4,
-        Ran::ShortAnswers => 5,
-    }
-}
-
-pub fn ran_value(r: Ran) -> u64 {
-    match r {
-        Ran::Ended(_) => 0,
-        Ran::Refused(why) => unsound_value(why),
-        Ran::BadCalls => 0,
-        Ran::ShortAnswers => 0,
-    }
-}
-
-// The `top` after a batch that was handed `top`.
-pub fn ran_top(r: Ran, top: usize) -> usize {
-    match r {
-        Ran::Ended(last) => last,
-        Ran::Refused(_) => top,
-        Ran::BadCalls => top,
-        Ran::ShortAnswers => top,
+// A batch that was handed `top`.
+pub fn ran(b: Ran, top: usize) -> Answer
+    ensures { λ r. ⌜ IsRan r b top ⌝ }
+{
+    match b {
+        Ran::Ended(last) => Answer {
+            status: 0,
+            value: 0,
+            top: last,
+        },
+        Ran::Refused(why) => refused(why, top),
+        Ran::BadCalls => Answer {
+            status: 4,
+            value: 0,
+            top,
+        },
+        Ran::ShortAnswers => Answer {
+            status: 5,
+            value: 0,
+            top,
+        },
     }
 }

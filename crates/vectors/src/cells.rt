@@ -1,5 +1,5 @@
-// The rule of one cell, in a store of 20 cells that has three symbols of code 0 on its heap.
-use crate::answers;
+// The rule of one cell, in a store that has three symbols of code 0 on its heap and one free cell.
+use crate::SMALL;
 use crate::show;
 use meaning::CODE_LIMIT;
 use meaning::FIRST_HEAP_CELL;
@@ -17,27 +17,26 @@ pub fn put(ws: &mut [u32], cell: usize, a: u32, b: u32) {
 }
 
 fn row(cell: usize, a: u32, b: u32) {
-    let mut ws = [0u32; 40];
+    let mut ws = [0u32; 2 * SMALL];
     store::fresh(&mut ws);
     put(&mut ws, cell, a, b);
-    show::text(b"cell");
-    show::number(cell as u64);
+    show::named(b"cell", cell as u64);
     show::number(a as u64);
     show::number(b as u64);
-    show::text(b": check");
-    let found = store::check(&ws, FIRST_HEAP_CELL + 3);
-    show::number(answers::checked_status(found));
-    show::number(answers::checked_value(found));
-    show::end();
+    show::check(b": check", &ws, FIRST_HEAP_CELL + 3);
 }
 
-// The last heap cell as a bracket: P6, and each end one too far; then with used, the left or the right chain.
+// The last heap cell as a bracket: P6, and each end one too far.
 fn brackets() {
     row(FIRST_HEAP_CELL + 2, FIRST, EMPTY + FIRST + 1);
     row(FIRST_HEAP_CELL + 2, FIRST, EMPTY + FIRST + 2);
     row(FIRST_HEAP_CELL + 2, FIRST + 1, EMPTY + FIRST);
     row(FIRST_HEAP_CELL + 2, FIRST + 1, EMPTY + FIRST + 1);
     row(FIRST_HEAP_CELL + 2, FIRST - 1, EMPTY + FIRST + 1);
+}
+
+// Empty, and nearly; then with used, the left or the right chain.
+fn flags() {
     row(FIRST_HEAP_CELL + 2, 0, EMPTY);
     row(FIRST_HEAP_CELL + 2, 1, EMPTY);
     row(FIRST_HEAP_CELL + 2, FIRST, EMPTY + 1073741824 + FIRST);
@@ -66,6 +65,7 @@ fn registers() {
 
 pub fn rows() {
     brackets();
+    flags();
     symbols();
     registers();
 }
