@@ -1,4 +1,10 @@
--- Room made as the code goes about it, whatever the store is in which it is sought. Assumes nothing.
+-- Room made as the code goes about it, whatever the store is in which it is sought. In order:
+--   low-live                  `top` once collected is F + live;  live-small  which is at most `limit`
+--   there, gained             room as it is sought where it is above `top`, and where the store is collected for it
+--   room-roomy                where room is made, the store is sound and has n free cells
+--   room-does, room-refuses   what a call with room does then: its action, or the refusal 16
+--   room-size                 a register that denotes what it did has as many terms as before
+-- Assumes nothing.
 use mathlib.Core.Path.{_≡_, refl, sym, ap, _∙_}
 use mathlib.Core.Bool.{Bool, true, false, cond}
 use mathlib.Core.List.{List}

@@ -1,4 +1,8 @@
 -- The calls of a batch one after the other: after i of them the store, `top` and the answers are those of i calls.
+-- In order:
+--   called    what one call leaves, from what was returned
+--   Running   i of the calls are done
+--   begin     none is;  onward  one more is;  finish  all are
 -- Assumes nothing.
 use mathlib.Core.Path.{_≡_, refl, ap, _∙_}
 use mathlib.Core.List.{List, [], _∷_, _++_, append-assoc}

@@ -1,5 +1,11 @@
 -- One use of a public function: its contract is an equation with a definition, and the claims of `promises` are about
--- the definition, so they hold of what the function returned and left. Assumes nothing.
+-- the definition, so they hold of what the function returned and left. In order:
+--   check-meets, fresh-meets   the check and a fresh store
+--   look-meets, span-meets     the look: the words returned, and those between the word numbers of a span
+--   refusal-not                the refusal of an unsound store has another status than 0
+--   collect-meets              collecting
+--   run-meets                  a batch
+-- Assumes nothing.
 use mathlib.Core.Path.{_≡_, refl, sym, ap, _∙_, subst}
 use mathlib.Core.Logic.{_⊎_, inl, inr, _≢_}
 use mathlib.Core.List.{List}

@@ -1,4 +1,9 @@
--- Tests at the next number, and how many cells below one are in a set. Assumes nothing.
+-- Tests at the next number, and how many cells below one are in a set. In order:
+--   ltb-suc, leb-suc             a test at the next number is the test at this one, but for one number
+--   both-true                    two tests that hold together hold each
+--   count                        how many cells below c are in a set
+--   count-same, count-less-one   of two sets alike, and of a set with one cell taken out
+-- Assumes nothing.
 use mathlib.Core.Path.{_≡_, refl, sym}
 use mathlib.Core.Logic.{_≢_}
 use mathlib.Core.Bool.{Bool, true, false, cond, _&&_}

@@ -1,4 +1,14 @@
--- Ascending lists of numbers: membership, places, and counts of what is below a number.
+-- Ascending lists of numbers: membership, places, and counts of what is below a number. In order:
+--   lt-or-ge                   a number is below another or not
+--   In, Asc                    membership;  strictly ascending, from lo on
+--   asc-weaken, asc-in         from a lower number on;  no member is below lo
+--   in-getD                    what stands at a place is a member
+--   below-low                  none is below lo
+--   place, below-getD          at the place that a member's count gives stands the member, and back
+--   countIf-mono, below-mono   a greater number has no fewer below it
+--   below-suc, below-run       past a member one more, past a run of n members n more
+--   below-le                   lo and the count below c come to c at most
+--   asc-length                 there are no more members than numbers between
 -- Assumes nothing.
 use mathlib.Core.Path.{_≡_, refl, sym, ap, _∙_}
 use mathlib.Core.Logic.{_⊎_, inl, inr}

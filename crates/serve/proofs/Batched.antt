@@ -1,4 +1,9 @@
--- A batch on a fresh store is not refused, and what it leaves is what the program has to write.
+-- A batch on a fresh store is not refused, and what it leaves is what the program has to write. In order:
+--   made-top, ran-top                  the `top` that an answer says, whatever the words and the answers are
+--   run-output                         what the calls leave in the fresh store is what the program has to write
+--   cells-fit, calls-fit               the store and the answers fit the program's buffers
+--   part, part-length, part-capacity   a part of a buffer of zeros, its words and its cells
+--   lent-parts                         what the program lends is enough for the batch and its lines
 -- Assumes nothing.
 use mathlib.Core.Path.{_≡_, refl, sym, ap, ap₂, _∙_}
 use mathlib.Core.List.{List, [], _++_}

@@ -1,4 +1,11 @@
--- What the answer of the check says of the store, for those that go on only where it is sound.
+-- What the answer of the check says of the store, for those that go on only where it is sound. In order:
+--   firstHeapCell-pos                 there is a register
+--   sound-no                          where the test of `is_sound` fails, the status is not 0
+--   sound-iff                         it passes exactly for a sound store
+--   ifSound-no                        what depends on the check, where the test fails
+--   found-sound, found-refused        the arms of a `match` on the answer of the check
+--   register-bracketed, heap-termed   a sound store's registers and heap cells may be read
+--   register-inside, heap-inside      their words lie in the store
 -- Assumes nothing.
 use mathlib.Core.Path.{_≡_, refl, sym, ap, _∙_}
 use mathlib.Core.Logic.{_≢_, _↔_}

@@ -1,5 +1,10 @@
 -- The words of a store, cell by cell: what a cell put leaves at each cell, and that the words of all cells are the
--- store. Assumes nothing.
+-- store. In order:
+--   putCell-length                      as many words as before
+--   firstWord-same, secondWord-same     at the cell put, the two words put
+--   firstWord-other, secondWord-other   at any other cell, its own
+--   words-ext                           two stores as long, with the same words at every cell, are the same
+-- Assumes nothing.
 use mathlib.Core.Path.{_≡_, _∙_}
 use mathlib.Core.Logic.{_≢_}
 use mathlib.Core.List.{List}

@@ -1,4 +1,10 @@
--- A second word and its five fields: each is known from the other. Assumes nothing.
+-- A second word and its five fields: each is known from the other. In order:
+--   bit-le, bit-flag               a bit is 0 or 1;  a flag as a number
+--   ri-lt                          a right end is below 2 ^ 28
+--   decode-encode, encode-decode   fields to a word and back, a word to its fields and back
+--   decode-inj                     two words with the same fields are one word
+--   decodes                        what a word decodes to, from what it is the code of
+-- Assumes nothing.
 use mathlib.Core.Path.{_≡_, refl, sym, ap, _∙_}
 use mathlib.Core.Bool.{Bool, true, false}
 use Prim.Native.Nat.{ℕ, zero, suc, _+_, _*_, _/_, _%_, _^_, _≤_, _<_}

@@ -1,4 +1,10 @@
 -- Masks in plain arithmetic: what reading, testing, setting and clearing the bit k, or all below it, do to a number.
+-- In order:
+--   read, test                 `w & (1 << k)`, and `w & (1 << k) != 0`
+--   or-bit, xor-bit            `w | (1 << k)`, and `w ^ (1 << k)`
+--   low-bits                   the bits up to k are bit k and those below
+--   and-not-bit, and-not-low   `w & !(1 << k)`, and `w & !ones`, where the ones are the k low bits
+--   or-low                     `v | n`, where the k low bits of v are free and n has no others
 -- Assumes nothing.
 use mathlib.Core.Path.{_≡_, sym, ap, ap₂, _∙_}
 use mathlib.Core.Bool.{not}

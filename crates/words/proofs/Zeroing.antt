@@ -1,4 +1,7 @@
--- The rest of a list zeroed, a word a turn. Assumes nothing.
+-- The rest of a list zeroed, a word a turn. In order:
+--   Zeroing   from `from` up to i the list is zero
+--   begin     no word is zeroed;  onward  one more is;  finish  all are
+-- Assumes nothing.
 use mathlib.Core.Path.{_≡_, refl, sym, ap, _∙_}
 use mathlib.Core.List.{List, [], _∷_, _++_, append-assoc, append-nil}
 use Prim.Native.Nat.{ℕ, _+_, _-_, _≤_, _<_}

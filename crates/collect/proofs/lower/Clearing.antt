@@ -1,4 +1,7 @@
--- The loop that zeroes the cells from m up to n. Assumes nothing.
+-- The loop that zeroes the cells from m up to n. In order:
+--   Clearing         the cells from m up to c are zero, and the others as they were
+--   clearing-start   before the first cell;  clearing-again  one cell more;  clearing-end  after the last
+-- Assumes nothing.
 use mathlib.Core.Path.{_≡_, refl, _∙_, subst}
 use mathlib.Core.Logic.{_≢_}
 use mathlib.Core.List.{List}

@@ -1,4 +1,8 @@
--- A run copied cell by cell: at each turn what is left to copy gives the whole. Assumes nothing.
+-- A run copied cell by cell: at each turn what is left to copy gives the whole. In order:
+--   copy-length   a copied cell leaves the length as it is
+--   Copying       i of the n cells are copied
+--   begin         none is;  onward  one more is;  finish  all are
+-- Assumes nothing.
 use mathlib.Core.Path.{_≡_, refl, _∙_}
 use mathlib.Core.List.{List}
 use Prim.Native.Nat.{ℕ, suc, _+_, _-_, _≤_, _<_}

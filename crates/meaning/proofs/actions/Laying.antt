@@ -1,5 +1,11 @@
 -- New cells laid from `top` upward: what was there keeps its meaning, and a copy of a cell means what the cell means.
--- A run copied, and two runs copied one after the other.
+-- A run copied, and two runs copied one after the other. In order:
+--   Extends                        a sound store with the old cells below `top`, and perhaps new ones from there on
+--   extends-trans, extends-self    new cells twice, and none;  extends-put  one
+--   extends-term, extends-inside   a heap cell, and what is inside a bracket, keeps its meaning
+--   extends-meaning                a register does
+--   twin                           two cells that are equal have one meaning
+--   Both, both                     n cells copied from l on, then k from l₂ on
 -- Assumes nothing.
 use mathlib.Core.Path.{_≡_, refl, sym, ap, _∙_}
 use mathlib.Core.List.{List}

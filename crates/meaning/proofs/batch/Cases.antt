@@ -1,4 +1,10 @@
--- A batch by its tests: each one that fails is one refusal, and past the last the calls run.
+-- A batch by its tests: each one that fails is one refusal, and past the last the calls run. In order:
+--   calls-yes, yes-calls                the test of the call list passes exactly where its length is allowed
+--   bad-calls, short-answers, all-run   in a sound store, by the tests after the check
+--   batch-sound                         a batch in a sound store is what those tests say
+--   Cases, cases                        the four cases of a batch, and that it is one of them
+--   batch-run, batch-runs               the one that runs, from its tests, and from status 0
+--   batch-answers, batch-top            with just room for the answers: they and `top` are those of the calls
 -- Assumes nothing.
 use mathlib.Core.Path.{_≡_, refl, sym, ap, _∙_}
 use mathlib.Core.Logic.{_≢_}

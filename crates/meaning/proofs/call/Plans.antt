@@ -1,4 +1,15 @@
--- A plan carried out: what a call does where it acts, it does to the store; and the rule for room.
+-- A plan carried out: what a call does where it acts, it does to the store; and the rule for room. In order:
+--   sought-length, sought-kept   the store in which room is sought: as long, and where d is kept the store itself
+--   sought-other, sought-sound   no cell but d differs, and it is sound
+--   sought-meaning               what its registers denote
+--   planLacks, planTop           is there no room for a plan, and `top` when it is done
+--   topAfter, WordsAfter         `top` and the words after a call, by its status
+--   PlanMeets                    what carrying out a plan has to give for its effect
+--   room-sound, room-length      the store with room for n cells is sound, and as long
+--   room-denote, room-fits       its registers denote what they did, and n cells of it are free
+--   as-it-is, once-collected     as the code goes about it: a test of `top`, then one of the collected store's
+--   PlanDoes                     what a plan's action has to do
+--   carry-meets                  a plan whose action does so gives what it has to
 -- Assumes nothing.
 use mathlib.Core.Path.{_≡_, refl, sym, _∙_}
 use mathlib.Core.Logic.{_≢_}

@@ -1,4 +1,13 @@
--- The check answers 0 exactly for a sound store, and 3 with the first damaged cell.
+-- The check answers 0 exactly for a sound store, and 3 with the first damaged cell. In order:
+--   length-yes, yes-length       the test and the rule of the length, each from the other;  top-yes, yes-top  of `top`
+--   bracket-yes, yes-bracket     for a bracket's words;  term-yes, yes-term  for a term's;  two-zeros  a free cell's
+--   damaged-low                  the first damaged cell is none before the first that is tested
+--   damaged-before, damaged-at   the cells before it are in order, and it is not;  damaged-none  where all are, none is
+--   cell-yes, yes-cell           a cell's test and its rule, each from the other
+--   tests-sound, sound-test      the tests, all passed, are soundness, and back
+--   sound-check                  a sound store is answered 0
+--   Checks, checks               the four answers, and that the check's is one of them
+--   check-sound                  0 is the answer for a sound store only
 -- Assumes nothing.
 use mathlib.Core.Path.{_≡_, refl, subst}
 use mathlib.Core.Logic.{_⊎_, inl, inr, _≢_}

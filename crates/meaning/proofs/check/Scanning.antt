@@ -1,4 +1,10 @@
--- The check by its tests, and the scan of the cells a step at a time: what the loop of `check` does.
+-- The check by its tests, and the scan of the cells a step at a time: what the loop of `check` does. In order:
+--   tested                           the test of a cell's words, from the test of what was read
+--   check-length, check-top          the check by its tests: 1, or 2;  check-cells  else what the scan finds
+--   placed                           where the cells are, once the first two tests passed
+--   check-kept                       0 where all cells keep their rules
+--   turn                             one cell more;  stop  at the damaged cell;  finish  at the end
+--   verdict-damaged, verdict-sound   the answer by the cell at which the scan stopped
 -- Assumes nothing.
 use mathlib.Core.Path.{_≡_, refl, sym, _∙_}
 use mathlib.Core.Bool.{Bool, true, false}

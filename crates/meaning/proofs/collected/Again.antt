@@ -1,4 +1,12 @@
--- After collecting, every occupied heap cell is reached; so collecting again changes nothing.
+-- After collecting, every occupied heap cell is reached; so collecting again changes nothing. In order:
+--   full                  an ascending list of all numbers from lo up to lo + n is `upFrom lo n`
+--   below-upFrom          how many of those are below c
+--   lay-ext               the words laid are the same where the cells are
+--   reached-kept          a reached cell is reached at its new address
+--   all-reached           every occupied heap cell of the result is reached
+--   reached-again         the list of its reached cells
+--   live-kept, top-kept   live and `top` stay when it is collected again
+--   collected-again       and so does every word
 -- Assumes nothing.
 use mathlib.Core.Path.{_≡_, refl, sym, ap, ap₂, _∙_, subst}
 use mathlib.Core.Logic.{_⊎_, inl, inr}

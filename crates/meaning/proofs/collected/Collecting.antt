@@ -1,4 +1,14 @@
 -- Collecting a sound store: the result is sound, each register keeps its meaning, every occupied cell is reached.
+-- In order:
+--   held-register, held-heap   the cells of a register's run, and of a reached bracket's, are reached
+--   reg-one, reg-two           the words of the registers;  heap-one, heap-two  of the heap cells
+--   length-collected           the length stays;  free-after  past the last cell the words are zero
+--   good-register, good-heap   the ends lie where a sound store's do
+--   at-register, at-kth        the cells of the result: a register, and the j-th heap cell
+--   at-new                     a reached cell, at its new address
+--   collected-sound            the result is sound
+--   along                      new addresses go along with the run of a bracket
+--   term-kept, meaning-kept    reached cells and registers keep their meaning
 -- Assumes nothing.
 use mathlib.Core.Path.{_≡_, sym, ap, _∙_, subst}
 use mathlib.Core.List.{List, _++_}

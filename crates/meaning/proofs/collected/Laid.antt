@@ -1,4 +1,8 @@
--- The words of cells laid out one after the other.
+-- The words of cells laid out one after the other. In order:
+--   lay-length                         two words a cell;  lay-fst, lay-snd  the two of the j-th
+--   upFrom-length, upFrom-getD         n numbers from c on: how many, and the j-th
+--   kept-low, kept-high, kept-length   the numbers below F and then a list
+--   zeros-after                        past the cells stand zeros
 -- Assumes nothing.
 use mathlib.Core.Path.{_≡_, refl, sym, ap, _∙_}
 use mathlib.Core.List.{List, [], _∷_, _++_}

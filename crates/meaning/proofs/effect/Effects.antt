@@ -1,5 +1,11 @@
 -- Laws over an effect, whatever it is the effect of: what an action has to do in the store in which it acts, shown for
--- one that sets a register, with new cells or without, for a refusal, and for one that changes no register.
+-- one that sets a register, with new cells or without, for a refusal, and for one that changes no register. In order:
+--   Denote, Others           the registers of a store denote e;  all but d do
+--   Stays                    the words after a refusal are those before it
+--   Acts                     what an action has to do in the store in which it acts
+--   meaning-at               a register denotes what is inside its bracket
+--   new-acts, set-acts       register d is set, with new cells and without
+--   refuse-acts, tell-acts   a refusal;  an answer that changes no register
 -- Assumes nothing.
 use mathlib.Core.Path.{_≡_, refl, sym, _∙_}
 use mathlib.Core.Logic.{_≢_}

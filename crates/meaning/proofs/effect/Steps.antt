@@ -1,4 +1,11 @@
--- One call, whatever its words are; and a batch of calls.
+-- One call, whatever its words are; and a batch of calls. In order:
+--   sound-by, length-by   the store in which a call seeks room is sound and as long
+--   size-a, size-b        an operand has as many terms in it as before
+--   no-need               a call that needs no cell never lacks room
+--   Steps, step-meets     what one call has to give, and that it does, whatever its words are
+--   Batch                 the calls one after the other, each as it has to be, with their answers
+--   WholeCalls            a list of four words a call
+--   runs-batch            a batch in a sound store is such calls
 -- Assumes nothing.
 use mathlib.Core.Path.{_≡_, refl, sym, ap, _∙_}
 use mathlib.Core.Bool.{Bool, true, false}

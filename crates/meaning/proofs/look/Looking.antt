@@ -1,4 +1,12 @@
 -- The look: the words from a register's left end to its right end, and no word where there is nothing to look at.
+-- In order:
+--   run-in                     a bracket's cells lie below the limit of its right end
+--   span-register, span-none   the word numbers of a look at a register, and at what is none
+--   look-none, look-empty      no word where there is no register, or an empty one
+--   run-fits                   a register's run lies within the words
+--   look-size, look-length     two words a cell, and so two a term
+--   look-word                  the words from the left end on
+--   look-unsound               no word of an unsound store
 -- Assumes nothing.
 use mathlib.Core.Path.{_≡_, refl, ap, _∙_}
 use mathlib.Core.Logic.{_⊎_, inl, inr}

@@ -1,4 +1,15 @@
--- How a call uses its words, by operation; a call whose own words are right; its operand registers.
+-- How a call uses its words, by operation; a call whose own words are right; its operand registers. In order:
+--   allBelow, all-at       a test of all numbers below n, by computation, and what it says of each
+--   index-opAt             operation o has the number o
+--   three                  a test over the three words of a call
+--   Faults, faults         what is wrong with a call's own words, by cases, and that it is one of them
+--   WordsRight, right      own words that are right, and that they are where nothing is wrong
+--   op-small               the operation is then one of the twelve
+--   is-register, is-code   a word that is right as a register or as a code is one
+--   keeps-operand          where a call sets d, d is kept exactly if it is an operand register
+--   keeps-a, keeps-b       an operand register that is d is kept
+--   unkept-register        where d is not kept, it is a register
+--   fault-small            the status of what is wrong with a call's own words is at most 13
 -- Assumes nothing.
 use mathlib.Core.Path.{_≡_, refl, sym}
 use mathlib.Core.Logic.{_⊎_, inl, inr}

@@ -1,4 +1,13 @@
--- The list of reached cells that is computed has exactly the reached cells, in ascending order.
+-- The list of reached cells that is computed has exactly the reached cells, in ascending order. In order:
+--   or-left, or-right, or-cases   laws of `||`
+--   listed-reached                what is listed is reached
+--   listed-asc, listed-below      the list ascends, and its members are below `top`
+--   reached-heap                  a reached cell is an occupied heap cell
+--   holder-above                  a reached bracket holds lower cells only
+--   reached-listed                what is reached is listed
+--   listed-iff                    in a sound store the list and the wording agree
+--   reached-asc, reached-below    its list ascends from F on, below `top`
+--   live-le                       F + live is at most `top`
 -- Assumes nothing.
 use mathlib.Core.Path.{_≡_, refl, sym}
 use mathlib.Core.Logic.{_⊎_, inl, inr}

@@ -1,4 +1,17 @@
--- What soundness says of a store's cells, apart from words; and back to words.
+-- What soundness says of a store's cells, apart from words; and back to words. In order:
+--   limit-fits, code-fits       an address and a code fit 28 bits
+--   BracketIn, TermIn           a bracket, or any term, whose ends lie from F on and below a limit
+--   SoundCells                  what the cells of a sound store are
+--   term-of-bracket             such a bracket is such a term
+--   read                        two words as a cell
+--   read-ends, read-words       a bracket's words, and any cell's, are read as that cell
+--   is-bracket, is-term         the words of such a cell keep the rule
+--   Words                       two words that are those of the cell that they are read as
+--   bracket-words, term-words   words that keep the rule are
+--   words-of-cells              what holds of both words of each cell holds of each word
+--   register-rule, heap-rule    a sound store's cells keep their rules;  free-rule  the free ones too
+--   free-words                  each word from `top` on is zero
+--   good                        a sound store's cells are `SoundCells`
 -- Assumes nothing.
 use mathlib.Core.Path.{_≡_, refl, sym, subst}
 use mathlib.Core.Logic.{_⊎_, inl, inr}

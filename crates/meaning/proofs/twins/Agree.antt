@@ -1,5 +1,12 @@
 -- What an action does in a store, it does in the same store collected: it answers the same, and leaves stores with the
--- same canonical words. Assumes nothing.
+-- same canonical words. In order:
+--   Agree                                the same answer, and stores with the same canonical words
+--   size-moved, moved-in                 a bracket moved to new addresses: its size, and where its ends lie
+--   share-same                           COPY
+--   size-register                        a register's size is the same in the store collected
+--   head-same, rest-same, open-same      HEAD, REST and OPEN;  first-same  FIRST
+--   length-same, live-same, clear-same   LENGTH, LIVE and CLEAR
+-- Assumes nothing.
 use mathlib.Core.Path.{_≡_, refl, sym, ap, _∙_}
 use mathlib.Core.Bool.{Bool, true, false, cond}
 use mathlib.Core.List.{List}

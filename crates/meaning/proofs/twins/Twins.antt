@@ -1,5 +1,15 @@
 -- Twins: sound stores of one length with the same canonical words. An action that answers the same in a store and in
 -- that store collected answers the same in twins and leaves twins; so does one for which room is sought first.
+-- In order:
+--   Twin                               two such stores
+--   twin-self, twin-flip, twin-trans   a store and itself;  the other way round;  by a third
+--   twin-collected                     a store, collected or not, and the store
+--   sought-twin                        the stores in which twins seek room are twins
+--   Steady                             an action answers the same in a store and in that store collected
+--   twin-live, twin-size               live and the sizes of registers are the same in twins
+--   via, via-collected                 a steady action in twins, and any action in twins once collected
+--   Builds                             an action for n new cells, steady where the registers denote what they do in v
+--   room-twin                          such an action in twins, once room is sought
 -- Assumes nothing.
 use mathlib.Core.Path.{_≡_, refl, sym, ap, _∙_}
 use mathlib.Core.Bool.{Bool, true, false, cond}

@@ -1,5 +1,11 @@
 -- Stores are alike, in the words of SCOPE 8.4, exactly when their canonical words are equal, and so exactly when
--- collecting makes them equal. Assumes nothing.
+-- collecting makes them equal. In order:
+--   alike-canon, canon-alike         alike stores have the same canonical words, and back
+--   collect-sound                    what collecting a sound store answers and leaves
+--   same-length                      sound stores of the same capacity have as many words
+--   canon-collects, collects-canon   the same canonical words give the same by collecting, and back
+--   alike-is-collected               the claim
+-- Assumes nothing.
 use mathlib.Core.Path.{_≡_, refl, sym, ap, ap₂, _∙_, subst}
 use mathlib.Core.Logic.{_⊎_, inl, inr}
 use mathlib.Core.List.{List, [], _++_}

@@ -1,4 +1,11 @@
 -- Lists of requests, run one after the other: a call list is run as its requests are, and a list may be cut anywhere.
+-- In order:
+--   ran, ranWords                     what a list of requests leaves and answers, and the same as a batch has it
+--   runs-ran                          a call list is run as its requests are
+--   ran-cut                           a list cut anywhere
+--   ran-length                        an answer to each request
+--   requests-length, inWords-length   four words a call, two an answer
+--   verdicts-inWords                  answers written as words are read as those answers
 -- Assumes nothing.
 use mathlib.Core.Path.{_≡_, refl, ap}
 use mathlib.Core.List.{List, [], _∷_, _++_}

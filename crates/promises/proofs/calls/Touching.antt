@@ -1,4 +1,8 @@
--- Which words an action touches: those of register d, and of the new cells.
+-- Which words an action touches: those of register d, and of the new cells. In order:
+--   only-same, only-trans               no word, and two actions one after the other
+--   clear-only, share-only, head-only   CLEAR, COPY and HEAD;  rest-only, openFirst-only  REST and OPEN
+--   first-words                         FIRST changes no word
+--   symbol-only, wrap-only, run-only    the actions that lay cells from `top` on
 -- Assumes nothing.
 use mathlib.Core.Path.{_≡_, refl, _∙_}
 use mathlib.Core.Logic.{_⊎_, inl, inr, _≢_}

@@ -1,4 +1,7 @@
--- Demand 1: the tables of the public functions.
+-- Demand 1: the tables of the public functions. In order:
+--   check-answers, fresh-answers    the check, and a fresh store
+--   collect-answers, look-answers   collecting alone, and the look
+--   batch-answers, call-answers     a batch, and one call
 -- Assumes nothing.
 use mathlib.Core.Path.{_≡_, refl, ap, _∙_}
 use mathlib.Core.Logic.{inl, inr, _≢_}

@@ -1,4 +1,9 @@
--- One outcome: two that satisfy the same claim are equal.
+-- One outcome: two that satisfy the same claim are equal. In order:
+--   one-answer                   an answer of which the promise says its number and values
+--   one-check, one-fresh         the check, and a fresh store
+--   one-collected, one-collect   the collected store, and collecting
+--   Left                         what is left of a list of requests: the answers, the words and `top`
+--   one-batch, one-look          a batch, and the look
 -- Assumes nothing.
 use mathlib.Core.Path.{_≡_, refl, sym, ap, ap₂, subst, _∙_}
 use mathlib.Core.Logic.{_⊎_, inl, inr, _≢_}
