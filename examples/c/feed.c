@@ -8,7 +8,7 @@
 
 #include "zelmotar.h"
 
-#define WORDS (ZELMOTAR_LEAST_WORDS + 64) /* a heap of 32 cells */
+#define WORDS (ZELMOTAR_MIN_WORDS + 64) /* a heap of 32 cells */
 #define MILLIAMPS 2
 
 static uint32_t store[WORDS];
