@@ -18,7 +18,7 @@ use Rattle.meaning.proofs.effect.Steps.{step-meets}
 use Rattle.meaning.proofs.batch.Batches.{fours, runs-cut}
 use Rattle.store.proofs.Sounds.{firstHeapCell-pos}
 use Rattle.calls.specs.Answers.{steppedIn}
-use Rattle.calls.specs.Calling.{callAt, Leaves, ranTo}
+use Rattle.calls.specs.Calling.{callAt, CallDone, ranTo}
 use Rattle.calls.specs.declared.answer.Stepped.{Stepped}
 
 -- ---- four more words of a list, and two
@@ -54,7 +54,7 @@ take-answer l i x y h =
 -- ---- one call
 
 pub called : (r : Stepped) (ws : List ℕ) {c : Done} → steppedIn r ws ≡ c → (i : ℕ) (out : List ℕ)
-    → Leaves c i out (r .top) ws (set (set out (2 * i) (r .status)) (2 * i + 1) (r .value))
+    → CallDone c i out (r .top) ws (set (set out (2 * i) (r .status)) (2 * i + 1) (r .value))
 called r ws e i out = rw (← e) (record { words = refl; top = refl; answers = refl })
 
 -- ---- i of the calls are done
@@ -86,7 +86,7 @@ module _ {ws₀ : List ℕ} {top₀ : ℕ} {calls out₀ : List ℕ} where
         ∙ ap (λ (q : Ran). ranTo (next q .top) (next q .words) (q .answers ++ next q .answers)) (k .ran))
 
     pub onward : {t′ : ℕ} {ws′ out′ : List ℕ} → i < length calls / 4 → 2 * (length calls / 4) ≤ length out₀
-        → Leaves (callAt ws t calls i) i out t′ ws′ out′ → Running ws₀ top₀ calls out₀ ws′ t′ out′ (i + 1)
+        → CallDone (callAt ws t calls i) i out t′ ws′ out′ → Running ws₀ top₀ calls out₀ ws′ t′ out′ (i + 1)
     onward h g c =
         let m =
         step-meets firstHeapCell ws t firstHeapCell-pos (k .sound) (getD calls (4 * i) 0) (getD calls (4 * i + 1) 0)

@@ -16,7 +16,7 @@ callAt ws top calls i =
     (getD calls (4 * i + 3) 0)
 
 -- what it leaves: the words, `top`, and the answers with its own two
-pub record Leaves (c : Done) (i : ℕ) (out : List ℕ) (t : ℕ) (ws out′ : List ℕ) : Type 0 where
+pub record CallDone (c : Done) (i : ℕ) (out : List ℕ) (t : ℕ) (ws out′ : List ℕ) : Type 0 where
   pub words : ws ≡ c .words
   pub top : t ≡ c .top
   pub answers : out′ ≡ set (set out (2 * i) (c .verdict .status)) (2 * i + 1) (c .verdict .value)

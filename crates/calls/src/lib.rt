@@ -8,7 +8,7 @@ ghost use Rattle.meaning.specs.Limits.{firstHeapCell};
 ghost use Rattle.meaning.specs.Sound.{Sound};
 ghost use Rattle.meaning.specs.Batch.{runs, callsTest, batchOf};
 ghost use Rattle.calls.specs.Answers.{ranIn, Runs};
-ghost use Rattle.calls.specs.Calling.{callAt, Leaves, ranTo};
+ghost use Rattle.calls.specs.Calling.{callAt, CallDone, ranTo};
 
 mod answer;
 mod asking;
@@ -41,7 +41,7 @@ fn calls_ok(n: usize) -> bool
 fn run_call(ws: &mut [u32], top: usize, calls: &[u32], answers: &mut [u32], i: usize) -> usize
     requires { ⌜ Sound firstHeapCell (now ws) top × (4 * i + 3 < length (now calls))
         × (2 * i + 1 < length (now answers)) ⌝ }
-    ensures { λ r. ⌜ Leaves (callAt (now (ws .entry)) top (now (calls .entry)) i) i (now (answers .entry)) r
+    ensures { λ r. ⌜ CallDone (callAt (now (ws .entry)) top (now (calls .entry)) i) i (now (answers .entry)) r
         (now (ws .exit)) (now (answers .exit)) ⌝ }
 {
     let done = step::step(

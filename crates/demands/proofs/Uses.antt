@@ -19,8 +19,7 @@ use Rattle.meaning.specs.Check.{check}
 use Rattle.meaning.specs.Look.{spanOf, lookSpan}
 use Rattle.meaning.specs.Batch.{Outcome, ended, batch}
 use Rattle.meaning.proofs.look.Looking.{span-register}
-use Rattle.meaning.proofs.effect.Steps.{runs-batch}
-use Rattle.meaning.proofs.batch.Batches.{fours-of, batch-sound}
+use Rattle.meaning.proofs.batch.Batches.{runs-sound}
 use Rattle.meaning.proofs.batch.Cases.{batch-runs}
 use Rattle.store.specs.Answers.{refusalOf}
 use Rattle.store.specs.declared.Unsound.{Unsound}
@@ -116,8 +115,8 @@ ended-sound : (ws : List ℕ) (top : ℕ) (calls out : List ℕ) (t : ℕ) (v a 
 unfolding ended
 ended-sound ws top calls out t v a h z =
     let b = batch-runs firstHeapCell ws top calls out z in
-    let k = runs-batch firstHeapCell (omega arith) ws top (fours-of calls (b .1 .whole)) (b .0) in
-    subst (λ (o : Outcome). Sound firstHeapCell (o .words) (o .top)) (sym (h ∙ b .2)) (batch-sound (b .0) k)
+    subst (λ (o : Outcome). Sound firstHeapCell (o .words) (o .top)) (sym (h ∙ b .2))
+    (runs-sound firstHeapCell (omega arith) ws top calls (b .0))
 
 running : (ws : List ℕ) (top : ℕ) (calls out : List ℕ) (r : Ran) (v a : List ℕ)
     → Runs ws top calls out r v a

@@ -1,5 +1,5 @@
 -- Tests at the next number, and how many cells below one are in a set. In order:
---   ltb-suc, leb-suc             a test at the next number is the test at this one, but for one number
+--   leb-suc                      a test at the next number is the test at this one, but for one number
 --   both-true                    two tests that hold together hold each
 --   count                        how many cells below c are in a set
 --   count-same, count-less-one   of two sets alike, and of a set with one cell taken out
@@ -10,18 +10,13 @@ use mathlib.Core.Bool.{Bool, true, false, cond, _&&_}
 use Prim.Native.Nat.{ℕ, zero, suc, _<_}
 use native.Mathlib.Omega.{arith}
 use native.Mathlib.Decide.{ℕ-discrete}
-use lib.Dec.{ltb, leb}
-use borrow.Author.Tests.{ltb-true, leb-true, lt-ltb, le-leb}
+use lib.Dec.{leb}
+use borrow.Author.Tests.{leb-true, le-leb}
 
 iff-eq : (a b : Bool) → (a ≡ true → b ≡ true) → (b ≡ true → a ≡ true) → a ≡ b
 iff-eq true b f h = sym (f refl)
 iff-eq false true f h = h refl
 iff-eq false false f h = refl
-
-pub ltb-suc : (c m : ℕ) → c ≢ m → ltb c (suc m) ≡ ltb c m
-ltb-suc c m n =
-    iff-eq (ltb c (suc m)) (ltb c m) (λ e. lt-ltb c m (omega (arith, ltb-true c (suc m) e)))
-    (λ e. lt-ltb c (suc m) (omega (arith, ltb-true c m e)))
 
 pub leb-suc : (c x : ℕ) → c ≢ x → leb (suc x) c ≡ leb x c
 leb-suc c x n =

@@ -7,11 +7,11 @@ use Rattle.meaning.specs.Reach.{reached, live}
 use Rattle.meaning.specs.Collected.{newAddress, collectedOf, collected}
 use Rattle.meaning.specs.Check.{bracketTest, termTest, cellTest, lengthTest, topTest, verdictAt, check, collectIn}
 use Rattle.meaning.specs.Fresh.{fresh}
-use Rattle.meaning.specs.Operands.{ops, opAt, uses, wrong11, wrong12, wrong13, fault}
+use Rattle.meaning.specs.Operands.{ops, opAt, uses, names, isOperand, wrong11, wrong12, wrong13, fault}
 use Rattle.meaning.specs.Actions.{put, copy, share, head, rest, openTerm, openFirst, codeTerm, codeFirst}
 use Rattle.meaning.specs.Actions.{newSymbol, newBracket, newRunOf, newRun}
-use Rattle.meaning.specs.Call.{sought, planOf, lacks, roomWords, roomTop, withRoom, carryOut, perform, stepAfter}
-use Rattle.meaning.specs.Call.{step}
+use Rattle.meaning.specs.Call.{keeps, sought, planOf, lacks, roomWords, roomTop, withRoom, carryOut, perform}
+use Rattle.meaning.specs.Call.{stepAfter, step}
 use Rattle.meaning.specs.Program.{written, refusal, output, inputFault, program}
 use Rattle.meaning.specs.Rows.{verdictTest, doneTest, ranTest, rowTest, p1, p1Lines, p2, p3Heap, p3, p6, lone}
 use Rattle.meaning.specs.Rows.{rows}
@@ -21,6 +21,6 @@ pub rows-right : RowsRight firstHeapCell
 unfolding limit codeTest programCells programBytes at reached live newAddress collectedOf collected
     bracketTest termTest cellTest lengthTest topTest verdictAt check fresh collectIn ops opAt uses wrong11 wrong12
     wrong13 fault put copy share head rest openTerm openFirst codeTerm codeFirst newSymbol newBracket newRunOf newRun
-    sought planOf lacks roomWords roomTop withRoom carryOut perform stepAfter step decimal written refusal output
-    inputFault program verdictTest doneTest ranTest rowTest p1 p1Lines p2 p3Heap p3 p6 lone rows
+    names isOperand keeps sought planOf lacks roomWords roomTop withRoom carryOut perform stepAfter step decimal
+    written refusal output inputFault program verdictTest doneTest ranTest rowTest p1 p1Lines p2 p3Heap p3 p6 lone rows
 rows-right = tt

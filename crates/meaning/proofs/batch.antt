@@ -1,5 +1,5 @@
 -- The laws of Batch. In order:
---   Batches  calls one after the other, and a list of them cut anywhere
+--   Batches  calls one after the other
 --   Cases    a batch by its tests
 --   Fits     the values that come back are at most the limit
 -- Assumes nothing.

@@ -2,8 +2,7 @@
 use mathlib.Core.Path.{_≡_}
 use mathlib.Core.List.{List}
 use Prim.Native.Nat.{ℕ}
-use Rattle.meaning.specs.Verdicts.{Verdict, Done}
-use Rattle.meaning.specs.Batch.{Outcome}
+use Rattle.meaning.specs.Verdicts.{Verdict}
 use Rattle.store.specs.declared.Made.{Made}
 use Rattle.store.specs.Answers.{madeIn}
 use Rattle.calls.specs.declared.Ran.{Ran}

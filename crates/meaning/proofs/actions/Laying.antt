@@ -5,7 +5,7 @@
 --   extends-term, extends-inside   a heap cell, and what is inside a bracket, keeps its meaning
 --   extends-meaning                a register does
 --   twin                           two cells that are equal have one meaning
---   Both, both                     n cells copied from l on, then k from l₂ on
+--   Both, both                     n cells copied from l on, then k from l₂ on;  both-of  by two brackets
 -- Assumes nothing.
 use mathlib.Core.Path.{_≡_, refl, sym, ap, _∙_}
 use mathlib.Core.List.{List}
@@ -13,7 +13,7 @@ use Prim.Native.Nat.{ℕ, zero, suc, _+_, _-_, _*_, _≤_, _<_}
 use native.Mathlib.Nat.{le-refl, le-trans, le-of-suc-le-suc, not-suc-le-zero, add-zero, add-suc, suc-add, add-assoc}
 use native.Mathlib.Omega.{arith}
 use lib.ListN.{length}
-use Rattle.meaning.specs.Sound.{Cell, at, Sound}
+use Rattle.meaning.specs.Sound.{Cell, ends, at, Sound}
 use Rattle.meaning.specs.Meaning.{inside, termOf, term, meaning, termAt}
 use Rattle.meaning.specs.Actions.{put, copies}
 use Rattle.meaning.proofs.sound.Cells.{TermIn, BracketIn, good}
@@ -121,3 +121,12 @@ both F ws top l n l₂ k p s f h g m q =
       one = λ j z. c₂ .more .old (top + j) (omega arith) ∙ c₁ .new j z;
       two = λ j z. rw (← add-assoc top n j) (c₂ .new j z ∙ c₁ .more .old (l₂ + j) (omega arith));
     }
+
+-- the runs of two brackets with contents
+pub both-of : (F : ℕ) (ws : List ℕ) (top l r x y : ℕ) → 0 < F → Sound F ws top → BracketIn F top (ends l r)
+    → BracketIn F top (ends x y) → 2 * (top + ((suc r - l) + (suc y - x))) ≤ length ws
+    → Both F ws top l (suc r - l) x (suc y - x)
+    (copies (copies ws top l (suc r - l)) (top + (suc r - l)) x (suc y - x))
+both-of F ws top l r x y p s t u q =
+    both F ws top l (suc r - l) x (suc y - x) p s (t .0) (omega (arith, t .1, t .2)) (u .0)
+    (omega (arith, u .1, u .2)) q

@@ -2,13 +2,17 @@
 -- sound. Assumes nothing.
 use mathlib.Core.Path.{_≡_, refl, ap}
 use mathlib.Core.List.{List, [], _∷_, _++_}
-use Prim.Native.Nat.{ℕ, zero, suc, _*_, _/_, _%_}
+use Prim.Native.Nat.{ℕ, zero, suc, _*_, _/_, _%_, _<_}
 use native.Mathlib.Omega.{arith}
 use lib.ListN.{length}
 use Rattle.meaning.specs.Sound.{Sound}
 use Rattle.meaning.specs.Call.{step}
 use Rattle.meaning.specs.Batch.{Ran, then, runs}
-use Rattle.meaning.proofs.effect.Steps.{Batch, called, WholeCalls, none, four}
+use Rattle.meaning.proofs.effect.Steps.{step-meets}
+
+pub data WholeCalls : List ℕ → Type 0 where
+  none : WholeCalls []
+  four : {o d a b : ℕ} {cs : List ℕ} → WholeCalls cs → WholeCalls (o ∷ d ∷ a ∷ b ∷ cs)
 
 -- a length that is a multiple of four
 pub fours : (n : ℕ) (cs : List ℕ) → length cs ≡ 4 * n → WholeCalls cs
@@ -24,10 +28,15 @@ pub fours-of : (cs : List ℕ) → length cs % 4 ≡ 0 → WholeCalls cs
 fours-of cs h = fours (length cs / 4) cs (omega arith)
 
 -- a sound store stays sound
-pub batch-sound : {F : ℕ} {ws : List ℕ} {top : ℕ} {cs ans ws′ : List ℕ} {top′ : ℕ} → Sound F ws top
-    → Batch F ws top cs ans ws′ top′ → Sound F ws′ top′
-batch-sound s Batch.ended = s
-batch-sound s (called r m q) = batch-sound (m .sound) q
+pub runs-sound : (F : ℕ) → 0 < F → (ws : List ℕ) (top : ℕ) (cs : List ℕ) → Sound F ws top
+    → Sound F (runs F ws top cs .words) (runs F ws top cs .top)
+runs-sound F p ws top [] s = s
+runs-sound F p ws top (o ∷ []) s = s
+runs-sound F p ws top (o ∷ d ∷ []) s = s
+runs-sound F p ws top (o ∷ d ∷ a ∷ []) s = s
+runs-sound F p ws top (o ∷ d ∷ a ∷ b ∷ cs) s =
+    let c = step F ws top o d a b in
+    runs-sound F p (c .words) (c .top) cs (step-meets F ws top p s o d a b .sound)
 
 -- cut anywhere
 pub runs-cut : (F : ℕ) (ws : List ℕ) (top : ℕ) {cs : List ℕ} (ds : List ℕ) → WholeCalls cs

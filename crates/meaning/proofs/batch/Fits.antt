@@ -10,16 +10,16 @@ use Rattle.meaning.specs.Sound.{Sound}
 use Rattle.meaning.specs.Verdicts.{Verdict, Done, onZero, ifSound}
 use Rattle.meaning.specs.Check.{check, collectIn}
 use Rattle.meaning.specs.Batch.{Outcome, ended, batch}
-use Rattle.meaning.proofs.check.Checking.{Checks, length-bad, top-bad, cell-bad, sound, checks, check-sound}
-use Rattle.meaning.proofs.check.Checking.{length-yes}
+use Rattle.meaning.proofs.check.Checking.{CheckCases, length-bad, top-bad, cell-bad, sound, check-cases}
+use Rattle.meaning.proofs.check.Checking.{check-sound, length-yes}
 use Rattle.meaning.proofs.reach.Reaching.{live-le}
 use Rattle.meaning.proofs.batch.Cases.{Cases, unsound, badCalls, shortAnswers, run, cases}
 
 module _ (F : ℕ) (ws : List ℕ) (top : ℕ) where
   check-most : check F ws top .value ≤ limit
-  check-most = go (check F ws top) (checks F ws top)
+  check-most = go (check F ws top) (check-cases F ws top)
     where
-      go : (v : Verdict) → Checks F ws top v → v .value ≤ limit
+      go : (v : Verdict) → CheckCases F ws top v → v .value ≤ limit
       go v (length-bad a) = omega arith
       go v (top-bad a b) = omega arith
       go v (cell-bad c a b l x y) = omega (arith, length-yes F (length ws) a .small)

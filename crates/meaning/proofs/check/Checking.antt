@@ -6,7 +6,7 @@
 --   cell-yes, yes-cell           a cell's test and its rule, each from the other
 --   tests-sound, sound-test      the tests, all passed, are soundness, and back
 --   sound-check                  a sound store is answered 0
---   Checks, checks               the four answers, and that the check's is one of them
+--   CheckCases, check-cases               the four answers, and that the check's is one of them
 --   check-sound                  0 is the answer for a sound store only
 -- Assumes nothing.
 use mathlib.Core.Path.{_≡_, refl, subst}
@@ -212,22 +212,22 @@ module _ (F : ℕ) (ws : List ℕ) (top : ℕ) where
       ) refl
 
   -- the three answers of a store that is not sound, and the one of a sound store
-  pub data Checks : Verdict → Type 0 where
-    length-bad : lengthTest F (length ws) ≡ false → Checks (only 1)
-    top-bad : lengthTest F (length ws) ≡ true → topTest F (capacity ws) top ≡ false → Checks (only 2)
+  pub data CheckCases : Verdict → Type 0 where
+    length-bad : lengthTest F (length ws) ≡ false → CheckCases (only 1)
+    top-bad : lengthTest F (length ws) ≡ true → topTest F (capacity ws) top ≡ false → CheckCases (only 2)
     cell-bad : (c : ℕ) → lengthTest F (length ws) ≡ true → topTest F (capacity ws) top ≡ true → c < capacity ws
         → test c ≡ false
-        → ((x : ℕ) → x < c → test x ≡ true) → Checks (record { status = 3; value = c })
-    sound : Sound F ws top → Checks (only 0)
+        → ((x : ℕ) → x < c → test x ≡ true) → CheckCases (record { status = 3; value = c })
+    sound : Sound F ws top → CheckCases (only 0)
 
-  pub checks : Checks (check F ws top)
+  pub check-cases : CheckCases (check F ws top)
   unfolding check verdictAt
-  checks = go (lengthTest F (length ws)) (topTest F (capacity ws) top)
+  check-cases = go (lengthTest F (length ws)) (topTest F (capacity ws) top)
       (ltb (damaged F ws top 0 (capacity ws)) (capacity ws)) refl refl refl
     where
       go : (t u v : Bool) → lengthTest F (length ws) ≡ t → topTest F (capacity ws) top ≡ u
           → ltb (damaged F ws top 0 (capacity ws)) (capacity ws) ≡ v
-          → Checks (cond t (cond u (cond {A = Verdict} v
+          → CheckCases (cond t (cond u (cond {A = Verdict} v
           (record { status = 3; value = damaged F ws top 0 (capacity ws) }) (only 0)) (only 2)) (only 1))
       go false u v a b c = length-bad a
       go true false v a b c = top-bad a b
@@ -241,9 +241,9 @@ module _ (F : ℕ) (ws : List ℕ) (top : ℕ) where
 
   -- 0 is the answer for a sound store only
   pub check-sound : check F ws top .status ≡ 0 → Sound F ws top
-  check-sound q = go (check F ws top) refl checks q
+  check-sound q = go (check F ws top) refl check-cases q
     where
-      go : (v : Verdict) → check F ws top ≡ v → Checks v → v .status ≡ 0 → Sound F ws top
+      go : (v : Verdict) → check F ws top ≡ v → CheckCases v → v .status ≡ 0 → Sound F ws top
       go v e (length-bad a) r = absurd (omega arith)
       go v e (top-bad a b) r = absurd (omega arith)
       go v e (cell-bad c a b l x y) r = absurd (omega arith)

@@ -5,7 +5,7 @@
 --   reached-kept          a reached cell is reached at its new address
 --   all-reached           every occupied heap cell of the result is reached
 --   reached-again         the list of its reached cells
---   live-kept, top-kept   live and `top` stay when it is collected again
+--   live-kept             live stays when it is collected again, and with it `top`
 --   collected-again       and so does every word
 -- Assumes nothing.
 use mathlib.Core.Path.{_≡_, refl, sym, ap, ap₂, _∙_, subst}
@@ -122,9 +122,6 @@ module _ (F : ℕ) (ws : List ℕ) (top : ℕ) (p : 0 < F) (s : Sound F ws top) 
   unfolding live
   live-kept = ap (λ (xs : List ℕ). length xs) reached-again ∙ upFrom-length F (length rs)
 
-  pub top-kept : collectedTop F (collected F ws top) (collectedTop F ws top) ≡ collectedTop F ws top
-  top-kept = ap (λ (n : ℕ). F + n) live-kept
-
   -- ---- collecting again
 
   abbrev n : ℕ
@@ -164,7 +161,7 @@ module _ (F : ℕ) (ws : List ℕ) (top : ℕ) (p : 0 < F) (s : Sound F ws top) 
           (at ws (getD (upFrom 0 F ++ rs) x 0))) {x = F + (j - F)} (omega arith)
           (again-high (j - F) (omega arith))
 
-  -- collecting again changes no word (and `top-kept`: nor `top`)
+  -- collecting again changes no word, and by `live-kept` not `top`
   pub collected-again : collected F (collected F ws top) (collectedTop F ws top) ≡ collected F ws top
   unfolding collected collectedOf live
   collected-again =

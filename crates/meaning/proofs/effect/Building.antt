@@ -16,7 +16,7 @@ use Rattle.meaning.specs.Effect.{Facts, does}
 use Rattle.meaning.proofs.sound.Cells.{TermIn, BracketIn, term-of-bracket, good}
 use Rattle.meaning.proofs.meaning.Terms.{append-nothing, run-ext, run-split}
 use Rattle.meaning.proofs.actions.Writing.{at-put, copy-put, term-law}
-use Rattle.meaning.proofs.actions.Laying.{extends-put, extends-term, extends-inside, twin, Both, both}
+use Rattle.meaning.proofs.actions.Laying.{extends-put, extends-term, extends-inside, twin, Both, both-of}
 use Rattle.meaning.proofs.effect.Effects.{Others, Acts, meaning-at, new-acts, set-acts}
 use Rattle.meaning.proofs.effect.Stepping.{wrapped, size-terms}
 
@@ -73,7 +73,7 @@ module _ (F : ℕ) (p : 0 < F) (e : ℕ → Expr) (fs : Facts) (ws : List ℕ) (
     v = copies (copies ws top l n) (top + n) l′ k
 
     laid : Both F ws top l n l′ k v
-    laid = both F ws top l n l′ k p s (t .0) (omega (arith, t .1, t .2)) (t′ .0) (omega (arith, t′ .1, t′ .2)) q
+    laid = both-of F ws top l r l′ r′ p s t t′ q
 
     abbrev T : ℕ → Expr
     T = term (at v) (length v)

@@ -46,11 +46,6 @@ less-front t (code a) x = refl
 less-front t empty x = refl
 less-front t (ends l r) x = refl
 
-opened-front : (t : ℕ → Expr) (b : Cell) (x : Expr) → opened (append (termOf t b) x) ≡ inside t b
-opened-front t (code a) x = refl
-opened-front t empty x = refl
-opened-front t (ends l r) x = refl
-
 empty-front : (t : ℕ → Expr) (b : Cell) (x : Expr) → onEmpty (append (termOf t b) x) ≡ 0
 empty-front t (code a) x = refl
 empty-front t empty x = refl

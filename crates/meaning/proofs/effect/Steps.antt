@@ -1,15 +1,12 @@
--- One call, whatever its words are; and a batch of calls. In order:
+-- One call, whatever its words are. In order:
 --   sound-by, length-by   the store in which a call seeks room is sound and as long
 --   size-a, size-b        an operand has as many terms in it as before
 --   no-need               a call that needs no cell never lacks room
 --   Steps, step-meets     what one call has to give, and that it does, whatever its words are
---   Batch                 the calls one after the other, each as it has to be, with their answers
---   WholeCalls            a list of four words a call
---   runs-batch            a batch in a sound store is such calls
 -- Assumes nothing.
 use mathlib.Core.Path.{_≡_, refl, sym, ap, _∙_}
 use mathlib.Core.Bool.{Bool, true, false}
-use mathlib.Core.List.{List, [], _∷_}
+use mathlib.Core.List.{List}
 use Prim.Native.Nat.{ℕ, zero, suc, _+_, _-_, _<_}
 use native.Mathlib.Omega.{arith}
 use lib.Dec.{ltb, eqb}
@@ -25,7 +22,6 @@ use Rattle.meaning.specs.Operands.{useA, useB, uses, Op, CLEAR, COPY, SY
 use Rattle.meaning.specs.Operands.{LENGTH, FIRST, LIVE, COLLECT, fault, opAt}
 use Rattle.meaning.specs.Call.{joinNeed, joinPlan, keeps, soughtBy, lacks, planOf, perform, stepAfter, step}
 use Rattle.meaning.specs.Effect.{Facts, facts, does, effect, liveForRoom, after, answer, callStatus}
-use Rattle.meaning.specs.Batch.{runs}
 use Rattle.meaning.proofs.sound.Cells.{good}
 use Rattle.meaning.proofs.collected.Collecting.{collected-sound, meaning-kept}
 use Rattle.meaning.proofs.reach.Reaching.{live-le}
@@ -232,24 +228,3 @@ module _ (F : ℕ) (ws : List ℕ) (top : ℕ) (p : 0 < F) (s : Sound F ws top) 
             tops = rw z refl;
             left = rw z refl;
           }
-
--- ---- a batch
-
--- the calls one after the other, each as it has to be, with their answers
-pub data Batch (F : ℕ) : List ℕ → ℕ → List ℕ → List ℕ → List ℕ → ℕ → Type 0 where
-  ended : {ws : List ℕ} {top : ℕ} → Batch F ws top [] [] ws top
-  called : {ws : List ℕ} {top o d a b : ℕ} {cs ans ws′ : List ℕ} {top′ : ℕ} (r : Done) → Steps F ws top o d a b r
-      → Batch F (r .words) (r .top) cs ans ws′ top′
-      → Batch F ws top (o ∷ d ∷ a ∷ b ∷ cs) (r .verdict .status ∷ r .verdict .value ∷ ans) ws′ top′
-
-pub data WholeCalls : List ℕ → Type 0 where
-  none : WholeCalls []
-  four : {o d a b : ℕ} {cs : List ℕ} → WholeCalls cs → WholeCalls (o ∷ d ∷ a ∷ b ∷ cs)
-
-pub runs-batch : (F : ℕ) (p : 0 < F) (ws : List ℕ) (top : ℕ) {cs : List ℕ} → WholeCalls cs → Sound F ws top
-    → Batch F ws top cs (runs F ws top cs .answers) (runs F ws top cs .words) (runs F ws top cs .top)
-runs-batch F p ws top none s = ended
-runs-batch F p ws top (four {o} {d} {a} {b} {cs} c) s =
-    let m = step-meets F ws top p s o d a b in
-    called (step F ws top o d a b) m (runs-batch F p (step F ws top o d a b .words) (step F ws top o d a b .top) c
-    (m .sound))

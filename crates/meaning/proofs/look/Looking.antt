@@ -4,11 +4,11 @@
 --   span-register, span-none   the word numbers of a look at a register, and at what is none
 --   look-none, look-empty      no word where there is no register, or an empty one
 --   run-fits                   a register's run lies within the words
---   look-size, look-length     two words a cell, and so two a term
+--   look-size                  two words a cell
 --   look-word                  the words from the left end on
 --   look-unsound               no word of an unsound store
 -- Assumes nothing.
-use mathlib.Core.Path.{_≡_, refl, ap, _∙_}
+use mathlib.Core.Path.{_≡_, refl}
 use mathlib.Core.Logic.{_⊎_, inl, inr}
 use mathlib.Core.List.{List, []}
 use Prim.Native.Nat.{ℕ, suc, _+_, _-_, _*_, _≤_, _<_}
@@ -16,15 +16,12 @@ use native.Mathlib.Omega.{arith}
 use lib.ListN.{length, getD, length-take, length-drop}
 use lib.Seq.{getD-take, getD-drop}
 use borrow.Author.Tests.{lt-ltb, le-ltb}
-use Rattle.meaning.specs.Expr.{terms}
 use Rattle.meaning.specs.Sound.{Cell, code, empty, ends, at, Sound, size, start}
-use Rattle.meaning.specs.Meaning.{meaning}
 use Rattle.meaning.specs.Check.{check}
 use Rattle.meaning.specs.Look.{spanOf, lookSpan, look}
 use Rattle.meaning.proofs.sound.Cells.{BracketIn, good}
 use Rattle.meaning.proofs.Lists.{lt-or-ge}
 use Rattle.meaning.proofs.check.Checking.{sound-check}
-use Rattle.meaning.proofs.effect.Stepping.{size-terms}
 
 -- a bracket's cells lie below the limit of its right end
 pub run-in : (F lim : ℕ) (b : Cell) → BracketIn F lim b → start b + size b ≤ lim
@@ -62,9 +59,6 @@ module _ (F : ℕ) (ws : List ℕ) (top : ℕ) (p : 0 < F) (s : Sound F ws top) 
   pub look-size : i < F → length (look F ws top i) ≡ 2 * size (at ws i)
   unfolding look spanOf
   look-size h = rw (span-register F ws top s i h) (simp (length-take, length-drop) (omega (arith, run-fits h)))
-
-  pub look-length : i < F → length (look F ws top i) ≡ 2 * terms (meaning ws i)
-  look-length h = look-size h ∙ ap (λ (n : ℕ). 2 * n) (size-terms F ws top p s i h)
 
   -- the words from the left end on
   pub look-word : i < F → (k : ℕ) → k < 2 * size (at ws i)

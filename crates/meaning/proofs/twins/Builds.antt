@@ -19,7 +19,7 @@ use Rattle.meaning.proofs.meaning.Terms.{Along}
 use Rattle.meaning.proofs.reach.Reaching.{live-le, reached-asc, reached-below}
 use Rattle.meaning.proofs.collected.Collecting.{at-register, at-new, length-collected}
 use Rattle.meaning.proofs.actions.Writing.{copy-put, at-put}
-use Rattle.meaning.proofs.actions.Laying.{Extends, extends-put, Both, both}
+use Rattle.meaning.proofs.actions.Laying.{Extends, extends-put, Both, both, both-of}
 use Rattle.meaning.proofs.twins.Canons.{canon}
 use Rattle.meaning.proofs.twins.Pairs.{sound′, along-register, along-heap, Kept, far, old-along, new-both}
 use Rattle.meaning.proofs.twins.Agree.{Agree, size-moved, moved-in}
@@ -115,7 +115,7 @@ module _ (F : ℕ) (ws : List ℕ) (top : ℕ) (p : 0 < F) (s : Sound F ws top) 
     size-x = size-moved F ws top p s top (ends x y) u b
 
     runs : Both F ws top l n x k v
-    runs = both F ws top l n x k p s (t .0) (omega (arith, t .1, t .2)) (u .0) (omega (arith, u .1, u .2)) h
+    runs = both-of F ws top l r x y p s t u h
 
     runs′ : Both F ws′ top′ (new F ws top l) n (new F ws top x) k v′
     runs′ =

@@ -15,7 +15,7 @@ use lib.ListN.{length}
 use Rattle.meaning.specs.Verdicts.{Verdict}
 use Rattle.meaning.specs.Call.{step}
 use Rattle.meaning.specs.Batch.{Ran, then, runs}
-use Rattle.meaning.proofs.effect.Steps.{WholeCalls, none, four}
+use Rattle.meaning.proofs.batch.Batches.{WholeCalls, none, four}
 use Rattle.promises.specs.Requests.{Request, requested, requests, inWords, verdicts}
 use Rattle.promises.specs.Alike.{Served}
 

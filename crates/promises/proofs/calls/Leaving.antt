@@ -21,7 +21,7 @@ use Rattle.meaning.specs.Actions.{newRunOf, newRun}
 use Rattle.meaning.proofs.Lists.{lt-or-ge}
 use Rattle.meaning.proofs.sound.Cells.{BracketIn, good}
 use Rattle.meaning.proofs.actions.Writing.{length-put, at-put, at-put-other}
-use Rattle.meaning.proofs.actions.Laying.{Both, both}
+use Rattle.meaning.proofs.actions.Laying.{Both, both-of}
 use Rattle.meaning.proofs.actions.Copying.{copy-length}
 use Rattle.promises.specs.Cells.{Leaves}
 use Rattle.promises.proofs.calls.Touching.{clear-only, share-only, head-only, rest-only, openFirst-only}
@@ -180,7 +180,7 @@ module _ (F : ℕ) (ws : List ℕ) (top : ℕ) (p : 0 < F) (s : Sound F ws top) 
     v = copies (copies ws top l n) (top + n) x k
 
     laid : Both F ws top l n x k v
-    laid = both F ws top l n x k p s (t .0) (omega (arith, t .1, t .2)) (u .0) (omega (arith, u .1, u .2)) h
+    laid = both-of F ws top l r x y p s t u h
 
     runs-lay : (j : ℕ) → j < n + k
         → at v (top + j) ≡ cond (ltb j n) (at ws (l + j)) (at ws (x + (j - n)))

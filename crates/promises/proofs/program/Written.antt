@@ -13,9 +13,10 @@ use Rattle.meaning.specs.Limits.{limit, codeTest, callsLimit, programCells, pro
 use Rattle.meaning.specs.Sound.{at, Sound}
 use Rattle.meaning.specs.Reach.{reached, live}
 use Rattle.meaning.specs.Fresh.{fresh}
-use Rattle.meaning.specs.Operands.{ops, opAt, uses, wrong11, wrong12, wrong13, fault}
+use Rattle.meaning.specs.Operands.{ops, opAt, uses, names, isOperand, wrong11, wrong12, wrong13, fault}
 use Rattle.meaning.specs.Actions.{put, codeTerm, codeFirst, newSymbol}
-use Rattle.meaning.specs.Call.{sought, planOf, lacks, roomWords, roomTop, withRoom, carryOut, perform, stepAfter, step}
+use Rattle.meaning.specs.Call.{keeps, sought, planOf, lacks, roomWords, roomTop, withRoom, carryOut, perform, stepAfter}
+use Rattle.meaning.specs.Call.{step}
 use Rattle.meaning.specs.Batch.{Outcome, runs as calling, ended, AllowedCalls}
 use Rattle.meaning.specs.Program.{linesOf, written, refusal, output, inputFault, program}
 use Rattle.meaning.specs.Rows.{rowTest}
@@ -173,9 +174,8 @@ program-reads = program-take
 
 pub program-rows : ProgramRows
 unfolding limit codeTest programCells programBytes at reached live fresh ops opAt uses wrong11 wrong12 wrong13 fault
-    put codeTerm codeFirst newSymbol sought planOf lacks roomWords roomTop withRoom carryOut perform stepAfter step
-    decimal
-    written refusal output inputFault program rowTest
+    put codeTerm codeFirst newSymbol names isOperand keeps sought planOf lacks roomWords roomTop withRoom carryOut
+    perform stepAfter step decimal written refusal output inputFault program rowTest
 program-rows = tt
 
 pub one-program : OneProgram

@@ -9,15 +9,14 @@ use Rattle.words.specs.Cell.{firstWord, secondWord}
 use Rattle.meaning.specs.Sound.{capacity}
 use Rattle.meaning.specs.Verdicts.{Verdict}
 use Rattle.meaning.specs.Check.{cellTest, lengthTest, topTest, check}
-use Rattle.meaning.proofs.check.Checking.{length-yes, yes-length, top-yes, yes-top, cell-yes, yes-cell, Checks}
-use Rattle.meaning.proofs.check.Checking.{length-bad}
-use Rattle.meaning.proofs.check.Checking.{top-bad, cell-bad, sound, checks}
+use Rattle.meaning.proofs.check.Checking.{length-yes, yes-length, top-yes, yes-top, cell-yes, yes-cell, CheckCases}
+use Rattle.meaning.proofs.check.Checking.{length-bad, top-bad, cell-bad, sound, check-cases}
 use Rattle.promises.specs.Table.{OneOf, Not, Judged, badLength, badTop, badCell, isSound}
 
 pub refuted : {A : Type 0} (t : Bool) → (A → t ≡ true) → t ≡ false → Not A
 refuted t f e a = false≢true (sym e ∙ f a)
 
-judge : (F : ℕ) (ws : List ℕ) (top : ℕ) (v : Verdict) → Checks F ws top v → Judged F ws top v
+judge : (F : ℕ) (ws : List ℕ) (top : ℕ) (v : Verdict) → CheckCases F ws top v → Judged F ws top v
 judge F ws top v (length-bad e) = badLength (refuted (lengthTest F (length ws)) (yes-length F (length ws)) e)
 judge F ws top v (top-bad l e) =
     badTop (length-yes F (length ws) l)
@@ -31,7 +30,7 @@ judge F ws top v (sound s) = isSound s
 
 module _ (F : ℕ) (ws : List ℕ) (top : ℕ) where
   pub judged : Judged F ws top (check F ws top)
-  judged = judge F ws top (check F ws top) (checks F ws top)
+  judged = judge F ws top (check F ws top) (check-cases F ws top)
 
   pub judged-number : (v : Verdict) → Judged F ws top v → OneOf (v .status) (0 ∷ 1 ∷ 2 ∷ 3 ∷ [])
   judged-number v (badLength n) = inr (inl refl)

@@ -31,10 +31,11 @@ use Rattle.meaning.specs.Verdicts.{Verdict, Done}
 use Rattle.meaning.specs.Check.{bracketTest, termTest, cellTest, lengthTest, topTest, verdictAt, check, collectIn}
 use Rattle.meaning.specs.Fresh.{fresh, freshIn}
 use Rattle.meaning.specs.Look.{Span, spanOf, lookSpan}
-use Rattle.meaning.specs.Operands.{ops, opAt, uses, wrong11, wrong12, wrong13, fault}
+use Rattle.meaning.specs.Operands.{ops, opAt, uses, names, isOperand, wrong11, wrong12, wrong13, fault}
 use Rattle.meaning.specs.Actions.{put, copy, share, head, rest, openTerm, openFirst, codeTerm, codeFirst, newSymbol}
 use Rattle.meaning.specs.Actions.{newBracket, newRunOf, newRun}
-use Rattle.meaning.specs.Call.{sought, planOf, lacks, roomWords, roomTop, withRoom, carryOut, perform, stepAfter, step}
+use Rattle.meaning.specs.Call.{keeps, sought, planOf, lacks, roomWords, roomTop, withRoom, carryOut, perform}
+use Rattle.meaning.specs.Call.{stepAfter, step}
 use Rattle.meaning.specs.Batch.{Outcome, ended, callsTest, batchOf, batch}
 use Rattle.meaning.specs.Program.{written, refusal, output, inputFault, program}
 use Rattle.meaning.specs.Rows.{same}
@@ -77,9 +78,9 @@ const UNFOLDING: &str = "\
 unfolding limit codeTest callsLimit programCells programBytes at reached live newAddress collectedOf collected
     bracketTest termTest cellTest lengthTest topTest verdictAt check fresh freshIn collectIn spanOf
     lookSpan ops opAt uses wrong11 wrong12 wrong13 fault put copy share head rest openTerm openFirst codeTerm
-    codeFirst newSymbol newBracket newRunOf newRun sought planOf lacks roomWords roomTop withRoom carryOut perform
-    stepAfter step ended callsTest batchOf batch decimal written refusal output inputFault program verdict outcome left span
-    right every";
+    codeFirst newSymbol newBracket newRunOf newRun names isOperand keeps sought planOf lacks roomWords roomTop
+    withRoom carryOut perform stepAfter step ended callsTest batchOf batch decimal written refusal output inputFault
+    program verdict outcome left span right every";
 
 /// A list of numbers in antt.
 fn list<T: std::fmt::Display>(numbers: &[T]) -> String {

@@ -1,6 +1,6 @@
 -- `calls::operands::fault` meets its contract. Assumes nothing.
 use mathlib.Core.Path.{_≡_, _∙_}
-use mathlib.Core.Bool.{Bool, _||_}
+use mathlib.Core.Bool.{Bool, cond, _||_}
 use mathlib.Core.List.{[]}
 use Prim.Native.Nat.{ℕ, _≤_}
 use native.Mathlib.Omega.{arith}
@@ -66,29 +66,26 @@ returns-3 c =
       twelve (c .before) ∙ c .if3 .taken,
     )
 
-returns-4 : tie.Need-returns-4
+-- past the first three tests, the last one says
+last : (c : tie.After-no-code) →
+    let s = numbered (c .before .before .before .before) .before in
+    cond (c .no-code .result) 13 0 ≡ fault firstHeapCell (s .args .o) (s .args .d) (s .args .a) (s .args .b)
 unfolding fault
-returns-4 c =
-    let if3 = c .before .before in
+last c =
+    let if3 = c .before in
     let if2 = if3 .before .before in
     simp (
       le-ltb _ _ (numbered (if2 .before) .if1 .left),
       eleven (if2 .before) ∙ if2 .if2 .left,
       twelve (if3 .before) ∙ if3 .if3 .left,
-      thirteen (c .before) ∙ c .if4 .taken,
+      thirteen c,
     )
 
+returns-4 : tie.Need-returns-4
+returns-4 c = rw (c .if4 .taken) at (last (c .before))
+
 returns-5 : tie.Need-returns-5
-unfolding fault
-returns-5 c =
-    let if3 = c .before .before in
-    let if2 = if3 .before .before in
-    simp (
-      le-ltb _ _ (numbered (if2 .before) .if1 .left),
-      eleven (if2 .before) ∙ if2 .if2 .left,
-      twelve (if3 .before) ∙ if3 .if3 .left,
-      thirteen (c .before) ∙ c .if4 .left,
-    )
+returns-5 c = rw (c .if4 .left) at (last (c .before))
 
 pub fault-spec : {M : Type 1} → statement M
 fault-spec =
