@@ -10,6 +10,7 @@ use Rattle.meaning.specs.Call.{step}
 use Rattle.meaning.specs.Batch.{Ran, then, runs}
 use Rattle.meaning.proofs.effect.Steps.{step-meets}
 
+-- a list of four words a call
 pub data WholeCalls : List ℕ → Type 0 where
   none : WholeCalls []
   four : {o d a b : ℕ} {cs : List ℕ} → WholeCalls cs → WholeCalls (o ∷ d ∷ a ∷ b ∷ cs)
