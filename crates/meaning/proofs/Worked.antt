@@ -1,8 +1,10 @@
--- The table of stores to try is right: one computation.
+-- The tables of stores and of texts to try are right: one computation each.
 -- Assumes nothing.
 use Rattle.bytes.specs.Decimal.{decimal}
-use Rattle.meaning.specs.Limits.{firstHeapCell, limit, codeTest, programCells, programBytes}
+use Rattle.bytes.specs.Space.{filled}
+use Rattle.meaning.specs.Limits.{firstHeapCell, limit, codeTest, depthLimit, programCells, programBytes}
 use Rattle.meaning.specs.Sound.{at}
+use Rattle.meaning.specs.Meaning.{meaning}
 use Rattle.meaning.specs.Reach.{reached, live}
 use Rattle.meaning.specs.Collected.{newAddress, collectedOf, collected}
 use Rattle.meaning.specs.Check.{bracketTest, termTest, cellTest, lengthTest, topTest, verdictAt, check, collectIn}
@@ -16,6 +18,8 @@ use Rattle.meaning.specs.Program.{written, refusal, output, inputFault, 
 use Rattle.meaning.specs.Rows.{verdictTest, doneTest, ranTest, rowTest, p1, p1Lines, p2, p3Heap, p3, p6, lone}
 use Rattle.meaning.specs.Rows.{rows}
 use Rattle.meaning.specs.Rows.{RowsRight}
+use Rattle.meaning.specs.Text.{leftAfter, tooDeep, printed, printIn}
+use Rattle.meaning.specs.TextRows.{printTest, textRowTest, t1, t1Store, nest, textRows, TextRowsRight}
 
 pub rows-right : RowsRight firstHeapCell
 unfolding limit codeTest programCells programBytes at reached live newAddress collectedOf collected
@@ -24,3 +28,8 @@ unfolding limit codeTest programCells programBytes at reached live newAddress co
     names isOperand keeps sought planOf lacks roomWords roomTop withRoom carryOut perform stepAfter step decimal
     written refusal output inputFault program verdictTest doneTest ranTest rowTest p1 p1Lines p2 p3Heap p3 p6 lone rows
 rows-right = tt
+
+pub text-rows-right : TextRowsRight firstHeapCell
+unfolding limit codeTest depthLimit at meaning bracketTest termTest cellTest lengthTest topTest verdictAt check decimal
+    filled leftAfter tooDeep printed printIn verdictTest p6 lone printTest textRowTest t1 t1Store nest textRows
+text-rows-right = tt

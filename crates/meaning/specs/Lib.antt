@@ -15,7 +15,9 @@
 --   Effect     one call: what it does to expressions
 --   Batch      a batch as it is lent
 --   Program    what the program writes for what it reads
+--   Text       the text of an expression; a register printed
 --   Rows       the worked stores P1 to P8, as one table
+--   TextRows   the texts to try, as one table
 -- Everything is over the first heap cell F as a parameter. In a signature `ws` are the store's words and `c` is a cell.
 -- Names of laws end in -same, -other (after a cell is put), -length, -kept (unchanged), -mono, -step (one turn),
 -- -unique, -iff.
@@ -36,4 +38,6 @@ pub mod Call
 pub mod Effect
 pub mod Batch
 pub mod Program
+pub mod Text
 pub mod Rows
+pub mod TextRows

@@ -16,6 +16,10 @@ limit = 4096
 unfoldable pub codeTest : ℕ → Bool
 codeTest a = leb a 268435455
 
+-- the most brackets that may be open at one place of a text
+unfoldable pub depthLimit : ℕ
+depthLimit = 64
+
 -- the longest call list, in words
 unfoldable pub callsLimit : ℕ
 callsLimit = 4096

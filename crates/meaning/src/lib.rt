@@ -10,6 +10,9 @@ pub const LIMIT: usize = 4096;
 // The largest code of a symbol.
 pub const CODE_LIMIT: u32 = 268435455;
 
+// The most brackets that may be open at one place of a text.
+pub const DEPTH_LIMIT: usize = 64;
+
 // The longest call list, in words.
 pub const CALL_WORDS: usize = 4096;
 
