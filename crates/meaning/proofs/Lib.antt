@@ -15,8 +15,9 @@
 --   effect     each call does to expressions what its row says
 --   batch      a batch, call by call; the values that come back
 --   program    the program's tests
+--   text       the text of expressions put together; printing by its cases
 --   twins      what a call does in a store, it does in any store with the same canonical words
---   Worked     the table of worked stores is right
+--   Worked     the tables of worked stores and of texts are right
 -- Assumes nothing.
 pub mod Lists
 pub mod Counting
@@ -33,5 +34,6 @@ pub mod call
 pub mod effect
 pub mod batch
 pub mod program
+pub mod text
 pub mod twins
 pub mod Worked

@@ -11,16 +11,16 @@ use mathlib.Core.Path.{_≡_, refl, sym, ap, _∙_}
 use mathlib.Core.Logic.{_≢_, _↔_}
 use mathlib.Core.Bool.{Bool, true, false}
 use mathlib.Core.List.{List}
-use Prim.Native.Nat.{ℕ, zero, suc, _+_, _*_, _≤_, _<_}
+use Prim.Native.Nat.{ℕ, _+_, _*_, _≤_, _<_}
 use native.Mathlib.Omega.{arith}
 use lib.Dec.{eqb, lit<}
 use lib.ListN.{length}
 use borrow.Author.Tests.{eqb-true, eqb-false, eq-eqb}
 use Rattle.meaning.specs.Limits.{firstHeapCell, limit}
 use Rattle.meaning.specs.Sound.{Sound}
-use Rattle.meaning.specs.Verdicts.{Verdict, onZero, ifSound}
+use Rattle.meaning.specs.Verdicts.{Verdict, ifSound}
 use Rattle.meaning.specs.Check.{check}
-use Rattle.meaning.proofs.check.Checking.{sound-check, check-sound}
+use Rattle.meaning.proofs.check.Checking.{sound-check, check-sound, onZero-no}
 use Rattle.meaning.proofs.sound.Cells.{register-rule, heap-rule}
 use Rattle.store.specs.Answers.{refusalOf, verdictOf}
 use Rattle.store.specs.Holds.{Bracketed, Termed}
@@ -31,10 +31,6 @@ use Rattle.store.proofs.Refusals.{ifSound-refusal}
 
 pub firstHeapCell-pos : 0 < firstHeapCell
 firstHeapCell-pos = lit< tt
-
-onZero-no : {A : Type 0} (s : ℕ) (x y : A) → s ≢ 0 → onZero s x y ≡ y
-onZero-no zero x y n = absurd (n refl)
-onZero-no (suc s) x y n = refl
 
 -- `found` is the answer of `check`, and the test is that of `is_sound`
 module _ (F : ℕ) (ws : List ℕ) (top : ℕ) (found : Checked) (q : verdictOf found ≡ check F ws top) where

@@ -8,6 +8,7 @@
 --   sound-check                  a sound store is answered 0
 --   CheckCases, check-cases               the four answers, and that the check's is one of them
 --   check-sound                  0 is the answer for a sound store only
+--   onZero-no                    what depends on a status that is not 0
 -- Assumes nothing.
 use mathlib.Core.Path.{_≡_, refl, subst}
 use mathlib.Core.Logic.{_⊎_, inl, inr, _≢_}
@@ -24,7 +25,7 @@ use Rattle.words.specs.Second.{bracketTo}
 use Rattle.meaning.specs.Limits.{codeTest, limit}
 use Rattle.meaning.specs.Sound.{at, IsBracket, isEmpty, isFull, IsTerm, isSymbol, isBracket, capacity, Allowed}
 use Rattle.meaning.specs.Sound.{CellRule, Sound}
-use Rattle.meaning.specs.Verdicts.{Verdict, only}
+use Rattle.meaning.specs.Verdicts.{Verdict, only, onZero}
 use Rattle.meaning.specs.Check.{topTest, bracketTest, termTest, cellTest, damaged, lengthTest, verdictAt, check}
 use Rattle.meaning.proofs.Lists.{lt-or-ge}
 
@@ -248,3 +249,9 @@ module _ (F : ℕ) (ws : List ℕ) (top : ℕ) where
       go v e (top-bad a b) r = absurd (omega arith)
       go v e (cell-bad c a b l x y) r = absurd (omega arith)
       go v e (sound s) r = s
+
+-- ---- what depends on the check's status
+
+pub onZero-no : {A : Type 0} (s : ℕ) (x y : A) → s ≢ 0 → onZero s x y ≡ y
+onZero-no zero x y n = absurd (n refl)
+onZero-no (suc s) x y n = refl

@@ -1,0 +1,59 @@
+-- Laws of the text of an expression. In order:
+--   tail, tail-append           what stands behind a term: the text of the rest, with its space
+--   text-append                 one expression behind another
+--   gap-filled, text-one, text-brackets, text-joined   the text by what is in the expression
+--   termOf-filled               a cell's term is one term
+-- Assumes nothing.
+use mathlib.Core.Path.{_≡_, refl, sym, ap, _∙_}
+use mathlib.Core.List.{List, [], _∷_, _++_, append-assoc, append-nil}
+use Prim.Native.Nat.{ℕ, _-_, _<_}
+use native.Mathlib.Omega.{arith}
+use Rattle.bytes.specs.Decimal.{decimal}
+use Rattle.meaning.specs.Expr.{Expr, nothing, symbol, parens, append, terms}
+use Rattle.meaning.specs.Sound.{Cell, code, empty, ends}
+use Rattle.meaning.specs.Meaning.{termOf}
+use Rattle.meaning.specs.Text.{gap, text}
+
+-- what stands behind a term
+abbrev pub tail : Expr → List ℕ
+tail e = gap e ++ text e
+
+pub tail-append : (e f : Expr) → tail (append e f) ≡ tail e ++ tail f
+tail-append nothing f = refl
+tail-append (symbol a r) f =
+    ap (λ (t : List ℕ). 32 ∷ (decimal a ++ t)) (tail-append r f)
+    ∙ ap (λ (t : List ℕ). 32 ∷ t) (sym (append-assoc (decimal a) (tail r) (tail f)))
+tail-append (parens i r) f =
+    ap (λ (t : List ℕ). 32 ∷ 40 ∷ (text i ++ (41 ∷ t))) (tail-append r f)
+    ∙ ap (λ (t : List ℕ). 32 ∷ 40 ∷ t) (sym (append-assoc (text i) (41 ∷ tail r) (tail f)))
+
+-- an expression with a term in it, and another behind it
+pub text-append : (e f : Expr) → 0 < terms e → text (append e f) ≡ text e ++ tail f
+text-append nothing f h = absurd (omega arith)
+text-append (symbol a r) f h =
+    ap (λ (t : List ℕ). decimal a ++ t) (tail-append r f) ∙ sym (append-assoc (decimal a) (tail r) (tail f))
+text-append (parens i r) f h =
+    ap (λ (t : List ℕ). 40 ∷ (text i ++ (41 ∷ t))) (tail-append r f)
+    ∙ ap (λ (t : List ℕ). 40 ∷ t) (sym (append-assoc (text i) (41 ∷ tail r) (tail f)))
+
+pub gap-filled : (e : Expr) → 0 < terms e → gap e ≡ 32 ∷ []
+gap-filled nothing h = absurd (omega arith)
+gap-filled (symbol a r) h = refl
+gap-filled (parens i r) h = refl
+
+pub gap-append : (e f : Expr) → 0 < terms e → gap (append e f) ≡ 32 ∷ []
+gap-append nothing f h = absurd (omega arith)
+gap-append (symbol a r) f h = refl
+gap-append (parens i r) f h = refl
+
+pub text-one : (a : ℕ) → text (symbol a nothing) ≡ decimal a
+text-one a = append-nil (decimal a)
+
+pub text-joined : (e f : Expr) → 0 < terms e → 0 < terms f → text (append e f) ≡ text e ++ (32 ∷ text f)
+text-joined e f h k = text-append e f h ∙ ap (λ (t : List ℕ). text e ++ (t ++ text f)) (gap-filled f k)
+
+-- a cell's term is one term
+pub termOf-filled : (t : ℕ → Expr) (k : Cell) → 0 < terms (termOf t k)
+termOf-filled t (code a) = omega arith
+termOf-filled t empty = omega arith
+termOf-filled t (ends l r) = omega arith
