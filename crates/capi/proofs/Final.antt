@@ -5,10 +5,12 @@ use mathlib.Core.List.{List}
 use Prim.Native.Nat.{ℕ}
 use Rattle.meaning.specs.Verdicts.{Done}
 use Rattle.meaning.specs.Batch.{Outcome}
+use Rattle.meaning.specs.Text.{Printed}
 use Rattle.store.proofs.Final as store
-use Rattle.capi.specs.Answers.{reply, verdictIs, doneIs, outcomeIs}
-use Rattle.capi.specs.Unique.{OneCheck, OneFresh, OneCollect, OneRun, OneLook}
+use Rattle.capi.specs.Answers.{reply, verdictIs, doneIs, outcomeIs, printedIs}
+use Rattle.capi.specs.Unique.{OneCheck, OneFresh, OneCollect, OneRun, OneLook, OnePrint}
 use Rattle.capi.specs.declared.Reply.{Reply}
+use Rattle.capi.specs.declared.Text.{Text}
 
 done-same : (r r′ : Reply) (vs vs′ : List ℕ) → doneIs r vs ≡ doneIs r′ vs′ → (r ≡ r′) × (vs ≡ vs′)
 done-same r r′ vs vs′ e = (
@@ -38,3 +40,14 @@ one-run ws top calls out vs vs′ os os′ r r′ p q =
 
 pub one-look : OneLook
 one-look = store.one-span
+
+pub one-print : OnePrint
+one-print ws top i out vs vs′ r r′ p q =
+    let e : printedIs r vs ≡ printedIs r′ vs′ = p ∙ sym q in (
+      ap {B = Text} (λ (x : Printed). record {
+        status = x .verdict .status;
+        value = x .verdict .value;
+        length = x .size;
+      }) e,
+      ap (λ (x : Printed). x .space) e,
+    )

@@ -3,14 +3,22 @@
 use mathlib.Core.Path.{_≡_}
 use mathlib.Core.List.{List}
 use Prim.Native.Nat.{ℕ}
+use lib.ListN.{length}
 use Rattle.meaning.specs.Limits.{firstHeapCell}
 use Rattle.meaning.specs.Verdicts.{Verdict, Done}
 use Rattle.meaning.specs.Check.{check, collectIn}
 use Rattle.meaning.specs.Fresh.{freshIn}
 use Rattle.meaning.specs.Batch.{Outcome, batch}
+use Rattle.meaning.specs.Text as text
 use Rattle.store.specs.Answers.{Placed}
 use Rattle.store.specs.declared.Span as span
+use Rattle.capi.specs.declared.Numbers.{Numbers}
 use Rattle.capi.specs.declared.Reply.{Reply}
+use Rattle.capi.specs.declared.Text.{Text}
+
+-- a refusal's status and value
+abbrev pub refusalIs : Numbers → Verdict
+refusalIs r = record { status = r .status; value = r .value }
 
 -- a status, a value and `top`
 abbrev pub reply : ℕ → ℕ → ℕ → Reply
@@ -27,6 +35,10 @@ doneIs r ws = record { verdict = verdictIs r; words = ws; top = r .top }
 -- with the words of the store and of the answer space
 abbrev pub outcomeIs : Reply → List ℕ → List ℕ → Outcome
 outcomeIs r ws out = record { verdict = verdictIs r; words = ws; top = r .top; answers = out }
+
+-- what printing gives, with the bytes of the text space
+abbrev pub printedIs : Text → List ℕ → text.Printed
+printedIs r out = record { verdict = record { status = r .status; value = r .value }; size = r .length; space = out }
 
 -- ---- what the exported functions promise: the contracts cite these, and so does every claim about them
 
@@ -47,3 +59,7 @@ Runs ws top calls out r vs os = outcomeIs r vs os ≡ batch firstHeapCell ws top
 -- `zelmotar_look` names a place that lies in the words, from ≤ to ≤ their number
 abbrev pub Places : List ℕ → ℕ → ℕ → span.Span → Type 0
 Places ws top i r = Placed firstHeapCell ws top i r
+
+-- `zelmotar_print` leaves the bytes vs of the text space `out`
+abbrev pub Prints : List ℕ → ℕ → ℕ → List ℕ → Text → List ℕ → Type 0
+Prints ws top i out r vs = printedIs r vs ≡ text.printIn firstHeapCell ws top i (length out)

@@ -1,12 +1,13 @@
 -- The claims that a statement of this crate leaves no second outcome (SCOPE 8.5): the reply, and
--- every word of the slices lent. Proved in proofs/Final.antt.
+-- every word and byte of the slices lent. Proved in proofs/Final.antt.
 -- Assumes nothing.
 use mathlib.Core.Path.{_≡_}
 use mathlib.Core.List.{List}
 use Prim.Native.Nat.{ℕ}
 use Rattle.store.specs.declared.Span as span
-use Rattle.capi.specs.Answers.{Checks, Makes, Collects, Runs, Places}
+use Rattle.capi.specs.Answers.{Checks, Makes, Collects, Runs, Places, Prints}
 use Rattle.capi.specs.declared.Reply.{Reply}
+use Rattle.capi.specs.declared.Text.{Text}
 
 abbrev pub OneCheck : Type 0
 OneCheck = (ws : List ℕ) (top : ℕ) (r r′ : Reply) → Checks ws top r → Checks ws top r′ → r ≡ r′
@@ -26,3 +27,8 @@ OneRun =
 
 abbrev pub OneLook : Type 0
 OneLook = (ws : List ℕ) (top i : ℕ) (r r′ : span.Span) → Places ws top i r → Places ws top i r′ → r ≡ r′
+
+abbrev pub OnePrint : Type 0
+OnePrint =
+    (ws : List ℕ) (top i : ℕ) (out vs vs′ : List ℕ) (r r′ : Text) → Prints ws top i out r vs → Prints ws top i out r′ vs′
+    → (r ≡ r′) × (vs ≡ vs′)

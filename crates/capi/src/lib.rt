@@ -1,5 +1,5 @@
-// The store for C and Rust. A slice crosses as a pointer and a count of words. No enum and no slice can come back: a
-// reply is a struct of SCOPE's numbers (5), and a look is a place. Each exported function is one call of a proved
+// The store for C and Rust. A slice crosses as a pointer and a count of words or bytes. No enum and no slice can come
+// back: a reply is a struct of SCOPE's numbers (5), so is what printing gives, and a look is a place. Each exported function is one call of a proved
 // one, and takes whatever it is handed.
 use calls::Ran;
 use collect::Collected;
@@ -7,11 +7,12 @@ use store::Checked;
 use store::Made;
 use store::Span;
 use store::Unsound;
+use text::Printed;
 ghost use mathlib.Core.Path.{_≡_};
 ghost use Prim.Native.Nat.{_≤_};
 ghost use Rattle.meaning.specs.Limits.{limit};
 ghost use Rattle.store.specs.Answers.{refusalOf};
-ghost use Rattle.capi.specs.Answers.{reply, Checks, Makes, Collects, Runs, Places};
+ghost use Rattle.capi.specs.Answers.{refusalIs, reply, Checks, Makes, Collects, Runs, Places, Prints};
 
 // A status, the value that goes with it, and `top` afterwards.
 #[repr(C)]
@@ -33,16 +34,39 @@ fn reply_with(status: u32, value: usize, top: usize) -> Reply
     }
 }
 
-// Why a store is refused. `top` comes back as it came.
+// The numbers of a refusal.
+pub struct Numbers {
+    pub status: u32,
+    pub value: usize,
+}
+
+// Why a store is refused, in numbers.
+fn refusal(why: Unsound) -> Numbers
+    ensures { λ r. ⌜ refusalIs r ≡ refusalOf why ⌝ }
+{
+    match why {
+        Unsound::BadLength => Numbers {
+            status: 1,
+            value: 0,
+        },
+        Unsound::BadTop => Numbers {
+            status: 2,
+            value: 0,
+        },
+        Unsound::Damaged(cell) => Numbers {
+            status: 3,
+            value: cell,
+        },
+    }
+}
+
+// A store is refused. `top` comes back as it came.
 fn refuse(why: Unsound, top: usize) -> Reply
     requires { ⌜ refusalOf why .value ≤ limit ⌝ }
     ensures { λ r. ⌜ r ≡ reply (refusalOf why .status) (refusalOf why .value) top ⌝ }
 {
-    match why {
-        Unsound::BadLength => reply_with(1, 0, top),
-        Unsound::BadTop => reply_with(2, 0, top),
-        Unsound::Damaged(cell) => reply_with(3, cell, top),
-    }
+    let n = refusal(why);
+    reply_with(n.status, n.value, top)
 }
 
 // The check alone. `top` comes back as it came.
@@ -94,6 +118,46 @@ pub extern "C" fn zelmotar_run(
         Ran::Refused(why) => refuse(why, top),
         Ran::BadCalls => reply_with(4, 0, top),
         Ran::ShortAnswers => reply_with(5, 0, top),
+    }
+}
+
+// What printing gives: a status, the value that goes with it, and the length of the text.
+#[repr(C)]
+pub struct Text {
+    pub status: u32,
+    pub value: usize,
+    pub length: usize,
+}
+
+// Printing is refused: there is no text.
+fn no_text(status: u32, value: usize) -> Text
+    ensures { λ r. ⌜ r ≡ record { status = status; value = value; length = 0 } ⌝ }
+{
+    Text {
+        status,
+        value,
+        length: 0,
+    }
+}
+
+// A register printed. Every byte of the space lent for it is written.
+#[no_mangle]
+pub extern "C" fn zelmotar_print(words: &[u32], top: usize, reg: usize, space: &mut [u8]) -> Text
+    ensures { λ r. ⌜ Prints (now (words .entry)) top reg (now (space .entry)) r (now (space .exit)) ⌝ }
+{
+    match text::print(words, top, reg, space) {
+        Printed::Done(length) => Text {
+            status: 0,
+            value: 0,
+            length,
+        },
+        Printed::Refused(why) => {
+            let n = refusal(why);
+            no_text(n.status, n.value)
+        }
+        Printed::NoRegister => no_text(20, 0),
+        Printed::TooDeep => no_text(21, 0),
+        Printed::ShortSpace => no_text(22, 0),
     }
 }
 
