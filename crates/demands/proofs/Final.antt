@@ -1,7 +1,8 @@
 -- The claims of specs/, each with its proof. Nothing else stands here.
 -- Assumes nothing.
-use Rattle.demands.specs.Contracts.{CheckSays, FreshSays, LookSays, SpanSays, CollectSays, RunSays}
-use Rattle.demands.specs.Run.{CheckMeets, FreshMeets, LookMeets, SpanMeets, CollectMeets, RunMeets}
+use Rattle.demands.specs.Contracts.{CheckSays, FreshSays, LookSays, SpanSays, CollectSays, RunSays, PrintSays}
+use Rattle.demands.specs.Run.{CheckMeets, FreshMeets, LookMeets, SpanMeets, CollectMeets, RunMeets, PrintMeets}
+use Rattle.demands.specs.Run.{PrintsNeverShow}
 use Rattle.demands.specs.Runs.{RunsNeverShow, FreshRunsNeverShow}
 use Rattle.demands.specs.Example.{PremisesMet, HistoriesUnseen, OneMoreCollection}
 use Rattle.demands.proofs.Uses as uses
@@ -28,6 +29,9 @@ collect-says κs ws top = (tt, λ r v h. h)
 pub run-says : RunSays
 run-says κs ws top calls out = (tt, λ r v c a h. h)
 
+pub print-says : PrintSays
+print-says κs ws top i out = (tt, λ r v a h. h)
+
 -- ---- demands 1 and 2
 
 pub check-meets : CheckMeets
@@ -48,7 +52,13 @@ collect-meets = uses.collect-meets
 pub run-meets : RunMeets
 run-meets = uses.run-meets
 
+pub print-meets : PrintMeets
+print-meets = uses.print-meets
+
 -- ---- demand 3
+
+pub prints-never-show : PrintsNeverShow
+prints-never-show = uses.prints-never-show
 
 pub runs-never-show : RunsNeverShow
 runs-never-show = histories.runs-never-show

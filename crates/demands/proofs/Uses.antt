@@ -5,16 +5,18 @@
 --   refusal-not                the refusal of an unsound store has another status than 0
 --   collect-meets              collecting
 --   run-meets                  a batch
+--   print-meets, prints-never-show   a print, and two prints of stores that are alike
 -- Assumes nothing.
 use mathlib.Core.Path.{_≡_, refl, sym, ap, _∙_, subst}
 use mathlib.Core.Logic.{_⊎_, inl, inr, _≢_}
 use mathlib.Core.List.{List}
-use Prim.Native.Nat.{ℕ, zero, suc, _+_, _*_}
+use Prim.Native.Nat.{ℕ, zero, suc, _+_, _*_, _<_}
 use native.Mathlib.Omega.{arith}
+use lib.ListN.{length}
 use denote.Ref.{now}
 use Rattle.meaning.specs.Limits.{firstHeapCell}
 use Rattle.meaning.specs.Sound.{Sound}
-use Rattle.meaning.specs.Verdicts.{Verdict, Done}
+use Rattle.meaning.specs.Verdicts.{Verdict, only, Done}
 use Rattle.meaning.specs.Check.{check}
 use Rattle.meaning.specs.Look.{spanOf, lookSpan}
 use Rattle.meaning.specs.Batch.{Outcome, ended, batch}
@@ -31,13 +33,19 @@ use Rattle.collect.specs.declared.Collected.the-variants as collected
 use Rattle.calls.specs.Answers.{ranIn, Runs}
 use Rattle.calls.specs.declared.Ran.{Ran}
 use Rattle.calls.specs.declared.Ran.the-variants as ran
+use Rattle.meaning.specs.Text as text
+use Rattle.text.specs.Answers.{printedIn}
+use Rattle.text.specs.declared.Printed.{Printed}
+use Rattle.text.specs.declared.Printed.the-variants as printed
+use Rattle.text.proofs.Final.{one-print}
 use Rattle.promises.specs.Table.{Not, CheckTable, FreshTable, LookTable, CollectTable, BatchTable}
 use Rattle.promises.specs.Collecting.{CollectedFrom}
 use Rattle.promises.specs.Calls.{BatchRun}
+use Rattle.promises.specs.Printing.{Prints, unsound, noRegister, written, PrintTable}
 use Rattle.promises.proofs.Final.{check-answers, fresh-answers, look-answers, collect-answers, batch-answers}
-use Rattle.promises.proofs.Final.{collecting-keeps, batches-run}
+use Rattle.promises.proofs.Final.{collecting-keeps, batches-run, print-answers, alike-printed}
 use Rattle.demands.specs.Run.{CheckMeets, FreshMeets, LookMeets, SpanMeets, Collecting, CollectMeets}
-use Rattle.demands.specs.Run.{Running, RunMeets}
+use Rattle.demands.specs.Run.{Running, RunMeets, Printing, PrintMeets, PrintsNeverShow}
 
 -- ---- the check, a fresh store, the look
 
@@ -139,3 +147,35 @@ run-meets ws top calls out r v a h =
     subst (λ (o : Outcome). BatchTable firstHeapCell ws top calls out o) (sym h)
     (batch-answers firstHeapCell ws top calls out) in
     (k, running ws top calls out r v a h k)
+
+-- ---- a print
+
+-- a print that is done is one of a register of a sound store
+print-sound : (ws : List ℕ) (top i n : ℕ) (v : Verdict) → v .status ≡ 0 → Prints firstHeapCell ws top i n v
+    → Sound firstHeapCell ws top × (i < firstHeapCell)
+print-sound ws top i n v e (unsound _ j z) = absurd (z e)
+print-sound ws top i n v e (noRegister s h) = absurd (omega (arith, e))
+print-sound ws top i n v e (written s k h m) = (k, h)
+
+printing : (ws : List ℕ) (top i n : ℕ) (r : Printed) (a : List ℕ)
+    → PrintTable firstHeapCell ws top i n (printedIn r a) → Printing ws top i n r a
+printing ws top i n (printed.Done m) a k =
+    let s = print-sound ws top i n (only 0) refl (k .prints) in
+    let w = k .whole refl in (s .0, s .1, w .0, rw (w .0) (w .1))
+printing ws top i n (printed.Refused u) a k = k .refused (refusal-not u) .1
+printing ws top i n printed.NoRegister a k = k .refused (λ z. omega (arith, z)) .1
+printing ws top i n printed.TooDeep a k = k .refused (λ z. omega (arith, z)) .1
+printing ws top i n printed.ShortSpace a k = k .refused (λ z. omega (arith, z)) .1
+
+pub print-meets : PrintMeets
+print-meets ws top i out r a h =
+    let k : PrintTable firstHeapCell ws top i (length out) (printedIn r a) =
+    subst (λ (p : text.Printed). PrintTable firstHeapCell ws top i (length out) p) (sym h)
+    (print-answers firstHeapCell ws top i (length out)) in
+    (k, printing ws top i (length out) r a k)
+
+pub prints-never-show : PrintsNeverShow
+prints-never-show ws top ws′ top′ i out out′ r r′ a a′ s s′ c e l p q =
+    one-print ws top i out r r′ a a′ p
+    (q ∙ (sym (alike-printed firstHeapCell (omega arith) ws top ws′ top′ i (length out′) s s′ c e)
+    ∙ ap (text.printIn firstHeapCell ws top i) (sym l)))

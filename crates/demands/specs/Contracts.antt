@@ -1,5 +1,5 @@
 -- What a caller knows once a public function is back: what its contract promises, over plain lists. `Asked` and
--- `Learnt` are what Rattle reads off the contract in the lib.rt of `store`, `collect` or `calls`: what a caller must
+-- `Learnt` are what Rattle reads off the contract in the lib.rt of `store`, `collect`, `calls` or `text`: what a caller must
 -- show, and what it may use. Each claim says that nothing is asked, and that this is learnt, whatever the lifetimes κs
 -- are. ws and top are lent, r is returned, v are the words that are left. Assumes nothing.
 use mathlib.Core.List.{List}
@@ -15,12 +15,15 @@ use Rattle.collect.specs.Answers.{Collects}
 use Rattle.collect.specs.declared.Collected.{Collected}
 use Rattle.calls.specs.Answers.{Runs}
 use Rattle.calls.specs.declared.Ran.{Ran}
+use Rattle.text.specs.Answers.{Prints}
+use Rattle.text.specs.declared.Printed.{Printed}
 use Rattle.store.proofs.check.Reads as check-contract
 use Rattle.store.proofs.fresh.Reads as fresh-contract
 use Rattle.store.proofs.look.Reads as look-contract
 use Rattle.store.proofs.look_span.Reads as span-contract
 use Rattle.collect.proofs.collect.Reads as collect-contract
 use Rattle.calls.proofs.run.Reads as run-contract
+use Rattle.text.proofs.print.Reads as print-contract
 
 -- a slice as it is lent, or as it is left
 abbrev pub Slice : Type 0
@@ -69,3 +72,12 @@ RunSays =
     × ((r : Ran) (v c a : Slice)
     → run-contract.Learnt κs (ws, (top, (calls, (out, tt)))) r (v, (top, (c, (a, tt))))
     → Runs (now ws) top (now calls) (now out) r (now v) (now a))
+
+-- ---- `text::print`, of register i, with a text space `out`, which is left as a
+
+abbrev pub PrintSays : Type 0
+PrintSays =
+    (κs : Lfts 2) (ws : Slice) (top i : ℕ) (out : Slice) → print-contract.Asked κs (ws, (top, (i, (out, tt))))
+    × ((r : Printed) (v a : Slice)
+    → print-contract.Learnt κs (ws, (top, (i, (out, tt)))) r (v, (top, (i, (a, tt))))
+    → Prints (now ws) top i (now out) r (now a))

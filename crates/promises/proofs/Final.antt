@@ -6,10 +6,12 @@ use Rattle.promises.specs.Collecting.{LiveCounts, CollectingKeeps}
 use Rattle.promises.specs.Calls.{CallsDo, BatchesRun}
 use Rattle.promises.specs.Outright.{CallsOutright}
 use Rattle.promises.specs.Alike.{AlikeIsCollected, CollectionsNeverShow}
+use Rattle.promises.specs.Printing.{TextInWords, OneText, PrintAnswers, PrintsAlike, CollectionsUnprinted}
+use Rattle.promises.specs.Printing.{AlikePrinted}
 use Rattle.promises.specs.Program.{ProgramWrites, ProgramReads}
 use Rattle.promises.specs.ProgramRows.{ProgramRows}
 use Rattle.promises.specs.Unique.{OneAnswer, OneCheck, OneFresh, OneCollected, OneLook, OneCollect, OneBatch}
-use Rattle.promises.specs.Unique.{OneCall, OneProgram}
+use Rattle.promises.specs.Unique.{OneCall, OnePrint, OneProgram}
 use Rattle.promises.specs.OwnWords.{FaultsInWords, FaultRows, OneFault}
 use Rattle.promises.proofs.table.Tables as tables
 use Rattle.promises.proofs.collecting.Keeping as keeping
@@ -17,6 +19,8 @@ use Rattle.promises.proofs.calls.Calling as calling
 use Rattle.promises.proofs.outright.Twelve as twelve
 use Rattle.promises.proofs.alike.Alikes as alikes
 use Rattle.promises.proofs.alike.Striking as struck
+use Rattle.promises.proofs.printing.Meeting as meeting
+use Rattle.promises.proofs.printing.Printed as printing
 use Rattle.promises.proofs.program.Written as program
 use Rattle.promises.proofs.ownwords.Faults as faults
 use Rattle.promises.proofs.unique.Calls as calls-once
@@ -73,6 +77,26 @@ alike-is-collected = alikes.alike-is-collected
 pub collections-never-show : CollectionsNeverShow
 collections-never-show = struck.collections-never-show
 
+-- ---- printing
+
+pub text-in-words : TextInWords
+text-in-words = meeting.text-in-words
+
+pub one-text : OneText
+one-text = meeting.one-text
+
+pub print-answers : PrintAnswers
+print-answers = printing.print-answers
+
+pub prints-alike : PrintsAlike
+prints-alike = printing.prints-alike
+
+pub collections-unprinted : CollectionsUnprinted
+collections-unprinted = printing.collections-unprinted
+
+pub alike-printed : AlikePrinted
+alike-printed = printing.alike-printed
+
 -- ---- the program
 
 pub program-writes : ProgramWrites
@@ -112,6 +136,9 @@ one-call = calls-once.one-call
 
 pub one-batch : OneBatch
 one-batch = once.one-batch
+
+pub one-print : OnePrint
+one-print = printing.one-print
 
 pub one-program : OneProgram
 one-program = program.one-program

@@ -6,6 +6,7 @@ pub mod ownwords
 pub mod calls
 pub mod outright
 pub mod alike
+pub mod printing
 pub mod program
 pub mod unique
 pub mod Final

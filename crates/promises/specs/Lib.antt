@@ -7,6 +7,7 @@
 --   Calls       demand 2: what each call does, and a batch call by call
 --   Outright    demand 2: what each of the twelve does
 --   Alike       demand 3: collections never show
+--   Printing    demands 1 and 2: a register printed
 --   Program     what the program writes for what it reads;  ProgramRows  byte for byte
 --   Unique      no claim leaves a second outcome
 -- Everything is over the first heap cell F, which is more than 0.
@@ -19,6 +20,7 @@ pub mod Cells
 pub mod Calls
 pub mod Outright
 pub mod Alike
+pub mod Printing
 pub mod Program
 pub mod ProgramRows
 pub mod Unique

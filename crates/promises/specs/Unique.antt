@@ -1,4 +1,4 @@
--- One outcome: what the claims say of a check, a fresh store, a collection, a look, a batch and the program leaves no
+-- One outcome: what the claims say of a check, a fresh store, a collection, a look, a batch, a print and the program leaves no
 -- second answer, word or byte (SCOPE 8.5). The contracts of the code are equations, of answers by their
 -- numbers and values: two outcomes of one equation are equal. Assumes nothing.
 use mathlib.Core.Path.{_≡_}
@@ -8,9 +8,11 @@ use Rattle.meaning.specs.Sound.{Sound}
 use Rattle.meaning.specs.Collected.{collected}
 use Rattle.meaning.specs.Verdicts.{Verdict, Done}
 use Rattle.meaning.specs.Batch.{Outcome}
+use Rattle.meaning.specs.Text.{Printed}
 use Rattle.promises.specs.Table.{CheckTable, FreshTable, CollectTable, LookTable, BatchTable}
 use Rattle.promises.specs.Calls.{Called, BatchRun}
 use Rattle.promises.specs.Collecting.{CollectedFrom}
+use Rattle.promises.specs.Printing.{PrintTable}
 use Rattle.promises.specs.Program.{ProgramTable}
 
 -- an answer of which the promise says its number and values: two answers with the same numbers and values are one
@@ -57,3 +59,8 @@ OneBatch =
 -- the bytes that the program writes
 abbrev pub OneProgram : Type 0
 OneProgram = (F : ℕ) (input x y : List ℕ) → ProgramTable F input x → ProgramTable F input y → x ≡ y
+
+-- a register printed, with every byte of the text space
+abbrev pub OnePrint : Type 0
+OnePrint =
+    (F : ℕ) (ws : List ℕ) (top i n : ℕ) (r q : Printed) → PrintTable F ws top i n r → PrintTable F ws top i n q → r ≡ q

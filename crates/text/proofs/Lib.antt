@@ -7,4 +7,4 @@
 mod Pages
 mod Steps
 mod Fitting
-mod Final
+pub mod Final

@@ -1,5 +1,6 @@
 -- One outcome: two that satisfy the same claim are equal. In order:
 --   one-answer                   an answer of which the promise says its number and values
+--   judged-once                  a store is judged once
 --   one-check, one-fresh         the check, and a fresh store
 --   one-collected, one-collect   the collected store, and collecting
 --   Left                         what is left of a list of requests: the answers, the words and `top`
@@ -43,7 +44,7 @@ sound-rules : {F : ℕ} {ws : List ℕ} {top : ℕ} → Sound F ws top
 sound-rules s = (s .allowed, (s .low, s .high), s .cells)
 
 module _ (F : ℕ) (ws : List ℕ) (top : ℕ) where
-  judged-once : (v w : Verdict) → Judged F ws top v → Judged F ws top w → v ≡ w
+  pub judged-once : (v w : Verdict) → Judged F ws top v → Judged F ws top w → v ≡ w
   judged-once v w (badLength n) (badLength k) = refl
   judged-once v w (badLength n) (badTop l k) = absurd (n l)
   judged-once v w (badLength n) (badCell c l t h k b) = absurd (n l)
