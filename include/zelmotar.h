@@ -15,17 +15,20 @@
  * Both ends are inclusive. A register's ends lie between 16 and top, those of a bracket in cell c between
  * 16 and c. Cells from top on are zero. A store that keeps all these rules is sound.
  *
- * What holds for all five functions:
+ * What holds for all six functions:
  *
  *   - They take any words, any top and any register, and refuse by number what is not in order. A store
  *     need not be checked before it is lent; each function checks it.
- *   - A pointer must lead to as many words as its count says, aligned as uint32_t is. It must not be null,
- *     not even where the count is 0; it may then lead anywhere.
- *   - Word lists that are lent to one call must not overlap.
- *   - They read and write nothing outside the words lent, keep no pointer, hold no state between calls,
- *     allocate nothing, print nothing and call nothing back. Calls on different stores may run at the same
- *     time in different threads; calls on one store may not, unless both only read.
- *   - Wherever the status is 1 to 5, no word is changed.
+ *   - A pointer must lead to as many words as its count says, aligned as uint32_t is; a pointer to bytes, to
+ *     as many bytes, which may begin anywhere. It must not be null, not even where the count is 0; it may then
+ *     lead anywhere.
+ *   - Word lists and bytes that are lent to one call must not overlap.
+ *   - They read and write nothing outside what is lent, keep no pointer, hold no state between calls, allocate
+ *     nothing, do no input or output and call nothing back. Calls may run at the same time in different threads
+ *     where neither writes what is lent to the other. zelmotar_check, zelmotar_look and zelmotar_print write no
+ *     store.
+ *   - Wherever the status is 1 to 5, no word is changed. zelmotar_print never changes a word; the bytes lent to
+ *     it are all zero wherever its status is not 0.
  *   - A collection uses no memory that grows with the store, neither beside it nor on the stack.
  *   - The archive asks the linker for memset and nothing else: the compiler puts it in for loops that write
  *     zeros. Where there is no C library, the caller brings one.
@@ -33,11 +36,13 @@
  * What they cost:
  *
  *   - Time. Each first goes over all n words: zelmotar_fresh writes them, the others check them. So one batch of
- *     many calls costs less than many batches of one. What comes on top is said with each function; none takes
- *     longer because cells are shared.
- *   - Stack. zelmotar_run uses under 512 bytes, zelmotar_collect under 192, the others under 128, memset's own
- *     included: measured on x86-64 and 64-bit Arm by painting the stack (tests/c/stack.c). It does not depend on
- *     the store.
+ *     many calls costs less than many batches of one. What comes on top is said with each function. None takes
+ *     longer because cells are shared, but for zelmotar_print, which writes a shared cell wherever it is held;
+ *     its time keeps within what the text space allows.
+ *   - Stack. zelmotar_print uses under 20,480 bytes, most of it for 64 open brackets, 288 each; zelmotar_run under
+ *     512, zelmotar_collect under 192, the others under 128, memset's own included: measured on x86-64 and 64-bit
+ *     Arm by painting the stack (tests/c/stack.c), zelmotar_print on Arm alone so far. It does not grow with the
+ *     store; zelmotar_print uses less where brackets are not nested as deep.
  */
 #ifndef ZELMOTAR_H
 #define ZELMOTAR_H
@@ -73,6 +78,7 @@ extern "C" {
 #define ZELMOTAR_MAX_WORDS 8192       /* words of the largest store, 4,096 cells */
 #define ZELMOTAR_MAX_CALL_WORDS 4096  /* words of the longest call list, 1,024 calls */
 #define ZELMOTAR_MAX_CODE 0x0fffffffu /* the largest code of a symbol, 268,435,455 */
+#define ZELMOTAR_MAX_DEPTH 64         /* the most brackets that may be open at one place of a text */
 
 /* A cell's second word. Bits 30 to 28 are for collections, and zero between calls. */
 #define ZELMOTAR_BRACKET 0x80000000u     /* bit 31: a bracket or register; nothing else is set if it is empty */
@@ -113,6 +119,13 @@ typedef struct {
     size_t to;
 } zelmotar_span;
 
+/* What a print answers: its status, the value that goes with it, and how many bytes the text has. */
+typedef struct {
+    uint32_t status;
+    size_t value;
+    size_t length;
+} zelmotar_text;
+
 /* Status of a whole request. The first that applies is given. */
 enum {
     ZELMOTAR_DONE = 0,         /* done */
@@ -133,6 +146,15 @@ enum {
     ZELMOTAR_EMPTY = 14,         /* HEAD, REST, OPEN or FIRST on an empty register */
     ZELMOTAR_WRONG_KIND = 15,    /* OPEN on a symbol, or FIRST on a bracket */
     ZELMOTAR_NO_ROOM = 16        /* no room for the new cells; the store is left collected */
+};
+
+/* Status of a print: ZELMOTAR_DONE; or one of ZELMOTAR_BAD_LENGTH to ZELMOTAR_DAMAGED, with its value; or one of
+ * these, with value 0. The text is written from left to right, so of the last two it is the one of the byte
+ * farther left, and ZELMOTAR_TOO_DEEP where both hold at one byte. */
+enum {
+    ZELMOTAR_NO_REGISTER = 20, /* the register is over 15; a store that is not sound is told first */
+    ZELMOTAR_TOO_DEEP = 21,    /* the next byte would open a 65th bracket */
+    ZELMOTAR_SHORT_SPACE = 22  /* the next byte does not fit into the text space */
 };
 
 /* Operations. A call is four words: operation, d, a, b. Words that are not named here must be 0. Registers
@@ -171,6 +193,9 @@ static inline const char *zelmotar_status_text(uint32_t status)
     case ZELMOTAR_EMPTY: return "the register is empty";
     case ZELMOTAR_WRONG_KIND: return "its first term is of the other kind";
     case ZELMOTAR_NO_ROOM: return "no room";
+    case ZELMOTAR_NO_REGISTER: return "no register has that number";
+    case ZELMOTAR_TOO_DEEP: return "brackets are nested too deep";
+    case ZELMOTAR_SHORT_SPACE: return "the space is too short";
     default: return "no such status";
     }
 }
@@ -218,6 +243,20 @@ ZELMOTAR_USE_RESULT zelmotar_reply zelmotar_run(uint32_t *words, size_t n, size_
  * from and to are both 0 where the register is empty or over 15, or the store is not sound; zelmotar_check
  * tells which. The offsets hold until the store is next written. */
 ZELMOTAR_USE_RESULT zelmotar_span zelmotar_look(const uint32_t *words, size_t n, size_t top, size_t reg);
+
+/* Prints a register into a text space of text_n bytes, in ASCII: a symbol is its code in decimal, a bracket is what
+ * it holds between ( and ), and one blank stands between neighbours, as in 65 (66 67) (). The brackets written are
+ * those inside the register, so an empty register has a text of no bytes.
+ *
+ * Reads the n words. Writes all text_n bytes, and no word: the text and zeros after it, or zeros alone. Where the
+ * text fills the space no zero follows it. For a C string, lend text_n bytes of a buffer of text_n + 1, and have
+ * the last one 0. A text may be far longer than the store, as a shared cell is written wherever it is held.
+ * After the check it takes time with text_n, whatever the store shares: it ends at the first byte that does not fit.
+ * Answers ZELMOTAR_DONE with value 0 and the length of the text. Else the length is 0 and every byte of the space
+ * is 0, and the status is ZELMOTAR_BAD_LENGTH, ZELMOTAR_BAD_TOP or ZELMOTAR_DAMAGED as zelmotar_check has it, with its
+ * value, or ZELMOTAR_NO_REGISTER, ZELMOTAR_TOO_DEEP or ZELMOTAR_SHORT_SPACE with value 0. */
+ZELMOTAR_USE_RESULT zelmotar_text zelmotar_print(const uint32_t *words, size_t n, size_t top, size_t reg, uint8_t *text,
+                                                  size_t text_n);
 
 #ifdef __cplusplus
 }

@@ -14,7 +14,7 @@ use std::{env, fs, hint::black_box};
 use zelmotar::{raw, Call};
 use zelmotar_model::make::{self, Runs};
 use zelmotar_model::ordinary::{self, Better, Checks, Marks, Ordinary, Usual, WithBits};
-use zelmotar_model::plain::{self, Cell, Reply, FIRST_HEAP_CELL, MAX_CELLS};
+use zelmotar_model::plain::{self, Cell, Reply, Text, FIRST_HEAP_CELL, MAX_CELLS};
 use zelmotar_model::random::Random;
 
 /// Words and `top` of a store.
@@ -34,6 +34,8 @@ const ROW_TIME: Duration = Duration::from_millis(60);
 const LEAST_ROUNDS: usize = 5;
 /// Capacities at which growth is shown, below the limit. The limit comes last.
 const SIZES: [usize; 4] = [64, 512, 4096, 16384];
+/// Bytes of text spaces: those at which the growth of printing is shown, the last for all else.
+const SPACES: [usize; 4] = [1024, 4096, 16384, 65536];
 /// Beyond this capacity growth leaves out what would take too long: batches of many calls, and
 /// walks where runs overlap.
 const ALL_UP_TO: usize = 4096;
@@ -132,6 +134,20 @@ fn readings(capacity: usize) -> Lent {
     (words, end)
 }
 
+/// Brackets inside one another, two at each of 60 levels, both around the same run: 2^61 symbols in 122
+/// cells.
+fn shared() -> Lent {
+    let (mut words, top) = empty_store(FIRST_HEAP_CELL + 122);
+    plain::put(&mut words, top, Cell::Symbol(65));
+    plain::put(&mut words, top + 1, Cell::Symbol(66));
+    for c in (top + 2..top + 122).step_by(2) {
+        plain::put(&mut words, c, Cell::Bracket(c - 2, c - 1));
+        plain::put(&mut words, c + 1, Cell::Bracket(c - 2, c - 1));
+    }
+    plain::put(&mut words, 0, Cell::Bracket(top + 120, top + 121));
+    (words, top + 122)
+}
+
 /// Calls of all kinds on the scratch registers and on register 0.
 fn mixed_calls() -> Vec<u32> {
     let [p, q, r, s] = SCRATCH;
@@ -203,6 +219,8 @@ enum Work<'a> {
     Live,
     /// A batch of many calls.
     Run(&'a [u32]),
+    /// Register 0 printed into so many bytes.
+    Print(usize),
 }
 
 impl<'a> Work<'a> {
@@ -214,6 +232,7 @@ impl<'a> Work<'a> {
             Work::Collect => "collect",
             Work::Live => "live",
             Work::Run(_) => "run",
+            Work::Print(_) => "print",
         }
     }
 
@@ -241,6 +260,13 @@ impl<'a> Work<'a> {
             Work::Live | Work::Run(_) => Box::new(move |words, top, answers| {
                 told(raw::run(words, top, self.calls(), answers))
             }),
+            Work::Print(bytes) => {
+                let mut space = vec![0; bytes];
+                Box::new(move |words, top, _| {
+                    let raw::Text { status, length, .. } = raw::print(words, top, 0, &mut space);
+                    seen(status as usize, length)
+                })
+            }
         }
     }
 
@@ -257,14 +283,21 @@ impl<'a> Work<'a> {
             Work::Live | Work::Run(_) => {
                 Box::new(move |words, top, answers| store.run(words, top, self.calls(), answers))
             }
+            Work::Print(bytes) => {
+                let mut space = vec![0; bytes];
+                Box::new(move |words, top, _| {
+                    let Text { status, length, .. } = store.print(words, top, 0, &mut space);
+                    seen(status as usize, length)
+                })
+            }
         }
     }
 
-    /// All at this work, but no two that do the same: a fresh store takes no check, and a look no
-    /// marking. Without `walks` those are left out that go through every run.
+    /// All at this work, but no two that do the same: a fresh store takes no check, and a look and a
+    /// print no marking. Without `walks` those are left out that go through every run.
     fn contenders(self, walks: bool) -> Columns<Contender<'a>> {
         let checks = !matches!(self, Work::Fresh);
-        let marks = checks && !matches!(self, Work::Check | Work::Look);
+        let marks = checks && !matches!(self, Work::Check | Work::Look | Work::Print(_));
         [
             Some(self.library()),
             walks.then(|| self.ordinary(Usual::default())),
@@ -274,7 +307,7 @@ impl<'a> Work<'a> {
     }
 }
 
-/// What a look finds, as a reply.
+/// What a look finds or a print answers, as a reply.
 fn seen(from: usize, to: usize) -> Reply {
     Reply { status: 0, value: from as u32, top: to }
 }
@@ -333,6 +366,17 @@ fn assert_same(store: &Lent, work: Work, contenders: &mut Columns<Contender>) {
     assert!(after.windows(2).all(|pair| pair[0] == pair[1]), "contenders differ");
 }
 
+/// Asserts that all contenders leave the same bytes of register 0, printed into so many.
+fn assert_same_text(store: &Lent, bytes: usize) {
+    let texts = [(); 3].map(|()| vec![b'?'; bytes]);
+    let [mut library, mut usual, mut better] = texts;
+    let raw::Text { status, value, length } = raw::print(&store.0, store.1, 0, &mut library);
+    let told = Text { status, value, length };
+    assert_eq!(Usual::default().print(&store.0, store.1, 0, &mut usual), told);
+    assert_eq!(Better::default().print(&store.0, store.1, 0, &mut better), told);
+    assert!(library == usual && library == better, "contenders differ in a byte");
+}
+
 /// A time in microseconds, to the nanosecond where it is short.
 fn micros(time: f64) -> String {
     if time < 1.0 {
@@ -342,26 +386,28 @@ fn micros(time: f64) -> String {
     }
 }
 
-/// Prints one row: the times, and the library's for each occupied cell and as a multiple of the
-/// others.
+/// Prints one row: the times, and the library's for each occupied cell, or byte of a text space, and
+/// as a multiple of the others.
 fn row(work: Work, of: &str, store: &Lent, walks: bool) {
     let [library, others @ ..] = contest(store, work, work.contenders(walks));
     let library = library.expect("the library is in every row");
-    let per_cell = match work {
+    let per_each = match work {
         Work::Run(_) => String::new(),
+        Work::Print(bytes) => format!(" {:.2}", 1000.0 * library / bytes as f64),
         _ => format!(" {:.2}", 1000.0 * library / store.1 as f64),
     };
     let others = others.map(|other| match other {
         Some(other) => format!(" {} | {:.2} |", micros(other), library / other),
         None => " | |".to_string(),
     });
-    println!("| {}, {of} | {} |{per_cell} |{}", work.name(), micros(library), others.concat());
+    println!("| {}, {of} | {} |{per_each} |{}", work.name(), micros(library), others.concat());
 }
 
-fn table(title: &str) {
+/// The head of a table in which the third column is the library's time for each of something.
+fn table(title: &str, each: &str) {
     println!("\n{title}\n");
     println!(
-        "| work | library, µs | per cell, ns | ordinary, µs | ratio | ordinary with bits, µs \
+        "| work | library, µs | per {each}, ns | ordinary, µs | ratio | ordinary with bits, µs \
          | ratio | better, µs | ratio |"
     );
     println!("|---|--:|--:|--:|--:|--:|--:|--:|--:|");
@@ -374,7 +420,7 @@ fn rows(work: Work, stores: &[(&str, Lent)]) {
 
 /// The stores that a reader may have.
 fn stores() {
-    table("Stores. `live` is a batch of one LIVE call, `run` is one of 1,024 calls.");
+    table("Stores. `live` is a batch of one LIVE call, `run` is one of 1,024 calls.", "cell");
     let stores = [
         ("day", day()),
         ("half dead", half_dead(4096)),
@@ -394,9 +440,29 @@ fn stores() {
     rows(Work::Run(&symbol_calls()), &full);
 }
 
+/// Register 0 of some stores, printed whole into a long text space, or as far as it fits.
+fn prints() {
+    let most = SPACES[SPACES.len() - 1];
+    table(&format!("Register 0 printed into {most} bytes."), "byte");
+    for (name, store) in [
+        ("day", day()),
+        ("readings", readings(4096)),
+        ("site", site(4096, 2000)),
+        ("shared", shared()),
+    ] {
+        assert_same_text(&store, most);
+        row(Work::Print(most), name, &store, true);
+    }
+    table("Printing 2^61 symbols that are 122 cells, as far as they fit.", "byte");
+    for bytes in SPACES {
+        assert_same_text(&shared(), bytes);
+        row(Work::Print(bytes), &format!("{bytes} bytes"), &shared(), true);
+    }
+}
+
 /// One kind of store at growing capacities.
 fn growth(title: &str, store: impl Fn(usize) -> Lent, works: &[Work], overlaps: bool) {
-    table(title);
+    table(title, "cell");
     for &work in works {
         for cells in SIZES.into_iter().filter(|&cells| cells < MAX_CELLS).chain([MAX_CELLS]) {
             let large = cells > ALL_UP_TO;
@@ -453,6 +519,7 @@ fn main() {
     let told = |wanted: &str| env::args().any(|word| word == wanted);
     if !told("growth") {
         stores();
+        prints();
     }
     if !told("stores") {
         growths();

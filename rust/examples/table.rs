@@ -3,8 +3,8 @@
 
 use std::mem::{offset_of, size_of};
 
-use zelmotar::raw::{Reply, Span};
-use zelmotar::{status_text, Call, MAX_CALLS, MAX_CELLS, MAX_CODE, REGISTERS, STATUSES};
+use zelmotar::raw::{Reply, Span, Text};
+use zelmotar::{status_text, Call, MAX_CALLS, MAX_CELLS, MAX_CODE, MAX_DEPTH, REGISTERS, STATUSES};
 
 /// A call of each operation, in order.
 fn operations() -> impl Iterator<Item = Call> {
@@ -18,6 +18,10 @@ fn print_layout() {
     println!(" top at {}", offset_of!(Reply, top));
     print!("span of {} bytes:", size_of::<Span>());
     println!(" from at {} to at {}", offset_of!(Span, from), offset_of!(Span, to));
+    print!("text of {} bytes:", size_of::<Text>());
+    print!(" status at {}", offset_of!(Text, status));
+    print!(" value at {}", offset_of!(Text, value));
+    println!(" length at {}", offset_of!(Text, length));
 }
 
 fn main() {
@@ -26,6 +30,7 @@ fn main() {
     println!("most cells {MAX_CELLS}");
     println!("most calls {MAX_CALLS}");
     println!("most code {MAX_CODE}");
+    println!("most depth {MAX_DEPTH}");
     for status in STATUSES {
         println!("status {} {}: {}", status.number, status.name, status.text);
     }

@@ -3,7 +3,7 @@
 use core::error::Error;
 use core::fmt;
 
-use crate::ffi::Reply;
+use crate::ffi::{Reply, Text};
 use crate::{status_text, Call};
 
 /// The answer to one call of a batch.
@@ -145,8 +145,9 @@ impl Error for Fault {}
 
 /// Why a whole request is refused: the first that applies.
 ///
-/// After a refusal the words, the answer space and `top` are as they came. More requests will bring more
-/// refusals, and a damaged cell will come with the rule that it breaks: a match has a case for the rest.
+/// After a refusal the words, the answer space and `top` are as they came. A text space is not: whatever
+/// refuses a print, all its bytes are 0 then. More requests will bring more refusals, and a damaged cell
+/// will come with the rule that it breaks: a match has a case for the rest.
 #[derive(Clone, Copy, Debug, PartialEq, Eq, Hash)]
 #[must_use]
 #[non_exhaustive]
@@ -165,10 +166,16 @@ pub enum Refusal {
     BadCalls,
     /// 5: the answer space is under two words a call.
     ShortAnswers,
+    /// 20: the register to be printed is over 15.
+    NoRegister,
+    /// 21: a bracket of the text would be one over the [`MAX_DEPTH`](crate::MAX_DEPTH) that may be open.
+    TooDeep,
+    /// 22: a byte of the text does not fit into the text space.
+    ShortSpace,
 }
 
 impl Refusal {
-    /// The status number of the refusal, 1 to 5.
+    /// The status number of the refusal: 1 to 5, or 20 to 22 for printing alone.
     pub const fn number(self) -> u32 {
         match self {
             Refusal::BadLength => 1,
@@ -176,6 +183,9 @@ impl Refusal {
             Refusal::Damaged { .. } => 3,
             Refusal::BadCalls => 4,
             Refusal::ShortAnswers => 5,
+            Refusal::NoRegister => 20,
+            Refusal::TooDeep => 21,
+            Refusal::ShortSpace => 22,
         }
     }
 
@@ -193,13 +203,31 @@ impl Refusal {
     ///
     /// If the status is no number of the library's, so that something else is linked in its place.
     pub(crate) fn of(reply: Reply) -> Result<(), Refusal> {
-        match reply.status {
+        Refusal::told(reply.status, reply.value)
+    }
+
+    /// The refusal in what printing answers, if it is one.
+    ///
+    /// # Panics
+    ///
+    /// As [`of`](Refusal::of).
+    pub(crate) fn of_text(text: Text) -> Result<(), Refusal> {
+        // The value is a cell, and so fits a word.
+        Refusal::told(text.status, text.value as u32)
+    }
+
+    /// The refusal with a status and its value.
+    fn told(status: u32, value: u32) -> Result<(), Refusal> {
+        match status {
             0 => Ok(()),
             1 => Err(Refusal::BadLength),
             2 => Err(Refusal::BadTop),
-            3 => Err(Refusal::Damaged { cell: reply.value }),
+            3 => Err(Refusal::Damaged { cell: value }),
             4 => Err(Refusal::BadCalls),
             5 => Err(Refusal::ShortAnswers),
+            20 => Err(Refusal::NoRegister),
+            21 => Err(Refusal::TooDeep),
+            22 => Err(Refusal::ShortSpace),
             other => panic!("the linked library answers {other}, which is no status of zelmotar"),
         }
     }

@@ -31,6 +31,21 @@ pub struct Span {
     pub to: usize,
 }
 
+/// What printing answers, in numbers.
+///
+/// It is laid out as `zelmotar_text` of the C header.
+#[repr(C)]
+#[derive(Clone, Copy, Debug, PartialEq, Eq)]
+#[must_use = "the status says whether there is a text"]
+pub struct Text {
+    /// 0 for done, else the number of the refusal.
+    pub status: u32,
+    /// The number that the status names: a cell, or 0.
+    pub value: usize,
+    /// The bytes of the text, 0 where it is refused.
+    pub length: usize,
+}
+
 extern "C" {
     fn zelmotar_check(words: *const u32, n: usize, top: usize) -> Reply;
     fn zelmotar_fresh(words: *mut u32, n: usize) -> Reply;
@@ -45,6 +60,14 @@ extern "C" {
         answers_n: usize,
     ) -> Reply;
     fn zelmotar_look(words: *const u32, n: usize, top: usize, reg: usize) -> Span;
+    fn zelmotar_print(
+        words: *const u32,
+        n: usize,
+        top: usize,
+        reg: usize,
+        text: *mut u8,
+        text_n: usize,
+    ) -> Text;
 }
 
 /// Checks a store: 0, or refusals 1 to 3. Nothing is written, and `top` comes back as it came.
@@ -97,4 +120,17 @@ pub fn look(words: &[u32], top: usize, register: usize) -> Span {
     // SAFETY: pointer and count are those of a live slice, which the function only reads and does
     // not keep. It takes every `top` and every register.
     unsafe { zelmotar_look(words.as_ptr(), words.len(), top, register) }
+}
+
+/// Prints a register into `text`, the store's words unchanged.
+///
+/// It answers 0 with the length and sets what is left of `text` to zero, or refuses with 1 to 3 or 20
+/// to 22, and then all of `text` is zero.
+pub fn print(words: &[u32], top: usize, register: usize, text: &mut [u8]) -> Text {
+    // SAFETY: each pointer and count are those of a live slice. `text` is borrowed alone, so the two do
+    // not overlap, and the function writes bytes to it only, within its count. It takes every `top`,
+    // every register and every word.
+    unsafe {
+        zelmotar_print(words.as_ptr(), words.len(), top, register, text.as_mut_ptr(), text.len())
+    }
 }

@@ -9,6 +9,7 @@
 //! - A **register** holds an expression: terms in order, each a symbol with a code or a bracket
 //!   around an expression.
 //! - A **call** changes a register or asks something. Calls run in batches. Each has an [`Answer`].
+//! - A register is looked at where it lies, term by term, or printed as text into bytes that are lent.
 //! - A store that has no room for a call collects itself first. No answer shows when it did.
 //!
 //! ```
@@ -26,6 +27,7 @@
 //! ])?;
 //! assert_eq!(answers[5], Answer::Value(2));
 //! assert_eq!(store.look(2).to_string(), "(65 66) 65");
+//! assert_eq!(store.print(2, &mut [0; 80])?, "(65 66) 65");
 //! # Ok(())
 //! # }
 //! ```
@@ -33,8 +35,9 @@
 //! # Without an allocator
 //!
 //! The package uses `core` alone if its feature `alloc`, which is on by default, is turned off. What goes
-//! with it: `Store::new`, `Store::run` and `Store::run_all`, and that terms are written out and
-//! compared. A store in lent words, [`Store::call`] and [`Store::run_words`] allocate nothing.
+//! with it: `Store::new`, `Store::run`, `Store::run_all` and `Store::print_string`, and that terms are
+//! written out and compared. A store in lent words, [`Store::call`], [`Store::run_words`] and
+//! [`Store::print`] allocate nothing.
 //!
 //! # Linking
 //!
@@ -86,9 +89,12 @@ pub use terms::{Term, Terms};
 /// assert_eq!((reply.status, reply.top, answers), (0, 17, [0, 0]));
 /// let span = raw::look(&words, reply.top, 0);
 /// assert_eq!(words[span.from..span.to], [65, 0]);
+/// let mut space = [7; 4];
+/// let text = raw::print(&words, reply.top, 0, &mut space);
+/// assert_eq!((text.status, text.length, space), (0, 2, *b"65\0\0"));
 /// ```
 pub mod raw {
-    pub use crate::ffi::{check, collect, fresh, look, run, Reply, Span};
+    pub use crate::ffi::{check, collect, fresh, look, print, run, Reply, Span, Text};
 }
 
 /// The number of registers.
@@ -105,3 +111,6 @@ pub const MAX_CALLS: usize = 1024;
 
 /// The largest code of a symbol.
 pub const MAX_CODE: u32 = 0x0fff_ffff;
+
+/// The most brackets that may be open at one place of a text.
+pub const MAX_DEPTH: usize = 64;

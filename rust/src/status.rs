@@ -20,8 +20,8 @@ const fn row(number: u32, name: &'static str, text: &'static str) -> Status {
     Status { number, name, text }
 }
 
-/// Every status: done, the refusals of a whole request, the refusals of one call.
-pub const STATUSES: [Status; 13] = [
+/// Every status: done, the refusals of a whole request, those of one call, those of printing alone.
+pub const STATUSES: [Status; 16] = [
     row(0, "DONE", "done"),
     row(1, "BAD_LENGTH", "no store has that capacity"),
     row(2, "BAD_TOP", "top is out of range"),
@@ -35,6 +35,9 @@ pub const STATUSES: [Status; 13] = [
     row(14, "EMPTY", "the register is empty"),
     row(15, "WRONG_KIND", "its first term is of the other kind"),
     row(16, "NO_ROOM", "no room"),
+    row(20, "NO_REGISTER", "no register has that number"),
+    row(21, "TOO_DEEP", "brackets are nested too deep"),
+    row(22, "SHORT_SPACE", "the space is too short"),
 ];
 
 /// What a status says; `no such status` of any other number.

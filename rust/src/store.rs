@@ -1,7 +1,8 @@
 //! A store with the words that it stands in.
 
 #[cfg(feature = "alloc")]
-use alloc::{vec, vec::Vec};
+use alloc::{string::String, vec, vec::Vec};
+use core::str::from_utf8;
 
 use crate::ffi;
 use crate::{Answer, Call, Refusal, Terms};
@@ -15,6 +16,10 @@ type Words = Vec<u32>;
 #[cfg(not(feature = "alloc"))]
 type Words = &'static mut [u32];
 
+/// The bytes in which [`Store::print_string`] tries first; twice as many each time after.
+#[cfg(feature = "alloc")]
+const FIRST_SPACE: usize = 256;
+
 /// An expression store: its words, owned or borrowed, and its `top`.
 ///
 /// `W` is what holds the words: `Vec<u32>` for a store that owns them, `&mut [u32]` for one that
@@ -26,8 +31,9 @@ type Words = &'static mut [u32];
 ///
 /// # Panics
 ///
-/// A request panics if the linked library answers a number that is no status of the store's, so that
-/// something else is linked in its place, or if `W` lends another slice each time that it is asked.
+/// A request panics if the linked library answers a number that is no status of the store's or prints
+/// what is no text, so that something else is linked in its place, or if `W` lends another slice each
+/// time that it is asked.
 ///
 /// ```
 /// use zelmotar::{Answer, Call, Store};
@@ -338,6 +344,92 @@ impl<W: AsRef<[u32]> + AsMut<[u32]>> Store<W> {
         let words = self.words();
         let span = ffi::look(words, self.top, register);
         Terms::new(words, span.from, span.to)
+    }
+
+    /// Prints a register into `space` and gives the part of it that is the text: codes in decimal, one
+    /// blank between two terms and parentheses for brackets, as in `1 (2 ()) 3`. It allocates nothing.
+    ///
+    /// The bytes after the text become 0. What is shared is printed each time that it occurs, yet the
+    /// time goes with the words and with `space` alone, however long the text would be.
+    ///
+    /// # Errors
+    ///
+    /// As for [`check`](Store::check), then [`Refusal::NoRegister`] if the register is over 15. Else
+    /// what comes first in the text: [`Refusal::TooDeep`] at a bracket with which more than
+    /// [`MAX_DEPTH`](crate::MAX_DEPTH) would be open, [`Refusal::ShortSpace`] at a byte that does not
+    /// fit. `space` is all 0 then, whatever it held.
+    ///
+    /// # Panics
+    ///
+    /// As every request: see [`Store`].
+    ///
+    /// ```
+    /// use zelmotar::{Answer, Call, Refusal, Store};
+    ///
+    /// # fn main() -> Result<(), Refusal> {
+    /// let mut words = [0; 40];
+    /// let mut store = Store::fresh(&mut words[..])?;
+    /// assert_eq!(store.call(Call::Symbol { d: 0, code: 65 })?, Answer::Done);
+    /// assert_eq!(store.call(Call::Wrap { d: 1, a: 0 })?, Answer::Done);
+    ///
+    /// let mut space = [b'?'; 6];
+    /// assert_eq!(store.print(1, &mut space)?, "(65)");
+    /// assert_eq!(&space, b"(65)\0\0");
+    /// assert_eq!(store.print(1, &mut space[..3]), Err(Refusal::ShortSpace));
+    /// assert_eq!(&space, b"\0\0\0)\0\0");
+    /// assert_eq!(store.print(16, &mut space), Err(Refusal::NoRegister));
+    /// # Ok(())
+    /// # }
+    /// ```
+    pub fn print<'a>(&self, register: usize, space: &'a mut [u8]) -> Result<&'a str, Refusal> {
+        let text = ffi::print(self.words(), self.top, register, space);
+        Refusal::of_text(text)?;
+        let written = space.get(..text.length).and_then(|bytes| from_utf8(bytes).ok());
+        Ok(written
+            .unwrap_or_else(|| panic!("the linked library prints what is no text of zelmotar")))
+    }
+
+    /// Prints a register as a string of at most `limit` bytes.
+    ///
+    /// There is a limit because what is shared is printed each time that it occurs: a few hundred cells
+    /// can have a text that no memory holds. What is allocated grows with the text up to the limit.
+    ///
+    /// # Errors
+    ///
+    /// As for [`print`](Store::print) into a space of `limit` bytes: [`Refusal::ShortSpace`] if the text
+    /// is longer than that.
+    ///
+    /// # Panics
+    ///
+    /// As every request: see [`Store`].
+    ///
+    /// ```
+    /// use zelmotar::{Call, Refusal, Store};
+    ///
+    /// # fn main() -> Result<(), Box<dyn std::error::Error>> {
+    /// let mut store = Store::new(256)?;
+    /// let mut calls = vec![Call::Symbol { d: 0, code: 65 }];
+    /// for _ in 0..60 {
+    ///     calls.extend([Call::Wrap { d: 0, a: 0 }, Call::Join { d: 0, a: 0, b: 0 }]);
+    /// }
+    /// store.run_all(&calls[..5])?;
+    /// assert_eq!(store.print_string(0, 1_000)?, "((65) (65)) ((65) (65))");
+    /// store.run_all(&calls)?;
+    /// assert_eq!(store.print_string(0, 1_000_000), Err(Refusal::ShortSpace));
+    /// # Ok(())
+    /// # }
+    /// ```
+    #[cfg(feature = "alloc")]
+    pub fn print_string(&self, register: usize, limit: usize) -> Result<String, Refusal> {
+        let mut length = FIRST_SPACE.min(limit);
+        loop {
+            match self.print(register, &mut vec![0; length]).map(String::from) {
+                Err(Refusal::ShortSpace) if length < limit => {
+                    length = length.saturating_mul(2).min(limit);
+                }
+                printed => return printed,
+            }
+        }
     }
 }
 

@@ -29,6 +29,20 @@ fn a_batch_in_words() {
 }
 
 #[test]
+fn a_text_in_an_array() {
+    let mut store = Store::fresh([0; 40]).expect("the length is allowed");
+    assert_eq!(store.call(Call::Symbol { d: 0, code: 65 }), Ok(Answer::Done));
+    assert_eq!(store.call(Call::Wrap { d: 1, a: 0 }), Ok(Answer::Done));
+    let mut space = [7; 6];
+    assert_eq!(store.print(1, &mut space), Ok("(65)"));
+    assert_eq!(&space, b"(65)\0\0");
+    assert_eq!(store.print(1, &mut space[..3]), Err(Refusal::ShortSpace));
+    assert_eq!(&space, b"\0\0\0)\0\0");
+    assert_eq!(store.print(16, &mut space), Err(Refusal::NoRegister));
+    assert_eq!(space, [0; 6]);
+}
+
+#[test]
 fn a_static_store_needs_no_other_type() {
     // Without an allocator `Store` alone means one whose words are lent for good.
     #[cfg(not(feature = "alloc"))]
@@ -55,7 +69,7 @@ fn what_is_said_needs_no_allocator() {
     assert_eq!(format!("{:?}", store.look(0)), "Terms((()))");
 }
 
-/// A reply and a span whose fields all differ, each field read by its name and by its place.
+/// A reply, a span and a text whose fields all differ, each field read by its name and by its place.
 #[test]
 fn each_field_of_an_answer_is_where_c_has_it() {
     assert_eq!(core::mem::offset_of!(raw::Reply, status), 0);
@@ -65,6 +79,10 @@ fn each_field_of_an_answer_is_where_c_has_it() {
     assert_eq!(core::mem::offset_of!(raw::Span, from), 0);
     assert_eq!(core::mem::offset_of!(raw::Span, to), size_of::<usize>());
     assert_eq!(size_of::<raw::Span>(), 2 * size_of::<usize>());
+    assert_eq!(core::mem::offset_of!(raw::Text, status), 0);
+    assert_eq!(core::mem::offset_of!(raw::Text, value), size_of::<usize>());
+    assert_eq!(core::mem::offset_of!(raw::Text, length), 2 * size_of::<usize>());
+    assert_eq!(size_of::<raw::Text>(), 3 * size_of::<usize>());
 
     // Register 0 on cells 17 and 18, and a bracket around itself in cell 19.
     let mut words = [0; 48];
@@ -72,12 +90,16 @@ fn each_field_of_an_answer_is_where_c_has_it() {
     words[..2].copy_from_slice(&[17, 0x8000_0000 + 18]);
     let span = raw::look(&words, 21, 0);
     assert_eq!((span.from, span.to), (34, 38));
+    let text = raw::print(&words, 21, 0, &mut [7; 9]);
+    assert_eq!((text.status, text.value, text.length), (0, 0, 3));
     words[38..40].copy_from_slice(&[19, 0x8000_0000 + 19]);
     for reply in [raw::check(&words, 21), raw::collect(&mut words, 21)] {
         assert_eq!((reply.status, reply.value, reply.top), (3, 19, 21));
     }
     let reply = raw::run(&mut words, 21, &[], &mut []);
     assert_eq!((reply.status, reply.value, reply.top), (3, 19, 21));
+    let text = raw::print(&words, 21, 0, &mut [7; 9]);
+    assert_eq!((text.status, text.value, text.length), (3, 19, 0));
     // Every byte of a `top` crosses, both ways.
     let top = usize::MAX / 255 * 0xa5 - 1;
     let reply = raw::check(&words, top);

@@ -1,8 +1,8 @@
-/* cases.h: random stores, call lists and answer spaces, good and bad, for the tests at the border.
+/* cases.h: random stores, call lists, answer and text spaces, good and bad, for the tests at the border.
  *
  * A store is made by the library itself, from a fresh one and random calls, then damaged in half of the cases.
  * The numbers are the same in every run. What the answers should be is not known here: the Rust tests hold them
- * against a model. */
+ * against a model. What a text should be is in texts.h. */
 #ifndef CASES_H
 #define CASES_H
 
@@ -15,15 +15,16 @@
 #define MOST_STORE (ZELMOTAR_MAX_WORDS + 2)
 #define MOST_CALLS (ZELMOTAR_MAX_CALL_WORDS + 4)
 #define MOST_ANSWERS (MOST_CALLS / 2 + 8)
+#define MOST_TEXT 6000 /* more than a page */
 
-/* What goes into the five functions. */
+/* What goes into the six functions. */
 struct test_case {
     uint32_t words[MOST_STORE], calls[MOST_CALLS];
-    size_t words_n, calls_n, answers_n, top, reg;
+    size_t words_n, calls_n, answers_n, text_n, top, reg;
 };
 
-/* How often each status came back, of whole requests and of calls. */
-static unsigned met[ZELMOTAR_NO_ROOM + 1];
+/* How often each status came back, of whole requests, of calls and of prints. */
+static unsigned met[ZELMOTAR_SHORT_SPACE + 1];
 
 static inline uint32_t random_word(void)
 {
@@ -36,7 +37,7 @@ static inline uint32_t random_word(void)
 
 static inline size_t below(size_t n) { return random_word() % n; }
 
-/* Four words of a call: as a rule in order, now and then out of range. */
+/* Four words of a call: as a rule in order, now and then out of range. Codes have any number of digits. */
 static inline void random_call(uint32_t call[4])
 {
     static const uint32_t uses[12] = {1, 3, 3, 3, 7, 3, 3, 3, 2, 2, 0, 0}; /* bits for d, a and b */
@@ -45,7 +46,7 @@ static inline void random_call(uint32_t call[4])
     for (i = 0; i < 3; i++)
         call[i + 1] = uses[call[0]] >> i & 1 ? (uint32_t)below(6) : 0;
     if (call[0] == ZELMOTAR_SYMBOL)
-        call[2] = below(20) ? (uint32_t)below(1000) : random_word();
+        call[2] = below(4) ? (uint32_t)below(1000) : random_word() >> below(32);
     if (below(12) == 0)
         call[below(4)] = below(2) ? (uint32_t)below(20) : random_word();
 }
@@ -56,25 +57,70 @@ static inline void random_calls(uint32_t *calls, size_t count)
         random_call(calls);
 }
 
-/* Capacities: small ones as a rule, 512 cells, which fill a page of 4,096 bytes, and the largest. */
+/* Capacities: small ones as a rule, some that have room for deep brackets, 512 cells, which fill a page of 4,096
+ * bytes, and the largest. */
 static inline size_t random_capacity(void)
 {
     size_t kind = below(20);
-    return kind == 0 ? ZELMOTAR_MAX_WORDS / 2 : kind < 3 ? 512 : 16 + below(40);
+    return kind == 0 ? ZELMOTAR_MAX_WORDS / 2 : kind < 3 ? 512 : kind < 8 ? 100 + below(60) : 16 + below(40);
 }
 
-/* A sound store in the case's words. */
-static inline void make_store(struct test_case *c)
+/* Runs the first calls of the case's list, up to 100 of them, on its store. */
+static inline void run_some(struct test_case *c, size_t count)
 {
     uint32_t answers[200];
+    zelmotar_reply answer = zelmotar_run(c->words, c->words_n, c->top, c->calls, 4 * count, answers, 200);
+    EXPECT(answer.status == ZELMOTAR_DONE);
+    c->top = answer.top;
+}
+
+static inline void spell(uint32_t call[4], uint32_t operation, uint32_t d, uint32_t a, uint32_t b)
+{
+    call[0] = operation, call[1] = d, call[2] = a, call[3] = b;
+}
+
+/* Puts brackets around what register d holds, one around the other. */
+static inline void nest(struct test_case *c, uint32_t d, size_t depth)
+{
+    size_t i;
+    for (i = 0; i < depth; i++)
+        spell(c->calls + 4 * i, ZELMOTAR_WRAP, d, d, 0);
+    run_some(c, depth);
+}
+
+/* Doubles the text of register d again and again; of what is doubled only its own cell is copied. */
+static inline void twin(struct test_case *c, uint32_t d, size_t times)
+{
+    size_t i;
+    for (i = 0; i < times; i++) {
+        spell(c->calls + 8 * i, ZELMOTAR_WRAP, d, d, 0);
+        spell(c->calls + 8 * i + 4, ZELMOTAR_JOIN, d, d, d);
+    }
+    run_some(c, 2 * times);
+}
+
+/* The calls set registers 0 to 5; others are empty, and those from 16 on are none. */
+static inline size_t random_register(void)
+{
+    return below(2) ? below(6) : below(20) ? below(18) : SIZE_MAX;
+}
+
+/* A sound store in the case's words, and a register. Random calls alone hardly ever nest as deep as a text may go, or
+ * give a long one, so now and then the register is brought to about there. */
+static inline void make_store(struct test_case *c)
+{
     zelmotar_reply answer;
     c->words_n = 2 * random_capacity();
     answer = zelmotar_fresh(c->words, c->words_n);
     EXPECT(answer.status == ZELMOTAR_DONE);
-    random_calls(c->calls, 100);
-    answer = zelmotar_run(c->words, c->words_n, answer.top, c->calls, 400, answers, 200);
-    EXPECT(answer.status == ZELMOTAR_DONE);
     c->top = answer.top;
+    random_calls(c->calls, 100);
+    run_some(c, 100);
+    c->reg = random_register();
+    if (c->reg < ZELMOTAR_REGISTERS && below(4) == 0)
+        nest(c, (uint32_t)c->reg, ZELMOTAR_MAX_DEPTH - 4 + below(8));
+    else if (c->reg < ZELMOTAR_REGISTERS && below(8) == 0)
+        twin(c, (uint32_t)c->reg, below(16));
 }
 
 static inline void damage(struct test_case *c)
@@ -101,6 +147,13 @@ static inline void make_lists(struct test_case *c)
         c->answers_n = below(c->answers_n + 1);
 }
 
+/* Lengths of a text space: none, a few bytes, some hundred, more than a page. */
+static inline size_t random_space(void)
+{
+    const size_t most[4] = {1, 12, 300, MOST_TEXT + 1};
+    return below(most[below(4)]);
+}
+
 static inline void make_case(struct test_case *c)
 {
     memset(c, 0, sizeof *c);
@@ -108,7 +161,7 @@ static inline void make_case(struct test_case *c)
     if (below(2))
         damage(c);
     make_lists(c);
-    c->reg = below(20) ? below(18) : SIZE_MAX;
+    c->text_n = random_space();
 }
 
 /* Counts the status of a run and those of its calls. */
@@ -120,12 +173,14 @@ static inline void count(zelmotar_reply answer, const uint32_t *answers, size_t 
         met[answers[2 * i]]++;
 }
 
-/* Every status has been met. */
+/* Every status has been met, and no number that is none. */
 static inline void expect_all_met(void)
 {
     unsigned status;
-    for (status = 0; status <= ZELMOTAR_NO_ROOM; status++)
-        EXPECT((met[status] > 0) == (status <= ZELMOTAR_SHORT_ANSWERS || status >= ZELMOTAR_BAD_OPERATION));
+    for (status = 0; status <= ZELMOTAR_SHORT_SPACE; status++)
+        EXPECT((met[status] > 0) == (status <= ZELMOTAR_SHORT_ANSWERS ||
+                                     (status >= ZELMOTAR_BAD_OPERATION && status <= ZELMOTAR_NO_ROOM) ||
+                                     status >= ZELMOTAR_NO_REGISTER));
 }
 
 #endif

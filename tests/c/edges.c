@@ -1,11 +1,11 @@
-/* edges: lent words between pages that fault when they are touched, read or written.
+/* edges: lent words and bytes between pages that fault when they are touched, read or written.
  *
  * usage: edges COUNT
  *
  * Each list stands once right after such a page and once right before one, and so does each list of a random
- * case, for all five functions; a list that a function only reads stands in pages that cannot be written. All
- * have to answer and to leave what they do in plain memory. That the pages do fault is tried first, in
- * processes of their own. For Linux and its like. */
+ * case, for all six functions; a list that a function only reads stands in pages that cannot be written. All
+ * have to answer and to leave what they do in plain memory. The rows of texts of SCOPE 7.1 are printed there too.
+ * That the pages do fault is tried first, in processes of their own. For Linux and its like. */
 #define _DEFAULT_SOURCE
 #include <signal.h>
 #include <sys/mman.h>
@@ -14,9 +14,13 @@
 #include <unistd.h>
 
 #include "cases.h"
+#include "texts.h"
 
 enum place { LOW, HIGH }; /* right after the lower page that faults, right before the upper one */
-enum { STORE, CALLS, ANSWERS, LISTS };
+enum { STORE, CALLS, ANSWERS, TEXT, LISTS };
+
+/* The bytes of one item of each list. */
+static const size_t item[LISTS] = {sizeof(uint32_t), sizeof(uint32_t), sizeof(uint32_t), 1};
 
 /* Pages for one list: `bytes` of them can be touched, with one that faults on either side. */
 static char *pages[LISTS];
@@ -40,11 +44,8 @@ static void make_pages(void)
     }
 }
 
-/* Where a list of n words stands. */
-static uint32_t *at(size_t i, size_t n)
-{
-    return (uint32_t *)(pages[i] + (place == LOW ? 0 : bytes - n * sizeof(uint32_t)));
-}
+/* Where a list of n items stands. One of none, before the upper page, stands at a byte that faults. */
+static void *at(size_t i, size_t n) { return pages[i] + (place == LOW ? 0 : bytes - n * item[i]); }
 
 static void allow(size_t i, int protection)
 {
@@ -52,15 +53,15 @@ static void allow(size_t i, int protection)
         exit(2);
 }
 
-/* Lends a list: sets it up with the words given, or with a pattern, and allows reading only or writing too. */
-static uint32_t *lend(size_t i, const uint32_t *words, size_t n, int protection)
+/* Lends a list: sets it up with the items given, or with a pattern, and allows reading only or writing too. */
+static void *lend(size_t i, const void *items, size_t n, int protection)
 {
-    uint32_t *list = at(i, n);
+    void *list = at(i, n);
     allow(i, PROT_READ | PROT_WRITE);
     memset(pages[i], 0x5a, bytes);
-    if (words != NULL)
-        memcpy(list, words, n * sizeof *list);
-    memcpy(plain[i], list, n * sizeof *list);
+    if (items != NULL)
+        memcpy(list, items, n * item[i]);
+    memcpy(plain[i], list, n * item[i]);
     allow(i, protection);
     return list;
 }
@@ -68,9 +69,9 @@ static uint32_t *lend(size_t i, const uint32_t *words, size_t n, int protection)
 /* A list is as it is in plain memory, and what can be touched beside it is as it was. */
 static void expect_same(size_t i, size_t n)
 {
-    const char *list = (const char *)at(i, n), *end = list + n * sizeof(uint32_t), *p;
+    const char *list = at(i, n), *end = list + n * item[i], *p;
     size_t other = 0;
-    EXPECT(memcmp(list, plain[i], n * sizeof(uint32_t)) == 0);
+    EXPECT(memcmp(list, plain[i], n * item[i]) == 0);
     for (p = pages[i]; p < pages[i] + bytes; p++)
         other += (p < list || p >= end) && *p != 0x5a;
     EXPECT(other == 0);
@@ -130,6 +131,18 @@ static void edges_run(void)
     expect_same(STORE, c.words_n), expect_same(CALLS, c.calls_n), expect_same(ANSWERS, c.answers_n);
 }
 
+static void edges_print(void)
+{
+    const uint32_t *words = lend(STORE, c.words, c.words_n, PROT_READ);
+    uint8_t *text = lend(TEXT, NULL, c.text_n, PROT_READ | PROT_WRITE);
+    zelmotar_text here;
+    doing = "zelmotar_print";
+    here = zelmotar_print(words, c.words_n, c.top, c.reg, text, c.text_n);
+    EXPECT(same_text(here, zelmotar_print(plain[STORE], c.words_n, c.top, c.reg, (uint8_t *)plain[TEXT], c.text_n)));
+    met[here.status]++;
+    expect_same(STORE, c.words_n), expect_same(TEXT, c.text_n);
+}
+
 static void edges(void)
 {
     for (place = LOW; place <= HIGH; place++) {
@@ -138,7 +151,88 @@ static void edges(void)
         edges_fresh();
         edges_collect();
         edges_run();
+        edges_print();
     }
+}
+
+/* A register of the case printed into text_n bytes: the answer that is expected, the text, and zeros after it. */
+static void prints(size_t reg, size_t text_n, uint32_t status, uint32_t value, const char *text)
+{
+    const zelmotar_text expected = {status, value, strlen(text)};
+    for (place = LOW; place <= HIGH; place++) {
+        const uint32_t *words = lend(STORE, c.words, c.words_n, PROT_READ);
+        uint8_t *space = lend(TEXT, NULL, text_n, PROT_READ | PROT_WRITE);
+        doing = "zelmotar_print";
+        EXPECT(same_text(zelmotar_print(words, c.words_n, c.top, reg, space, text_n), expected));
+        memset(plain[TEXT], 0, text_n);
+        memcpy(plain[TEXT], text, expected.length);
+        expect_same(STORE, c.words_n), expect_same(TEXT, text_n);
+    }
+}
+
+/* A store of 100 cells with register 0 on l to r; empty with both 0. Cells are put from 16 on. */
+static void start(uint32_t l, uint32_t r)
+{
+    zelmotar_reply answer;
+    c.words_n = 200;
+    answer = zelmotar_fresh(c.words, c.words_n);
+    EXPECT(answer.status == ZELMOTAR_DONE);
+    c.top = answer.top;
+    c.words[0] = l, c.words[1] = ZELMOTAR_BRACKET + r;
+}
+
+static void put(uint32_t first, uint32_t second)
+{
+    ZELMOTAR_FIRST_WORD(c.words, c.top) = first;
+    ZELMOTAR_SECOND_WORD(c.words, c.top) = second;
+    c.top++;
+}
+
+static void rows_of_terms(void)
+{
+    start(18, 20); /* T1 */
+    put(66, 0), put(67, 0), put(65, 0), put(ZELMOTAR_BRACKET_CELL(16, 17)), put(ZELMOTAR_EMPTY_CELL);
+    prints(0, 13, 0, 0, "65 (66 67) ()");
+    prints(0, 15, 0, 0, "65 (66 67) ()");
+    prints(0, 12, 22, 0, "");
+    start(0, 0); /* T2 */
+    prints(0, 3, 0, 0, "");
+    prints(0, 0, 0, 0, "");
+    start(16, 16); /* T3 */
+    put(ZELMOTAR_EMPTY_CELL);
+    prints(0, 2, 0, 0, "()");
+    start(16, 16), put(268435455, 0); /* T4 */
+    prints(0, 9, 0, 0, "268435455");
+    start(16, 16), put(100000002, 0);
+    prints(0, 9, 0, 0, "100000002");
+    start(16, 16), put(0, 0);
+    prints(0, 2, 0, 0, "0");
+}
+
+static void rows_of_depth(void)
+{
+    char text[129] = "";
+    memset(text, '(', 64), memset(text + 64, ')', 64);
+    start(0, 0), nest(&c, 0, 64); /* T5 */
+    prints(0, 128, 0, 0, text);
+    start(0, 0), nest(&c, 0, 65);
+    prints(0, 200, 21, 0, ""); /* T6 */
+    prints(0, 64, 21, 0, "");  /* T7 */
+    prints(0, 63, 22, 0, "");
+}
+
+static void rows_of_refusals(void)
+{
+    start(0, 0); /* T8 */
+    prints(15, 3, 0, 0, "");
+    prints(16, 3, 20, 0, "");
+    prints(16, 0, 20, 0, "");
+    put(65, 0), put(66, 0), put(ZELMOTAR_BRACKET_CELL(16, 18)); /* T9 */
+    prints(16, 3, 3, 18, "");
+    c.top = 101;
+    prints(16, 3, 2, 0, "");
+    c.words_n = 30;
+    prints(16, 3, 1, 0, "");
 }
 
 /* Whether a process of its own, doing what is asked, is ended by a fault. */
@@ -157,10 +251,11 @@ static int faults(void (*act)(void))
 }
 
 static volatile uint32_t touched;
-static void touch_before(void) { place = LOW, touched = lend(STORE, c.words, 32, PROT_READ)[-1]; }
-static void touch_after(void) { place = HIGH, touched = lend(STORE, c.words, 32, PROT_READ)[32]; }
-static void touch_written(void) { place = LOW, lend(STORE, c.words, 32, PROT_READ)[0] = 1; }
-static void touch_nothing(void) { place = LOW, touched = lend(STORE, c.words, 32, PROT_READ)[0]; }
+static uint32_t *smallest(void) { return lend(STORE, c.words, 32, PROT_READ); }
+static void touch_before(void) { place = LOW, touched = smallest()[-1]; }
+static void touch_after(void) { place = HIGH, touched = smallest()[32]; }
+static void touch_written(void) { place = LOW, smallest()[0] = 1; }
+static void touch_nothing(void) { place = LOW, touched = smallest()[0]; }
 
 /* The library on words that are one cell fewer than it is told, and on a store that it may only read. */
 static void check_beyond(void)
@@ -171,11 +266,24 @@ static void check_beyond(void)
 
 static void fresh_unwritable(void) { touched = zelmotar_fresh(lend(STORE, c.words, 40, PROT_READ), 40).status; }
 
+/* A print into one byte fewer than it is told, and into bytes that it may only read. */
+static void print_beyond(void)
+{
+    place = HIGH;
+    touched = zelmotar_print(c.words, 40, 16, 0, lend(TEXT, NULL, 2, PROT_READ | PROT_WRITE), 3).status;
+}
+
+static void print_unwritable(void)
+{
+    touched = zelmotar_print(c.words, 40, 16, 0, lend(TEXT, NULL, 3, PROT_READ), 3).status;
+}
+
 static void expect_faults(void)
 {
     EXPECT(zelmotar_fresh(c.words, 40).status == ZELMOTAR_DONE);
     EXPECT(faults(touch_before) && faults(touch_after) && faults(touch_written) && !faults(touch_nothing));
     EXPECT(faults(check_beyond) && faults(fresh_unwritable));
+    EXPECT(faults(print_beyond) && faults(print_unwritable));
 }
 
 static void on_fault(int number)
@@ -196,6 +304,9 @@ int main(int count_given, char **list)
     make_pages();
     expect_faults();
     signal(SIGSEGV, on_fault), signal(SIGBUS, on_fault);
+    rows_of_terms();
+    rows_of_depth();
+    rows_of_refusals();
     for (; left > 0; left--) {
         make_case(&c);
         edges();

@@ -1,11 +1,11 @@
-/* fields: the layout of the two structs that come back. Each field has its place and size, and is read by
+/* fields: the layout of the three structs that come back. Each field has its place and size, and is read by
  * name and by its bytes from answers whose fields all differ. */
 #include <string.h>
 
 #include "expect.h"
 #include "zelmotar.h"
 
-#define WORDS 48
+#define WORDS 64
 
 static uint32_t words[WORDS];
 
@@ -13,6 +13,7 @@ static uint32_t words[WORDS];
 #define AT(place, field, number) (memcmp((const char *)&(place) + offsetof_##field, &(number), sizeof(number)) == 0)
 
 enum { offsetof_status = 0, offsetof_value = 4, offsetof_top = 8, offsetof_from = 0, offsetof_to = sizeof(size_t) };
+enum { offsetof_text_value = sizeof(size_t), offsetof_length = 2 * sizeof(size_t) }; /* of a text; its status is at 0 */
 
 static void layout(void)
 {
@@ -25,6 +26,11 @@ static void layout(void)
     EXPECT(offsetof(zelmotar_span, from) == offsetof_from && offsetof(zelmotar_span, to) == offsetof_to);
     EXPECT(sizeof(((zelmotar_span *)0)->from) == sizeof(size_t) && sizeof(((zelmotar_span *)0)->to) == sizeof(size_t));
     EXPECT(sizeof(zelmotar_span) == 2 * sizeof(size_t));
+    EXPECT(offsetof(zelmotar_text, status) == offsetof_status && offsetof(zelmotar_text, value) == offsetof_text_value);
+    EXPECT(offsetof(zelmotar_text, length) == offsetof_length && sizeof(((zelmotar_text *)0)->status) == 4);
+    EXPECT(sizeof(((zelmotar_text *)0)->value) == sizeof(size_t));
+    EXPECT(sizeof(((zelmotar_text *)0)->length) == sizeof(size_t));
+    EXPECT(sizeof(zelmotar_text) == 3 * sizeof(size_t));
 }
 
 /* An answer, field by field: by name and by bytes. */
@@ -70,10 +76,40 @@ static void spans(void)
     EXPECT(span.to == to && AT(span, to, to));
 }
 
+/* What a print answers, field by field: by name and by bytes. */
+static void reads_text(zelmotar_text answer, uint32_t status, size_t value, size_t length)
+{
+    EXPECT(answer.status == status && AT(answer, status, status));
+    EXPECT(answer.value == value && AT(answer, text_value, value));
+    EXPECT(answer.length == length && AT(answer, length, length));
+}
+
+/* The last text is of brackets around the two cells before them, two by two, and longer than one byte can count. */
+static void texts(void)
+{
+    static uint8_t text[2000];
+    uint32_t c;
+    damaged_store();
+    reads_text(zelmotar_print(words, WORDS, 21, 0, text, 5), 3, 19, 0);
+    reads_text(zelmotar_print(words, WORDS, 50, 0, text, 5), 2, 0, 0);
+    EXPECT(zelmotar_fresh(words, WORDS).status == ZELMOTAR_DONE);
+    words[0] = 16, words[1] = ZELMOTAR_BRACKET + 17;
+    reads_text(zelmotar_print(words, WORDS, 18, 0, text, 5), 0, 0, 3);
+    reads_text(zelmotar_print(words, WORDS, 18, 16, text, 5), 20, 0, 0);
+    reads_text(zelmotar_print(words, WORDS, 18, 0, text, 2), 22, 0, 0);
+    for (c = 18; c < 32; c += 2) {
+        words[2 * c] = words[2 * c + 2] = c - 2;
+        words[2 * c + 1] = words[2 * c + 3] = ZELMOTAR_BRACKET + c - 1;
+    }
+    words[0] = 30, words[1] = ZELMOTAR_BRACKET + 31;
+    reads_text(zelmotar_print(words, WORDS, 32, 0, text, 2000), 0, 0, 1019);
+}
+
 int main(void)
 {
     layout();
     answers();
     spans();
+    texts();
     return expect_end();
 }

@@ -10,12 +10,13 @@
 #include "expect.h"
 #include "zelmotar.h"
 
-#define CELLS 40
+#define CELLS 100
 
 static uint32_t words[ZELMOTAR_MAX_WORDS + 4], calls[ZELMOTAR_MAX_CALL_WORDS + 8];
 static uint32_t answers[ZELMOTAR_MAX_CALL_WORDS + 8];
 static size_t top;
 static uint32_t value; /* of the last call */
+static uint8_t text[4 * ZELMOTAR_MAX_DEPTH];
 
 /* Runs one call and gives its status. */
 static uint32_t call(uint32_t operation, uint32_t d, uint32_t a, uint32_t b)
@@ -96,6 +97,29 @@ static void statuses_of_a_request(void)
     ZELMOTAR_FIRST_WORD(words, 7) = 1;
     answer = zelmotar_check(words, 2 * CELLS, top);
     EXPECT(answer.status == ZELMOTAR_DAMAGED && answer.value == 7 && answer.top == top);
+}
+
+/* Prints a register into text_n bytes and gives the status. */
+static uint32_t print(size_t reg, size_t text_n)
+{
+    zelmotar_text answer = zelmotar_print(words, 2 * CELLS, top, reg, text, text_n);
+    EXPECT(answer.value == 0 && (answer.status == 0 || answer.length == 0));
+    return answer.status;
+}
+
+/* Each status of a print, and the depth that it goes to and no farther. */
+static void statuses_of_a_print(void)
+{
+    uint32_t n;
+    start();
+    EXPECT(print(ZELMOTAR_REGISTERS, sizeof text) == ZELMOTAR_NO_REGISTER);
+    EXPECT(print(ZELMOTAR_REGISTERS - 1, sizeof text) == ZELMOTAR_DONE);
+    for (n = 0; n < ZELMOTAR_MAX_DEPTH; n++)
+        EXPECT(call(ZELMOTAR_WRAP, 0, 0, 0) == ZELMOTAR_DONE);
+    EXPECT(print(0, 2 * ZELMOTAR_MAX_DEPTH) == ZELMOTAR_DONE);
+    EXPECT(print(0, 2 * ZELMOTAR_MAX_DEPTH - 1) == ZELMOTAR_SHORT_SPACE);
+    EXPECT(call(ZELMOTAR_WRAP, 0, 0, 0) == ZELMOTAR_DONE);
+    EXPECT(print(0, sizeof text) == ZELMOTAR_TOO_DEEP);
 }
 
 static void limits(void)
@@ -187,6 +211,7 @@ int main(int count, char **list)
     operations();
     statuses_of_a_call();
     statuses_of_a_request();
+    statuses_of_a_print();
     limits();
     masks();
     cells_taken_apart();

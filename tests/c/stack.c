@@ -1,4 +1,4 @@
-/* stack: the deepest stack that each function uses, in bytes, over random cases.
+/* stack: the deepest stack that each function uses, in bytes, over random cases and texts of deep brackets.
  *
  * usage: stack COUNT
  *
@@ -14,13 +14,15 @@
 #define PAINT 0xa5u
 #define ROOM 65536
 
-enum { CHECK, FRESH, COLLECT, RUN, LOOK, FUNCTIONS };
+enum { CHECK, FRESH, COLLECT, RUN, LOOK, PRINT, FUNCTIONS };
 
-static const char *const names[FUNCTIONS] = {"check", "fresh", "collect", "run", "look"};
-static const size_t under[FUNCTIONS] = {128, 128, 192, 512, 128}; /* as zelmotar.h says */
+static const char *const names[FUNCTIONS] = {"check", "fresh", "collect", "run", "look", "print"};
+static const size_t under[FUNCTIONS] = {128, 128, 192, 512, 128, 20480}; /* as zelmotar.h says */
 
 static struct test_case c;
 static uint32_t words[MOST_STORE], answers[MOST_ANSWERS];
+static uint8_t text[MOST_TEXT];
+static size_t deepest[FUNCTIONS];
 static unsigned char room[ROOM] __attribute__((aligned(64)));
 static ucontext_t outside, inside;
 static int function, hollow; /* which function is called, and whether it is the one that does nothing */
@@ -28,8 +30,9 @@ static size_t used;          /* bytes from the lowest that lost its paint to the
 
 static const zelmotar_reply no_answer;
 static const zelmotar_span no_span;
+static const zelmotar_text no_text;
 
-/* One function for each of the five that takes the same and does nothing. */
+/* One function for each of the six that takes the same and does nothing. */
 static zelmotar_reply no_check(const uint32_t *w, size_t n, size_t top)
 {
     (void)w, (void)n, (void)top;
@@ -61,6 +64,12 @@ static zelmotar_span no_look(const uint32_t *w, size_t n, size_t top, size_t reg
     return no_span;
 }
 
+static zelmotar_text no_print(const uint32_t *w, size_t n, size_t top, size_t reg, uint8_t *t, size_t text_n)
+{
+    (void)w, (void)n, (void)top, (void)reg, (void)t, (void)text_n;
+    return no_text;
+}
+
 /* Both of each kind, volatile so that the call is the same code for both. */
 static zelmotar_reply (*volatile check[2])(const uint32_t *, size_t, size_t) = {zelmotar_check, no_check};
 static zelmotar_reply (*volatile fresh[2])(uint32_t *, size_t) = {zelmotar_fresh, no_fresh};
@@ -68,6 +77,8 @@ static zelmotar_reply (*volatile collect[2])(uint32_t *, size_t, size_t) = {zelm
 static zelmotar_reply (*volatile run[2])(uint32_t *, size_t, size_t, const uint32_t *, size_t, uint32_t *,
                                           size_t) = {zelmotar_run, no_run};
 static zelmotar_span (*volatile look[2])(const uint32_t *, size_t, size_t, size_t) = {zelmotar_look, no_look};
+static zelmotar_text (*volatile print[2])(const uint32_t *, size_t, size_t, size_t, uint8_t *,
+                                           size_t) = {zelmotar_print, no_print};
 
 /* The call, and right after it, before anything else is called, the measuring. */
 static void on_own_stack(void)
@@ -80,7 +91,8 @@ static void on_own_stack(void)
     case RUN:
         (void)!run[hollow](words, c.words_n, c.top, c.calls, c.calls_n, answers, c.answers_n).status;
         break;
-    default: (void)!look[hollow](words, c.words_n, c.top, c.reg).to; break;
+    case LOOK: (void)!look[hollow](words, c.words_n, c.top, c.reg).to; break;
+    default: (void)!print[hollow](words, c.words_n, c.top, c.reg, text, c.text_n).status; break;
     }
     for (i = 0; i < ROOM && room[i] == PAINT; i++)
         continue;
@@ -115,20 +127,56 @@ static size_t beyond_nothing(int number)
 #endif
 }
 
+/* Calls each function on the case, and keeps what it uses where that is more than before. */
+static void measure(void)
+{
+    size_t bytes;
+    int i;
+    for (i = 0; i < FUNCTIONS; i++)
+        if ((bytes = beyond_nothing(i)) > deepest[i])
+            deepest[i] = bytes;
+}
+
+/* Register 0 as one symbol, or as nothing, with brackets around it. */
+static void make_deep(int symbol, size_t depth)
+{
+    zelmotar_reply answer;
+    memset(&c, 0, sizeof c);
+    c.words_n = 200, c.text_n = MOST_TEXT;
+    answer = zelmotar_fresh(c.words, c.words_n);
+    EXPECT(answer.status == ZELMOTAR_DONE);
+    c.top = answer.top;
+    spell(c.calls, ZELMOTAR_SYMBOL, 0, ZELMOTAR_MAX_CODE, 0);
+    run_some(&c, symbol ? 1 : 0);
+    nest(&c, 0, depth);
+}
+
+/* The texts with the most brackets that may be open, and with one more. */
+static void measure_deep(void)
+{
+    int symbol;
+    for (symbol = 0; symbol < 2; symbol++) {
+        make_deep(symbol, ZELMOTAR_MAX_DEPTH);
+        EXPECT(zelmotar_print(c.words, c.words_n, c.top, 0, text, c.text_n).status == ZELMOTAR_DONE);
+        measure();
+        make_deep(symbol, ZELMOTAR_MAX_DEPTH + 1);
+        EXPECT(zelmotar_print(c.words, c.words_n, c.top, 0, text, c.text_n).status == ZELMOTAR_TOO_DEEP);
+        measure();
+    }
+}
+
 int main(int count_given, char **list)
 {
     long left = count_given == 2 ? atol(list[1]) : 0;
-    size_t deepest[FUNCTIONS] = {0}, bytes;
     int i;
     if (left <= 0) {
         fprintf(stderr, "usage: stack COUNT\n");
         return 2;
     }
+    measure_deep();
     for (; left > 0; left--) {
         make_case(&c);
-        for (i = 0; i < FUNCTIONS; i++)
-            if ((bytes = beyond_nothing(i)) > deepest[i])
-                deepest[i] = bytes;
+        measure();
     }
     for (i = 0; i < FUNCTIONS; i++) {
         printf("zelmotar_%-7s %4u bytes of stack\n", names[i], (unsigned)deepest[i]);

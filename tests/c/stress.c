@@ -1,10 +1,12 @@
-/* stress: the five functions on random cases, in memory that is exactly as long as what is lent.
+/* stress: the six functions on random cases, in memory that is exactly as long as what is lent.
  *
  * usage: stress COUNT
  *
  * It is made for valgrind, which sees each byte that is touched outside, and each decision that hangs on a word
- * that nobody wrote: a fresh store and an answer space are lent as malloc gives them. */
+ * that nobody wrote: a fresh store, an answer space and a text space are lent as malloc gives them. What is printed
+ * is held against a second printer (texts.h). */
 #include "cases.h"
+#include "texts.h"
 
 static struct test_case c;
 
@@ -17,6 +19,15 @@ static uint32_t *lend(const uint32_t *words, size_t n)
     if (words != NULL)
         memcpy(list, words, n * sizeof *list);
     return list;
+}
+
+/* Bytes of their own, as malloc gives them. */
+static uint8_t *lend_bytes(size_t n)
+{
+    uint8_t *bytes = malloc(n + (n == 0));
+    if (bytes == NULL)
+        exit(2);
+    return bytes;
 }
 
 static void stress_reading(void)
@@ -67,6 +78,41 @@ static void stress_run(void)
     free(words), free(calls), free(answers);
 }
 
+/* One print into a space of text_n bytes. */
+static zelmotar_text stress_print(size_t text_n)
+{
+    uint32_t *words = lend(c.words, c.words_n);
+    uint8_t *text = lend_bytes(text_n), *expected = lend_bytes(text_n);
+    zelmotar_text answer = zelmotar_print(words, c.words_n, c.top, c.reg, text, text_n);
+    EXPECT(same_text(answer, expected_print(c.words, c.words_n, c.top, c.reg, expected, text_n)));
+    EXPECT(memcmp(text, expected, text_n) == 0 && memcmp(words, c.words, c.words_n * sizeof *words) == 0);
+    met[answer.status]++;
+    free(words), free(text), free(expected);
+    return answer;
+}
+
+/* A text that was printed fits into as many bytes as it has, and not into one fewer. */
+static void stress_prints(void)
+{
+    zelmotar_text answer = stress_print(c.text_n);
+    if (answer.status == ZELMOTAR_DONE)
+        EXPECT(stress_print(answer.length).status == ZELMOTAR_DONE);
+    if (answer.length > 0)
+        EXPECT(stress_print(answer.length - 1).status == ZELMOTAR_SHORT_SPACE);
+}
+
+/* A text of more than 2^50 bytes: a print that went on after the first byte that it cannot write would not end. */
+static void stress_endless(void)
+{
+    memset(&c, 0, sizeof c);
+    c.words_n = 1000, c.top = ZELMOTAR_REGISTERS;
+    EXPECT(zelmotar_fresh(c.words, c.words_n).status == ZELMOTAR_DONE);
+    twin(&c, 0, 50);
+    EXPECT(stress_print(MOST_TEXT).status == ZELMOTAR_SHORT_SPACE);
+    nest(&c, 0, 20);
+    EXPECT(stress_print(MOST_TEXT).status == ZELMOTAR_TOO_DEEP);
+}
+
 int main(int count_given, char **list)
 {
     long left = count_given == 2 ? atol(list[1]) : 0;
@@ -74,12 +120,14 @@ int main(int count_given, char **list)
         fprintf(stderr, "usage: stress COUNT\n");
         return 2;
     }
+    stress_endless();
     for (; left > 0; left--) {
         make_case(&c);
         stress_reading();
         stress_fresh();
         stress_collect();
         stress_run();
+        stress_prints();
     }
     expect_all_met();
     return expect_end();

@@ -15,6 +15,7 @@ static void print_limits(void)
     printf("most cells %u\n", (unsigned)ZELMOTAR_MAX_WORDS / 2);
     printf("most calls %u\n", (unsigned)ZELMOTAR_MAX_CALL_WORDS / 4);
     printf("most code %u\n", (unsigned)ZELMOTAR_MAX_CODE);
+    printf("most depth %u\n", (unsigned)ZELMOTAR_MAX_DEPTH);
 }
 
 static void print_statuses(void)
@@ -32,6 +33,9 @@ static void print_statuses(void)
     STATUS(EMPTY);
     STATUS(WRONG_KIND);
     STATUS(NO_ROOM);
+    STATUS(NO_REGISTER);
+    STATUS(TOO_DEEP);
+    STATUS(SHORT_SPACE);
 }
 
 static void print_operations(void)
@@ -68,6 +72,10 @@ static void print_layout(void)
     printf("\nspan of %u bytes:", (unsigned)sizeof(zelmotar_span));
     PLACE(zelmotar_span, from);
     PLACE(zelmotar_span, to);
+    printf("\ntext of %u bytes:", (unsigned)sizeof(zelmotar_text));
+    PLACE(zelmotar_text, status);
+    PLACE(zelmotar_text, value);
+    PLACE(zelmotar_text, length);
     printf("\n");
 }
 

@@ -6,10 +6,10 @@ use std::io::{self, BufRead, IsTerminal, Read, Write};
 use zelmotar::{status_text, Store};
 
 use crate::args::{self, Args, Takes};
-use crate::call::Call;
+use crate::call::{self, Call};
 use crate::input;
 use crate::outcome::{Ended, Outcome, Stop};
-use crate::{run, show, steps};
+use crate::{print, run, show, steps};
 
 /// The capacity where none is named.
 const CAPACITY: u32 = 64;
@@ -28,7 +28,7 @@ const TAKES: Takes = Takes {
 const HELP: &str = "\
 A call:  CLEAR d   COPY d a   SYMBOL d code   WRAP d a   JOIN d a b   HEAD d a   REST d a   OPEN d a
          LENGTH a   FIRST a   LIVE   COLLECT   CALL o d a b
-Or:      SHOW the cells, REGISTERS, HELP, QUIT
+Or:      SHOW the cells, REGISTERS, PRINT a, HELP, QUIT
 ";
 
 /// What a typed line comes to.
@@ -121,11 +121,27 @@ fn answer(store: &mut Store, line: &[u8], out: &mut dyn Write) -> Result<Typed, 
     match (name.to_ascii_uppercase().as_slice(), numbers) {
         (b"SHOW", []) => show::cells(store, out)?,
         (b"REGISTERS", []) => run::registers(store, out)?,
+        (b"PRINT", numbers) => typed_print(store, numbers, out)?,
         (b"HELP", []) => out.write_all(HELP.as_bytes())?,
         (b"QUIT", []) => return Ok(Typed::Quit),
         _ => return typed_call(store, name, numbers, out),
     }
     Ok(Typed::Nothing)
+}
+
+/// Prints a register, or says why there is no text.
+fn typed_print(store: &Store, numbers: &[&[u8]], out: &mut dyn Write) -> Result<(), Stop> {
+    let register = call::takes("PRINT", 1, numbers).and_then(|()| call::number(numbers[0]));
+    match register {
+        Err(why) => writeln!(out, "{why}; HELP says what can be typed")?,
+        Ok(register) => {
+            let (register, limit) = (register as usize, print::LIMIT);
+            let printed = store.print_string(register, limit);
+            let why = |refusal| print::sentence(store, register, limit, refusal);
+            writeln!(out, "{}", printed.unwrap_or_else(why))?;
+        }
+    }
+    Ok(())
 }
 
 /// Runs a typed call, or says why there is none.
@@ -180,6 +196,23 @@ mod tests {
         assert!(text.contains("LIVE takes 0 numbers, and here are 1"));
         assert_eq!(text.matches("\n").count(), 4, "{text}");
         assert!(refused);
+    }
+
+    #[test]
+    fn a_register_is_printed() {
+        let typed = b"SYMBOL 0 65\nWRAP 1 0\nPRINT 1\nprint 2\nPRINT 16\nPRINT\nPRINT x\n";
+        let (text, refused) = said(typed, false);
+        assert_eq!(
+            text.lines().skip(2).collect::<Vec<_>>(),
+            [
+                "(65)",
+                "",
+                "no register has that number: 16, and they are 0 to 15",
+                "PRINT takes 1 number, and here are 0; HELP says what can be typed",
+                "`x` is no number from 0 to 4294967295; HELP says what can be typed",
+            ]
+        );
+        assert!(!refused);
     }
 
     #[test]

@@ -6,7 +6,7 @@
 //! - [`args`], [`input`], [`outcome`]: arguments, files, and how a command ends
 //! - [`call`], [`batch`]: calls and batches as they are written; [`steps`] runs them one by one
 //! - [`dump`]: a store in a file; [`cells`]: what the words of a cell say
-//! - [`run`], [`ask`], [`show`], [`check`], [`draw`]: a command each
+//! - [`run`], [`ask`], [`show`], [`mod@print`], [`check`], [`draw`]: a command each
 //! - [`svg`], [`plots`]: drawings, and those of docs/BENCHMARKS.md
 
 #![warn(missing_docs)]
@@ -24,6 +24,7 @@ pub mod expression;
 pub mod input;
 pub mod outcome;
 pub mod plots;
+pub mod print;
 pub mod run;
 pub mod show;
 pub mod steps;

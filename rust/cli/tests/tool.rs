@@ -141,6 +141,7 @@ fn names_and_bytes_of_all_kinds() {
     for command in ["run", "show", "draw", "check"] {
         ends(&tool(&[&command, &garbage]), 3, "garbage:1: ");
     }
+    ends(&tool(&[&"print", &garbage, &"0"]), 3, "garbage:1: ");
     ends(&tool(&[&"check", &"--top", &"16", &garbage]), 3, "No store has 17500 words");
     ends(
         &tool(&[&"run", &env!("CARGO_BIN_EXE_zelmotar-cli")]),
@@ -171,7 +172,10 @@ fn a_damaged_cell_is_named_with_its_words() {
     ends(&tool(&[&"show", &damaged]), 3, sentence);
     ends(&tool(&[&"show", &damaged]), 3, "bracket, cells 18 to 21  damaged\n");
     ends(&tool(&[&"draw", &damaged]), 3, "Cell 21");
+    ends(&tool(&[&"print", &damaged, &"0"]), 3, sentence);
+    ends(&tool(&[&"print", &damaged, &"16"]), 3, sentence);
     assert!(tool(&[&"draw", &damaged]).stdout.is_empty());
+    assert!(tool(&[&"print", &damaged, &"0"]).stdout.is_empty());
     let top = made("top.dump", sound.replace("TOP 23", "TOP 25"));
     ends(&tool(&[&"check", &top]), 3, "top is 25, and must be 16 to 24");
     let short = made("short.dump", "TOP 16\n0 0 0\n");
@@ -204,6 +208,46 @@ fn a_dump_is_shown_as_cells_and_expressions() {
     let collected = tool(&[&"show", &"--collected", &p2]);
     ends(&collected, 0, "  21  0x00000010  0x80000012   bracket, cells 16 to 18 (65 66 67)\n");
     ends(&collected, 0, "register 0: (66 67 68) (65 66 67)\n");
+}
+
+#[test]
+fn a_register_of_a_dump_is_printed() {
+    let p2 = tracked("examples/p2.dump");
+    assert_eq!(tool(&[&"print", &p2, &"0"]).stdout, b"(66 67 68) (65 66 67)\n");
+    assert_eq!(tool(&[&"print", &p2, &"15"]).stdout, b"\n");
+    assert_eq!(tool(&[&"print", &"--limit", &"21", &p2, &"0"]).status.code(), Some(0));
+    let refused = [
+        (tool(&[&"print", &p2, &"16"]), "no register has that number: 16, and they are 0 to 15\n"),
+        (
+            tool(&[&"print", &"--limit", &"20", &p2, &"0"]),
+            "the space is too short: the text has over 20 bytes; --limit allows more\n",
+        ),
+        (
+            tool(&[&"print", &"--top", &"16", &made("three.bytes", [0; 12]), &"0"]),
+            "No store has 3 words",
+        ),
+    ];
+    for (output, sentence) in &refused {
+        ends(output, 3, sentence);
+        assert!(output.stdout.is_empty());
+    }
+    ends(&tool(&[&"print", &p2]), 2, "print takes a dump file and a register, and here are 1");
+    ends(&tool(&[&"print", &p2, &"first"]), 2, "register: `first` is no number");
+    ends(&tool(&[&"print", &p2, &"0", &"--limit", &"x"]), 2, "--limit: `x` is no number");
+}
+
+#[test]
+fn a_text_too_deep_or_too_long_is_refused() {
+    let dump = made("deep.dump", "");
+    let batch = format!("CAPACITY 200\n{}", "WRAP 0 0\n".repeat(65));
+    let batch = made("deep.batch", batch + "SYMBOL 1 5\n" + &"WRAP 1 1\nJOIN 1 1 1\n".repeat(30));
+    ends(&tool(&[&"run", &batch, &"--dump", &dump]), 0, "top ");
+    let deep = "brackets are nested too deep: over 64 would be open at one place of the text\n";
+    ends(&tool(&[&"print", &dump, &"0"]), 3, deep);
+    let long = "the space is too short: the text has over 65536 bytes; --limit allows more\n";
+    ends(&tool(&[&"print", &dump, &"1"]), 3, long);
+    let bytes = tool(&[&"print", &dump, &"1", &"--limit", &"1000000"]);
+    ends(&bytes, 3, "the text has over 1000000 bytes; ");
 }
 
 #[test]
@@ -250,6 +294,7 @@ fn lines_typed_at_the_prompt_are_answered() {
     ends(&asked, 0, "SYMBOL 0 65               0          0   done; register 0: 65\n");
     ends(&asked, 0, "no call is named `SWAP`; HELP says what can be typed\n");
     ends(&asked, 0, "20 cells, top 17, 1 of 1 occupied heap cells live\n");
+    ends(&fed(b"WRAP 3 0\nprint 3\n", &[&"ask"]), 0, "register 3: ()\n()\n");
     ends(&fed(b"HEAD 1 2\n", &[&"ask", &"--strict"]), 1, "the register is empty");
     ends(&fed(b"LIVE\n", &[&"ask", &"15"]), 3, "refused 1 0");
     ends(&fed(b"", &[&"ask"]), 0, "");

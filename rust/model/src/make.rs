@@ -1,10 +1,11 @@
-//! Random stores, damage and call lists.
+//! Random stores, damage, call lists and text spaces.
 //!
 //! Stores are made cell by cell and not by calls, so that they have overlapping runs, dead cells
 //! between live ones and brackets that no call would lay. Small capacities are the most frequent:
-//! there a few calls fill the store, and room runs out.
+//! there a few calls fill the store, and room runs out. Stores for printing nest brackets about as
+//! deep as may be, or share so much that their text could never be written out.
 
-use crate::plain::{put, Cell, BRACKET, FIRST_HEAP_CELL, MAX_CODE};
+use crate::plain::{self, put, Cell, BRACKET, FIRST_HEAP_CELL, MAX_CODE, MAX_DEPTH};
 use crate::random::Random;
 
 /// How long the runs of a random store are, and where they lie.
@@ -198,4 +199,102 @@ pub fn answers(random: &mut Random, call_words: usize) -> Vec<u32> {
         _ => exact,
     };
     (0..length).map(|_| random.word()).collect()
+}
+
+/// A code that is likely to be written wrong: where digits become more, and with zeros in it.
+fn telling_code(random: &mut Random) -> u32 {
+    let power = 10u32.pow(random.below(9) as u32);
+    match random.below(6) {
+        0 => power - 1,
+        1 => power,
+        2 => power + random.below(10) as u32,
+        3 => power * random.within(1..=2) as u32,
+        4 => random.pick(&[0, MAX_CODE - 1, MAX_CODE]),
+        _ => (random.word() & MAX_CODE) % (10 * power),
+    }
+}
+
+/// Gives the symbols of a sound store codes of all lengths.
+pub fn recode(random: &mut Random, words: &mut [u32], top: usize) {
+    let symbols =
+        words[2 * FIRST_HEAP_CELL..2 * top].chunks_exact_mut(2).filter(|cell| cell[1] == 0);
+    symbols.for_each(|cell| cell[0] = telling_code(random));
+}
+
+/// A store of some heap cells, a few free ones, and one register that is not empty: its words and `top`.
+fn holding(random: &mut Random, heap: &[Cell], register: usize, ends: Cell) -> (Vec<u32>, usize) {
+    let top = FIRST_HEAP_CELL + heap.len();
+    let mut words = vec![0; 2 * (top + random.below(4))];
+    plain::fresh(&mut words);
+    (FIRST_HEAP_CELL..).zip(heap).for_each(|(c, &cell)| put(&mut words, c, cell));
+    put(&mut words, register, ends);
+    (words, top)
+}
+
+/// Puts a few terms at the end of the heap, none of them deeper than the deepest of `runs` is.
+fn put_beside(random: &mut Random, heap: &mut Vec<Cell>, runs: &[Cell], most: usize) {
+    for _ in 0..random.below(most + 1) {
+        heap.push(match random.below(12) {
+            0 if !runs.is_empty() => random.pick(runs),
+            0..=2 => Cell::Empty,
+            _ => Cell::Symbol(telling_code(random)),
+        });
+    }
+}
+
+/// A store whose `register` has so many brackets inside one another, with other terms before and after
+/// each of them, at most so many as `most` says.
+pub fn nest(
+    random: &mut Random,
+    brackets: usize,
+    most: usize,
+    register: usize,
+) -> (Vec<u32>, usize) {
+    let (mut heap, mut runs) = (Vec::new(), Vec::new());
+    let mut inside = Cell::Empty;
+    for _ in 0..brackets {
+        let l = FIRST_HEAP_CELL + heap.len();
+        put_beside(random, &mut heap, &runs, most);
+        heap.push(inside);
+        put_beside(random, &mut heap, &runs, most);
+        runs.push(inside);
+        inside = Cell::Bracket(l, FIRST_HEAP_CELL + heap.len() - 1);
+    }
+    holding(random, &heap, register, inside)
+}
+
+/// A store whose `register` has as many brackets inside one another as there are `levels`, and at each
+/// of them two or three around the same run. So its terms are 2 to the power of `levels` at least.
+pub fn doubled(random: &mut Random, levels: usize, register: usize) -> (Vec<u32>, usize) {
+    let mut heap = vec![Cell::Symbol(telling_code(random))];
+    let mut inside = Cell::Bracket(FIRST_HEAP_CELL, FIRST_HEAP_CELL);
+    for _ in 0..levels {
+        let l = FIRST_HEAP_CELL + heap.len();
+        heap.extend(vec![inside; random.pick(&[2, 2, 3])]);
+        inside = Cell::Bracket(l, FIRST_HEAP_CELL + heap.len() - 1);
+    }
+    holding(random, &heap, register, inside)
+}
+
+/// The bytes of a register's text up to its end or to a bracket that is one too many, but no more than
+/// `most`; `most` too where there is no text.
+pub fn text_end(words: &[u32], top: usize, register: usize, most: usize) -> usize {
+    if register >= FIRST_HEAP_CELL || plain::check(words, top).status != 0 {
+        return most;
+    }
+    let fits = plain::text(words, register).take_while(|&(_, open)| open <= MAX_DEPTH);
+    fits.take(most).count()
+}
+
+/// A text space full of junk, for a text of `end` bytes: exact, longer or too short.
+pub fn text_space(random: &mut Random, end: usize) -> Vec<u8> {
+    let length = match random.below(10) {
+        0 => 0,
+        1 => random.below(end + 1),
+        2 | 3 => end.saturating_sub(1),
+        4 => end + 1,
+        5 | 6 => end + random.below(40),
+        _ => end,
+    };
+    (0..length).map(|_| random.word() as u8).collect()
 }

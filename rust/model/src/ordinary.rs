@@ -9,11 +9,12 @@
 
 mod checks;
 mod marks;
+mod texts;
 
 pub use checks::{ByBlocks, Checks, OneByOne};
 pub use marks::{BitSet, ByteSet, Linear, Marks, Set, Walk};
 
-use crate::plain::{Reply, BRACKET, FIRST_HEAP_CELL, MAX_CALL_WORDS, MAX_CELLS, MAX_CODE};
+use crate::plain::{Reply, Text, BRACKET, FIRST_HEAP_CELL, MAX_CALL_WORDS, MAX_CELLS, MAX_CODE};
 
 /// The store with a check, a way of marking and the side tables of the collector.
 #[derive(Debug, Default)]
@@ -159,6 +160,19 @@ impl<C: Checks, M: Marks> Ordinary<C, M> {
             return (0, 0);
         }
         ends(words, register).map_or((0, 0), |(l, r)| (2 * l, 2 * r + 2))
+    }
+
+    /// Prints a register.
+    pub fn print(&self, words: &[u32], top: usize, register: usize, space: &mut [u8]) -> Text {
+        let Reply { status, value, .. } = self.check(words, top);
+        let written = match (status, register < FIRST_HEAP_CELL) {
+            (0, true) => texts::write(words, register, space),
+            (0, false) => Err(20),
+            _ => Err(status),
+        };
+        let length = *written.as_ref().unwrap_or(&0);
+        space[length..].fill(0);
+        Text { status: written.err().unwrap_or(0), value: value as usize, length }
     }
 
     /// Collects a sound store and gives the new `top`.

@@ -1,8 +1,8 @@
 //! The store in words, the plain way.
 //!
 //! One cell at a time is decoded into a [`Cell`]. The collector marks into a side table with an
-//! explicit stack, numbers the reached cells in a second table and writes a second vector. Nothing
-//! here is quick or in place.
+//! explicit stack, numbers the reached cells in a second table and writes a second vector. A register
+//! is printed byte by byte, from a stack of what is still to come. Nothing here is quick or in place.
 
 /// The number of registers, and so the address of the first heap cell.
 pub const FIRST_HEAP_CELL: usize = 16;
@@ -14,6 +14,8 @@ pub const MAX_CALL_WORDS: usize = 4096;
 pub const MAX_CODE: u32 = (1 << 28) - 1;
 /// The second word of an empty bracket.
 pub const BRACKET: u32 = 1 << 31;
+/// The most brackets that may be open at one place of a text.
+pub const MAX_DEPTH: usize = 64;
 
 /// What a function of the store answers.
 #[derive(Clone, Copy, Debug, PartialEq, Eq)]
@@ -24,6 +26,17 @@ pub struct Reply {
     pub value: u32,
     /// The end of the occupied cells afterwards.
     pub top: usize,
+}
+
+/// What printing answers.
+#[derive(Clone, Copy, Debug, PartialEq, Eq)]
+pub struct Text {
+    /// 0, or the number of the refusal.
+    pub status: u32,
+    /// The number named beside the status.
+    pub value: usize,
+    /// The bytes of the text; 0 where it is refused.
+    pub length: usize,
 }
 
 /// A cell as the rules tell cells apart.
@@ -134,6 +147,96 @@ pub fn look(words: &[u32], top: usize, register: usize) -> (usize, usize) {
     match ends(words, register) {
         Some((l, r)) => (2 * l, 2 * (r + 1)),
         None => (0, 0),
+    }
+}
+
+/// What of a text is still to come.
+#[derive(Clone, Copy, Debug)]
+enum Piece {
+    /// One byte.
+    Byte(u8),
+    /// The terms of the cells between two addresses, both inclusive.
+    Run(usize, usize),
+}
+
+/// The bytes of a text one after the other, each with the number of brackets open there, its own
+/// included if it is one. None is made before it is asked for, since a text may have no end in sight.
+#[derive(Clone, Debug)]
+pub struct Bytes<'a> {
+    words: &'a [u32],
+    /// What is still to come and the brackets open there, the next piece last.
+    ahead: Vec<(Piece, usize)>,
+}
+
+/// The text of a register of a sound store.
+pub fn text(words: &[u32], register: usize) -> Bytes<'_> {
+    let ahead = ends(words, register).map(|(l, r)| (Piece::Run(l, r), 0)).into_iter().collect();
+    Bytes { words, ahead }
+}
+
+impl Bytes<'_> {
+    /// Puts the text of the term at `c` before all that is to come.
+    fn put_term(&mut self, c: usize, open: usize) {
+        if let Cell::Symbol(code) = at(self.words, c) {
+            let digits = code.to_string();
+            self.ahead.extend(digits.bytes().rev().map(|digit| (Piece::Byte(digit), open)));
+            return;
+        }
+        self.ahead.push((Piece::Byte(b')'), open + 1));
+        self.ahead.extend(ends(self.words, c).map(|(l, r)| (Piece::Run(l, r), open + 1)));
+        self.ahead.push((Piece::Byte(b'('), open + 1));
+    }
+}
+
+impl Iterator for Bytes<'_> {
+    type Item = (u8, usize);
+
+    fn next(&mut self) -> Option<(u8, usize)> {
+        loop {
+            match self.ahead.pop()? {
+                (Piece::Byte(byte), open) => return Some((byte, open)),
+                (Piece::Run(l, r), open) => {
+                    if l < r {
+                        self.ahead.push((Piece::Run(l + 1, r), open));
+                        self.ahead.push((Piece::Byte(b' '), open));
+                    }
+                    self.put_term(l, open);
+                }
+            }
+        }
+    }
+}
+
+/// Writes bytes from left to right and gives their number, or 21 or 22 at the first that is refused.
+fn write(bytes: Bytes, space: &mut [u8]) -> Result<usize, u32> {
+    let mut length = 0;
+    for (byte, open) in bytes {
+        if open > MAX_DEPTH {
+            return Err(21);
+        }
+        *space.get_mut(length).ok_or(22u32)? = byte;
+        length += 1;
+    }
+    Ok(length)
+}
+
+/// Printing a register: the text and zeros after it, or a refusal and nothing but zeros.
+pub fn print(words: &[u32], top: usize, register: usize, space: &mut [u8]) -> Text {
+    space.fill(0);
+    let Reply { status, value, .. } = check(words, top);
+    if status != 0 {
+        return Text { status, value: value as usize, length: 0 };
+    }
+    let written = match register < FIRST_HEAP_CELL {
+        true => write(text(words, register), space),
+        false => Err(20),
+    };
+    match written {
+        Ok(length) => Text { status: 0, value: 0, length },
+        Err(status) => {
+            space.fill(0);
+            Text { status, value: 0, length: 0 }
+        }
     }
 }
 

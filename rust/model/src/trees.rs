@@ -60,6 +60,55 @@ impl Pool {
         (0..16).map(|register| Self::contents(&names, words, register)).collect()
     }
 
+    /// How long the text of each term is, and how many brackets are inside one another in it, in the
+    /// order of names. What a term holds was named before it, so one pass upward meets that first.
+    fn extents(&self) -> Vec<Extent> {
+        let mut extents: Vec<Extent> = Vec::new();
+        for term in &self.terms {
+            extents.push(match term {
+                Term::Symbol(code) => Extent { length: code.to_string().len(), height: 0 },
+                Term::Parens(inside) => Extent {
+                    length: length(&extents, inside).saturating_add(2),
+                    height: 1 + height(&extents, inside),
+                },
+            });
+        }
+        extents
+    }
+
+    /// Writes an expression of few terms.
+    fn write(&self, expression: &[Name], text: &mut String) {
+        for (i, &name) in expression.iter().enumerate() {
+            if i > 0 {
+                text.push(' ');
+            }
+            match self.term(name) {
+                Term::Symbol(code) => *text += &code.to_string(),
+                Term::Parens(inside) => {
+                    text.push('(');
+                    self.write(inside, text);
+                    text.push(')');
+                }
+            }
+        }
+    }
+
+    /// Where in an expression's text the first bracket opens with which more than `most` are open.
+    fn first_deeper(&self, extents: &[Extent], expression: &[Name], most: usize) -> Option<usize> {
+        let i = expression.iter().position(|&name| extents[name as usize].height > most)?;
+        // The terms before it, each with the space behind it.
+        let place = expression[..i].iter().fold(0usize, |place, &name| {
+            place.saturating_add(extents[name as usize].length).saturating_add(1)
+        });
+        match (self.term(expression[i]), most) {
+            (Term::Parens(inside), 1..) => {
+                let within = self.first_deeper(extents, inside, most - 1)?;
+                Some(place.saturating_add(1).saturating_add(within))
+            }
+            _ => Some(place),
+        }
+    }
+
     /// The names between the ends of the bracket at `c`.
     fn contents(names: &[Name], words: &[u32], c: usize) -> Expression {
         let (left, right) = (words[2 * c] as usize, (words[2 * c + 1] & 0x0fff_ffff) as usize);
@@ -68,6 +117,24 @@ impl Pool {
         }
         names[left..=right].to_vec()
     }
+}
+
+/// How far the text of a term goes, to the right and inward. Lengths end at the largest number.
+#[derive(Clone, Copy, Debug)]
+struct Extent {
+    length: usize,
+    height: usize,
+}
+
+/// The length of an expression's text: that of its terms, and a space between each two.
+fn length(extents: &[Extent], expression: &[Name]) -> usize {
+    let spaces = expression.len().saturating_sub(1);
+    expression.iter().fold(spaces, |sum, &name| sum.saturating_add(extents[name as usize].length))
+}
+
+/// The most brackets inside one another in an expression.
+fn height(extents: &[Extent], expression: &[Name]) -> usize {
+    expression.iter().map(|&name| extents[name as usize].height).max().unwrap_or(0)
 }
 
 /// Sixteen registers of expressions.
@@ -100,6 +167,27 @@ impl Trees {
             Ok(Effect::Tells(value)) => (0, value as u32),
             Err(status) => (status, 0),
         }
+    }
+
+    /// A register as text in a space of `n` bytes, or the number that refuses it.
+    ///
+    /// No byte is judged here. The place of the first bracket that is one too many and the length of
+    /// the text are reckoned from those of the terms, and the lesser decides.
+    ///
+    /// # Errors
+    ///
+    /// 20, 21 or 22.
+    pub fn printed(&self, register: usize, n: usize) -> Result<String, u32> {
+        let expression = self.registers.get(register).ok_or(20u32)?;
+        let extents = self.pool.extents();
+        match self.pool.first_deeper(&extents, expression, 64) {
+            Some(place) if place <= n => return Err(21),
+            _ if length(&extents, expression) > n => return Err(22),
+            _ => {}
+        }
+        let mut text = String::new();
+        self.pool.write(expression, &mut text);
+        Ok(text)
     }
 
     /// What a call does, or the number that refuses it.

@@ -1,7 +1,7 @@
 //! The three parts of the model, held against each other and against the rules said word for word.
 
 use zelmotar_model::ordinary::{self, Better, Checks, Marks, Ordinary, Usual, WithBits};
-use zelmotar_model::plain::{self, FIRST_HEAP_CELL};
+use zelmotar_model::plain::{self, Cell, FIRST_HEAP_CELL};
 use zelmotar_model::random::Random;
 use zelmotar_model::trees::Trees;
 use zelmotar_model::{make, make::Runs};
@@ -109,6 +109,101 @@ fn plain_calls_mean_what_trees_say() {
             assert_eq!(plain::check(&words, top).status, 0, "{call:?}");
         }
     }
+}
+
+/// A store for printing and a register of it: one like any other, deep or shared a great deal.
+fn printable(random: &mut Random) -> (Vec<u32>, usize, usize) {
+    let register = random.below(FIRST_HEAP_CELL);
+    let (mut words, top) = match random.below(4) {
+        0 => {
+            let (brackets, most) = (random.within(62..=67), random.pick(&[0, 1, 3]));
+            make::nest(random, brackets, most, register)
+        }
+        1 => {
+            let levels = random.within(1..=70);
+            make::doubled(random, levels, register)
+        }
+        _ => {
+            let capacity = make::capacity(random);
+            let runs = random.pick(&[Runs::Short, Runs::Recent, Runs::Any]);
+            make::sound(random, capacity, runs)
+        }
+    };
+    make::recode(random, &mut words, top);
+    (words, top, register)
+}
+
+#[test]
+fn plain_prints_what_trees_say() {
+    let mut random = Random::of("prints");
+    let mut met = [0; 23];
+    for _ in 0..10_000 {
+        let (words, top, register) = printable(&mut random);
+        assert_eq!(plain::check(&words, top).status, 0, "{words:?} {top}");
+        let trees = Trees::denoted_by(&words, top);
+        let end = make::text_end(&words, top, register, 2_000);
+        for register in [register, random.below(19)] {
+            let mut space = make::text_space(&mut random, end);
+            let got = plain::print(&words, top, register, &mut space);
+            let (status, mut expected) = match trees.printed(register, space.len()) {
+                Ok(text) => (0, text.into_bytes()),
+                Err(status) => (status, Vec::new()),
+            };
+            let length = expected.len();
+            expected.resize(space.len(), 0);
+            assert_eq!(got, plain::Text { status, value: 0, length }, "{register} {words:?}");
+            assert_eq!(space, expected, "{register} {words:?}");
+            met[status as usize] += 1;
+        }
+    }
+    for status in [0, 20, 21, 22] {
+        assert!(met[status] > 100, "{status}: {met:?}");
+    }
+}
+
+#[test]
+fn the_quick_print_is_the_plain_one() {
+    let mut random = Random::of("quick prints");
+    let (usual, better) = (Usual::default(), Better::default());
+    for _ in 0..10_000 {
+        let (mut words, mut top, register) = printable(&mut random);
+        if random.one_in(4) {
+            make::damage(&mut random, &mut words, &mut top);
+        }
+        let end = make::text_end(&words, top, register, 2_000);
+        for register in [register, random.below(19)] {
+            let mut space = make::text_space(&mut random, end);
+            let (mut ours, mut theirs) = (space.clone(), space.clone());
+            let expected = plain::print(&words, top, register, &mut space);
+            assert_eq!(usual.print(&words, top, register, &mut ours), expected);
+            assert_eq!(better.print(&words, top, register, &mut theirs), expected);
+            assert_eq!((&ours, &theirs), (&space, &space));
+        }
+    }
+}
+
+#[test]
+fn a_text_is_that_of_the_rules() {
+    // 66 67, then 65 (66 67) () in register 1; register 2 holds the last two of these.
+    let mut words = vec![0; 42];
+    plain::fresh(&mut words);
+    let cells = [Cell::Symbol(66), Cell::Symbol(67), Cell::Symbol(65), Cell::Bracket(16, 17)];
+    (16..).zip(cells).for_each(|(c, cell)| plain::put(&mut words, c, cell));
+    plain::put(&mut words, 20, Cell::Empty);
+    plain::put(&mut words, 1, Cell::Bracket(18, 20));
+    plain::put(&mut words, 2, Cell::Bracket(19, 20));
+    let text = |register: usize| -> (String, Vec<usize>) {
+        plain::text(&words, register).map(|(byte, open)| (char::from(byte), open)).unzip()
+    };
+    assert_eq!(text(0), (String::new(), vec![]));
+    let opens = vec![0, 0, 0, 1, 1, 1, 1, 1, 1, 1, 0, 1, 1];
+    assert_eq!(text(1), ("65 (66 67) ()".into(), opens));
+    assert_eq!(text(2).0, "(66 67) ()");
+    assert_eq!(Trees::denoted_by(&words, 21).printed(1, 13), Ok("65 (66 67) ()".into()));
+    assert_eq!(Trees::denoted_by(&words, 21).printed(1, 12), Err(22));
+    words[2 * 18] = 1 << 28;
+    let refused = plain::print(&words, 21, 16, &mut [7; 3]);
+    assert_eq!(refused, plain::Text { status: 3, value: 18, length: 0 });
 }
 
 /// Holds the quick store against the plain one: one batch, collecting alone, check and looks.

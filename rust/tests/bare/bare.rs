@@ -9,7 +9,7 @@
 
 use core::panic::PanicInfo;
 
-use zelmotar::{Answer, Call, Store, Term};
+use zelmotar::{Answer, Call, Refusal, Store, Term};
 
 #[panic_handler]
 fn panic(_: &PanicInfo) -> ! {
@@ -30,9 +30,17 @@ fn steps() -> i32 {
         }
     }
     match store.look(1).next() {
-        Some(Term::Bracket(inside)) if inside.len() == 1 => 0,
-        _ => 9,
+        Some(Term::Bracket(inside)) if inside.len() == 1 => {}
+        _ => return 9,
     }
+    let mut space = [7; 6];
+    if store.print(1, &mut space) != Ok("(65)") {
+        return 10;
+    }
+    if store.print(1, &mut space[..3]) != Err(Refusal::ShortSpace) || space[..3] != [0; 3] {
+        return 11;
+    }
+    0
 }
 
 #[no_mangle]

@@ -1,15 +1,15 @@
 //! One store with one call list and one answer space, run by the library and by the model.
 
 use std::fmt;
-use std::ops::Range;
 
-use zelmotar::raw;
+use zelmotar::{raw, Store};
 use zelmotar_model::{plain, random};
 
-use crate::pages::{next_is_high, Pages, WORDS};
-use crate::shrink::shrunk;
+use crate::guarded::Guarded;
+use crate::shrink::{lessened, shrunk};
 
-/// What goes into the five functions of the library.
+/// What goes into the six functions of the library. The answer space serves as text space too, four
+/// bytes a word.
 #[derive(Clone, Debug)]
 pub struct Case {
     pub words: Vec<u32>,
@@ -27,46 +27,6 @@ pub struct Ran {
     pub statuses: Vec<u32>,
     /// Whether `top` is lower than before, so that a collection freed cells.
     pub freed: bool,
-}
-
-/// Words beside a lent slice, which nobody may write.
-const GUARD: [u32; 4] = [0x0bad_cafe, 0xffff_ffff, 0, 0x8000_0010];
-
-/// A slice with a page that faults when touched on one side, and guard words on the other. The two take
-/// turns. An empty one leads to such a page too, or to the guard.
-struct Guarded {
-    pages: Pages,
-    /// The slice and the guard words, as places in the pages.
-    lent: Range<usize>,
-    guard: Range<usize>,
-}
-
-impl Guarded {
-    fn around(words: &[u32]) -> Guarded {
-        let (mut pages, count, width) = (Pages::take(), words.len(), GUARD.len());
-        let (lent, guard) = match next_is_high() {
-            true => (WORDS - count..WORDS, WORDS - count - width..WORDS - count),
-            false => (0..count, count..count + width),
-        };
-        pages.words()[lent.clone()].copy_from_slice(words);
-        pages.words()[guard.clone()].copy_from_slice(&GUARD);
-        Guarded { pages, lent, guard }
-    }
-
-    fn lent(&mut self) -> &mut [u32] {
-        &mut self.pages.words()[self.lent.clone()]
-    }
-
-    /// The words, once the guard is seen to be whole.
-    fn opened(mut self, what: &str) -> Result<Vec<u32>, String> {
-        let whole = self.pages.words()[self.guard.clone()] == GUARD;
-        let words = self.lent().to_vec();
-        self.pages.spare();
-        match whole {
-            true => Ok(words),
-            false => Err(format!("{what}: words outside the lent slice are written")),
-        }
-    }
 }
 
 /// The reply of the model in the library's type.
@@ -96,13 +56,48 @@ fn same_words(entry: &str, library: &[u32], model: &[u32]) -> Result<(), String>
     }
 }
 
+/// Prints a register by the library and by the model, and says what differs first; else gives what both
+/// answer. Where there is a text, it is what the terms of a look are written as.
+pub fn compare_print(
+    words: &[u32],
+    top: usize,
+    register: usize,
+    space: &[u8],
+) -> Result<plain::Text, String> {
+    let (mut ours, mut our_space) = (Guarded::around(words), Guarded::around(space));
+    let mut their_space = space.to_vec();
+    let raw::Text { status, value, length } =
+        raw::print(ours.lent(), top, register, our_space.lent());
+    let library = plain::Text { status, value, length };
+    let model = plain::print(words, top, register, &mut their_space);
+    if library != model {
+        return Err(format!("print: the library answers {library:?}, the model {model:?}"));
+    }
+    let our_space = our_space.opened("text space of print")?;
+    if let Some(i) = (0..space.len()).find(|&i| our_space[i] != their_space[i]) {
+        let (ours, theirs) = (our_space[i], their_space[i]);
+        return Err(format!("print: byte {i} is {ours} by the library and {theirs} by the model"));
+    }
+    let looked = match status {
+        0 => Store::from_parts(ours.lent(), top).look(register).to_string(),
+        _ => String::new(),
+    };
+    if looked.as_bytes() != &our_space[..length] {
+        return Err(format!("print: the terms of a look are written as {looked}"));
+    }
+    same_words("print", &ours.opened("print")?, words)?;
+    Ok(model)
+}
+
 impl Case {
-    /// Runs the case through all five functions, and says what differs first.
+    /// Runs the case through all six functions, and says what differs first.
     pub fn compare(&self) -> Result<Ran, String> {
         self.compare_check()?;
         self.compare_fresh()?;
         self.compare_look()?;
         self.compare_collect()?;
+        let space: Vec<u8> = self.answers.iter().flat_map(|word| word.to_le_bytes()).collect();
+        compare_print(&self.words, self.top, self.register, &space)?;
         self.compare_run()
     }
 
@@ -122,32 +117,12 @@ impl Case {
         with(&shrunk(&calls, |calls| with(calls).compare().is_err()))
     }
 
-    /// The case with registers emptied, brackets made symbols and cells taken off the end, wherever
-    /// it still differs.
-    fn with_less_in_store(mut self) -> Case {
-        for c in 0..self.words.len() / 2 {
-            let simple = if c < 16 { [0, plain::BRACKET] } else { [1, 0] };
-            self.improve(|case| case.words[2 * c..2 * c + 2].copy_from_slice(&simple));
-        }
-        while self.words.len() >= 2 && self.improve(|case| case.drop_last_cell()) {}
-        self
-    }
-
-    /// Applies a change if the case still differs after it.
-    fn improve(&mut self, change: impl Fn(&mut Case)) -> bool {
-        let mut changed = self.clone();
-        change(&mut changed);
-        let differs = changed.compare().is_err();
-        if differs {
-            *self = changed;
-        }
-        differs
-    }
-
-    /// Takes off the last cell, occupied or not.
-    fn drop_last_cell(&mut self) {
-        self.words.truncate(self.words.len() - 2);
-        self.top = self.top.min(self.words.len() / 2);
+    /// The case with as little in its store as still differs.
+    fn with_less_in_store(self) -> Case {
+        let with = |words: &[u32], top| Case { words: words.to_vec(), top, ..self.clone() };
+        let differs = |words: &[u32], top| with(words, top).compare().is_err();
+        let (words, top) = lessened(&self.words, self.top, differs);
+        with(&words, top)
     }
 
     fn compare_check(&self) -> Result<(), String> {
@@ -208,17 +183,23 @@ impl Case {
     }
 }
 
-/// The cells, equal neighbours in one line, then the calls.
+/// A store and a register in lines: its cells, equal neighbours in one line.
+pub fn listed(words: &[u32], top: usize, register: usize) -> String {
+    let (seed, n) = (random::seed(), words.len());
+    let mut lines = format!("seed {seed}: {n} words, top {top}, register {register}\n");
+    let cells: Vec<&[u32]> = words.chunks(2).collect();
+    let mut c = 0;
+    for equal in cells.chunk_by(|one, next| one == next) {
+        lines += &format!("  from cell {c} on {} of {:?}\n", equal.len(), equal[0]);
+        c += equal.len();
+    }
+    lines
+}
+
+/// The cells, then the calls.
 impl fmt::Display for Case {
     fn fmt(&self, f: &mut fmt::Formatter<'_>) -> fmt::Result {
-        let (n, top) = (self.words.len(), self.top);
-        writeln!(f, "seed {}: {n} words, top {top}, register {}", random::seed(), self.register)?;
-        let cells: Vec<&[u32]> = self.words.chunks(2).collect();
-        let mut c = 0;
-        for equal in cells.chunk_by(|one, next| one == next) {
-            writeln!(f, "  from cell {c} on {} of {:?}", equal.len(), equal[0])?;
-            c += equal.len();
-        }
+        f.write_str(&listed(&self.words, self.top, self.register))?;
         writeln!(f, "{} call words, {} answer words:", self.calls.len(), self.answers.len())?;
         self.calls.chunks(4).try_for_each(|call| writeln!(f, "  {call:?}"))
     }

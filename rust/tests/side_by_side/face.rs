@@ -1,7 +1,8 @@
-//! The safe wrapper: its calls, its answers, its stores, and a list that stops at a refusal.
+//! The safe wrapper: its calls, its answers, its stores, a list that stops at a refusal, and texts.
 
 use zelmotar::{
-    status_text, Answer, Call, Fault, Refusal, Stopped, Store, MAX_CALLS, MAX_CELLS, STATUSES,
+    status_text, Answer, Call, Fault, Refusal, Stopped, Store, MAX_CALLS, MAX_CELLS, MAX_CODE,
+    MAX_DEPTH, STATUSES,
 };
 use zelmotar_model::make::{self, Runs};
 use zelmotar_model::random::Random;
@@ -120,8 +121,8 @@ fn every_status_has_its_own_number_name_and_text() {
         }
     }
     let numbers: Vec<u32> = STATUSES.iter().map(|status| status.number).collect();
-    assert_eq!(numbers, [0, 1, 2, 3, 4, 5, 10, 11, 12, 13, 14, 15, 16]);
-    for number in [6, 9, 17, u32::MAX] {
+    assert_eq!(numbers, [0, 1, 2, 3, 4, 5, 10, 11, 12, 13, 14, 15, 16, 20, 21, 22]);
+    for number in [6, 9, 17, 19, 23, u32::MAX] {
         assert_eq!(status_text(number), "no such status");
     }
 }
@@ -150,6 +151,13 @@ fn every_answer_by_name() {
     assert!(answers[0].is_done() && answers[8].is_done() && !answers[7].is_done());
 }
 
+/// A store with so many brackets inside one another in register 0.
+fn nested(brackets: usize) -> Store {
+    let mut store = fresh(16 + brackets);
+    store.run_all(&vec![Call::Wrap { d: 0, a: 0 }; brackets]).expect("there is room");
+    store
+}
+
 #[test]
 fn every_refusal_by_name() {
     let refusals = [
@@ -158,8 +166,11 @@ fn every_refusal_by_name() {
         Store::from_parts(vec![0; 32], 16).check(),
         fresh(16).run(&vec![Call::Live; MAX_CALLS + 1]).map(drop),
         fresh(16).run_words(&Call::Live.words(), &mut [0]),
+        fresh(16).print(16, &mut [0; 9]).map(drop),
+        nested(MAX_DEPTH + 1).print(0, &mut [0; 999]).map(drop),
+        nested(1).print(0, &mut [0]).map(drop),
     ];
-    for (number, refusal) in (1..).zip(refusals) {
+    for (number, refusal) in [1, 2, 3, 4, 5, 20, 21, 22].into_iter().zip(refusals) {
         let refusal = refusal.expect_err("each is refused");
         assert_eq!(refusal.number(), number);
         assert_eq!(refusal.cell(), if number == 3 { Some(0) } else { None });
@@ -259,4 +270,92 @@ fn a_list_may_be_longer_than_a_batch() {
     assert_eq!(store.look(0).to_string(), "5");
     let text = stopped.unwrap_err().to_string();
     assert_eq!(text, "call 1027, FIRST 1: the register is empty");
+}
+
+#[test]
+fn a_text_is_a_part_of_the_space_that_is_lent() {
+    let mut store = fresh(32);
+    let calls = [
+        Call::Symbol { d: 0, code: 65 },
+        Call::Wrap { d: 1, a: 0 },
+        Call::Join { d: 1, a: 1, b: 0 },
+    ];
+    store.run_all(&calls).expect("there is room");
+    let mut space = [b'?'; 9];
+    let text = store.print(1, &mut space[..8]);
+    assert_eq!(text, Ok("(65) 65"));
+    assert_eq!(&space, b"(65) 65\0?");
+    assert_eq!(store.print(2, &mut space), Ok(""));
+    assert_eq!(space, [0; 9]);
+    assert_eq!(store.print(2, &mut []), Ok(""));
+}
+
+#[test]
+fn a_refused_print_leaves_zeros_and_the_store_as_it_was() {
+    let (sound, deep) = (nested(1), nested(MAX_DEPTH + 1));
+    let damaged = Store::from_parts(vec![0; 32], 16);
+    let rows = [
+        (Store::from_parts(vec![0; 33], 16), 0, 1),
+        (Store::from_parts(vec![0; 32], 17), 0, 2),
+        (damaged, 99, 3),
+        (sound.clone(), 16, 20),
+        (sound.clone(), usize::MAX, 20),
+        (deep, 0, 21),
+        (sound, 0, 22),
+    ];
+    for (store, register, number) in rows {
+        // Two bytes do not fit into one; as many opening ones as may be fit into 64.
+        let mut space = vec![b'?'; if number == 22 { 1 } else { 64 }];
+        let before = store.clone();
+        let refusal = store.print(register, &mut space).expect_err("each is refused");
+        assert_eq!(refusal.number(), number);
+        assert!(space.iter().all(|&byte| byte == 0), "{refusal}: {space:?}");
+        assert_eq!(store, before);
+        assert_eq!(store.print_string(register, space.len()), Err(refusal));
+    }
+}
+
+#[test]
+fn a_string_is_what_is_printed_into_as_many_bytes() {
+    let mut random = Random::of("printed strings");
+    let mut met = [0; 3];
+    for _ in 0..3_000 {
+        let lowest = random.pick(&[1, 62]);
+        let (register, levels) = (random.below(16), random.within(lowest..=67));
+        let (words, top) = match random.below(3) {
+            0 => make::doubled(&mut random, levels, register),
+            1 => make::nest(&mut random, levels, 2, register),
+            _ => make::sound(&mut random, 64, Runs::Recent),
+        };
+        let end = make::text_end(&words, top, register, 3_000);
+        let limit = make::text_space(&mut random, end).len();
+        let store = Store::from_parts(words, top);
+        let mut space = vec![0; limit];
+        let printed = store.print(register, &mut space).map(String::from);
+        assert_eq!(store.print_string(register, limit), printed);
+        match printed {
+            Ok(text) => {
+                assert_eq!(store.look(register).to_string(), text);
+                met[0] += 1;
+            }
+            Err(Refusal::TooDeep) => met[1] += 1,
+            Err(refusal) => {
+                assert_eq!(refusal, Refusal::ShortSpace);
+                met[2] += 1;
+            }
+        }
+    }
+    assert!(met.iter().all(|&count| count > 100), "{met:?}");
+}
+
+#[test]
+fn the_longest_text_that_shares_nothing() {
+    let mut words = fresh(MAX_CELLS).into_parts().0;
+    words[..2].copy_from_slice(&[16, (1 << 31) + MAX_CELLS as u32 - 1]);
+    words[32..].chunks_mut(2).for_each(|cell| cell[0] = MAX_CODE);
+    let store = Store::from_parts(words, MAX_CELLS);
+    let text = store.print_string(0, usize::MAX).expect("it is printed");
+    assert_eq!(text, vec!["268435455"; MAX_CELLS - 16].join(" "));
+    assert_eq!(store.print_string(0, text.len()).as_ref(), Ok(&text));
+    assert_eq!(store.print_string(0, text.len() - 1), Err(Refusal::ShortSpace));
 }

@@ -1,4 +1,5 @@
-//! Words that stand between pages which fault when they are touched, read or written. For Linux.
+//! Words or bytes that stand between pages which fault when they are touched, read or written. For
+//! Linux.
 //!
 //! A fault ends the whole test program with signal 11, so it cannot be overlooked; the case is not
 //! printed then.
@@ -30,7 +31,7 @@ const PRIVATE_AND_ANONYMOUS: c_int = 0x22;
 const STEP: usize = 65_536;
 
 /// The words that can be touched.
-pub const WORDS: usize = STEP / 4;
+const WORDS: usize = STEP / 4;
 
 thread_local! {
     /// Pages that were used and can be again: to ask for new ones takes longer than most cases.
@@ -69,6 +70,12 @@ impl Pages {
         // SAFETY: so many words can be touched, they are borrowed as long as the pages are, and
         // nobody else has them. The system has set them to zero.
         unsafe { slice::from_raw_parts_mut(self.0, WORDS) }
+    }
+
+    /// The same as bytes.
+    pub fn bytes(&mut self) -> &mut [u8] {
+        // SAFETY: as for the words; a word is four bytes, each of any value.
+        unsafe { slice::from_raw_parts_mut(self.0.cast(), STEP) }
     }
 }
 

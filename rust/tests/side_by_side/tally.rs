@@ -13,6 +13,54 @@ pub const CALL_STATUSES: [u32; 8] = [0, 10, 11, 12, 13, 14, 15, 16];
 /// Every number that a batch can be answered with.
 pub const BATCH_STATUSES: [u32; 6] = [0, 1, 2, 3, 4, 5];
 
+/// Every number that a print can be answered with.
+pub const PRINT_STATUSES: [u32; 7] = [0, 1, 2, 3, 20, 21, 22];
+
+/// Each status with its count.
+fn listed(counts: &BTreeMap<u32, usize>) -> String {
+    counts.iter().map(|(status, count)| format!(" {status}:{count}")).collect()
+}
+
+/// Says a line. The test harness keeps back what `println` writes, so this goes to the standard error
+/// itself. A closed one is no reason to fail.
+fn say(name: &str, what: &str) {
+    let line = format!("{name}: seed {}, {what}\n", random::seed());
+    let _ = stderr().write_all(line.as_bytes());
+}
+
+/// Counts of prints by status, and of those where a bracket was one too many at a byte that would not
+/// have fit either.
+#[derive(Default)]
+pub struct Prints {
+    statuses: BTreeMap<u32, usize>,
+    both: usize,
+}
+
+impl Prints {
+    /// Counts one print.
+    pub fn add(&mut self, status: u32, both: bool) {
+        *self.statuses.entry(status).or_default() += 1;
+        self.both += usize::from(both);
+    }
+
+    /// Prints the counts.
+    pub fn print(&self, name: &str) {
+        let (count, both) = (self.statuses.values().sum::<usize>(), self.both);
+        say(
+            name,
+            &format!("{count} prints;{}; 21 and 22 at one byte: {both}", listed(&self.statuses)),
+        );
+    }
+
+    /// Asserts that each of the given statuses did occur, and 21 and 22 at one byte if 21 is given.
+    pub fn assert_met(&self, statuses: &[u32]) {
+        for status in statuses {
+            assert!(self.statuses.contains_key(status), "no print was answered {status}");
+        }
+        assert!(self.both > 0 || !statuses.contains(&21), "21 and 22 never met");
+    }
+}
+
 /// Counts of cases, of batches by status and of calls by status.
 #[derive(Default)]
 pub struct Tally {
@@ -31,20 +79,10 @@ impl Tally {
         }
     }
 
-    /// Prints the counts. The test harness keeps back what `println` writes, so this goes to the
-    /// standard error itself.
+    /// Prints the counts.
     pub fn print(&self, name: &str) {
-        let counts = |counts: &BTreeMap<u32, usize>| -> String {
-            counts.iter().map(|(status, count)| format!(" {status}:{count}")).collect()
-        };
-        let (batches, calls) = (counts(&self.batches), counts(&self.calls));
-        let line = format!(
-            "{name}: seed {}, {} cases; batches{batches}; calls{calls}\n",
-            random::seed(),
-            self.cases
-        );
-        // A closed standard error is no reason to fail.
-        let _ = stderr().write_all(line.as_bytes());
+        let (batches, calls) = (listed(&self.batches), listed(&self.calls));
+        say(name, &format!("{} cases; batches{batches}; calls{calls}", self.cases));
     }
 
     /// Asserts that each of the given statuses did occur.

@@ -1,6 +1,6 @@
-//! Rows that are worked out by hand: P1 to P8, and the rows that are only run.
+//! Rows that are worked out by hand: P1 to P8, T1 to T9, and the rows that are only run.
 
-use zelmotar::raw::{self, Reply};
+use zelmotar::raw::{self, Reply, Text};
 use zelmotar::{Answer, Call, Fault, Refusal, Store};
 
 /// The second word of an empty bracket.
@@ -143,6 +143,114 @@ fn p8_the_operation_is_judged_before_the_register() {
     let mut answers = [9; 2];
     fresh(16).run_words(&[12, 99, 0, 0], &mut answers).expect("the batch is run");
     assert_eq!(answers, [10, 0]);
+}
+
+/// What printing a register into so many bytes answers, and the bytes that it leaves.
+fn printed(words: &[u32], top: usize, register: usize, n: usize) -> (Text, Vec<u8>) {
+    let mut space = vec![0xee; n];
+    let before = words.to_vec();
+    let text = raw::print(words, top, register, &mut space);
+    assert_eq!(words, before);
+    (text, space)
+}
+
+/// A text that is done, and what is left of its space.
+fn done(text: &str, zeros: usize) -> (Text, Vec<u8>) {
+    let space = [text.as_bytes(), &vec![0; zeros]].concat();
+    (Text { status: 0, value: 0, length: text.len() }, space)
+}
+
+/// A refusal, and its space.
+fn no_text(status: u32, value: usize, zeros: usize) -> (Text, Vec<u8>) {
+    (Text { status, value, length: 0 }, vec![0; zeros])
+}
+
+/// `65 (66 67) ()` in register 1, and nothing in the others. Its `top` is 21.
+fn three_terms() -> Vec<u32> {
+    words(
+        21,
+        &[
+            (1, [18, EMPTY + 20]),
+            (16, [66, 0]),
+            (17, [67, 0]),
+            (18, [65, 0]),
+            (19, [16, EMPTY + 17]),
+            (20, [0, EMPTY]),
+        ],
+    )
+}
+
+/// So many brackets inside one another in register 0, the innermost empty; and `top`.
+fn nest(brackets: u32) -> (Vec<u32>, usize) {
+    let last = 15 + brackets;
+    let mut words = words(last as usize + 1, &[(0, [last, EMPTY + last]), (16, [0, EMPTY])]);
+    for c in 17..=last {
+        words[2 * c as usize..][..2].copy_from_slice(&[c - 1, EMPTY + c - 1]);
+    }
+    (words, last as usize + 1)
+}
+
+/// One symbol in register 0. Its `top` is 17.
+fn lone(code: u32) -> Vec<u32> {
+    words(17, &[(0, [16, EMPTY + 16]), (16, [code, 0])])
+}
+
+#[test]
+fn t1_a_text_that_fits_and_one_that_does_not() {
+    let text = "65 (66 67) ()";
+    assert_eq!(printed(&three_terms(), 21, 1, 13), done(text, 0));
+    assert_eq!(printed(&three_terms(), 21, 1, 15), done(text, 2));
+    assert_eq!(printed(&three_terms(), 21, 1, 12), no_text(22, 0, 12));
+}
+
+#[test]
+fn t2_an_empty_register() {
+    assert_eq!(printed(&three_terms(), 21, 0, 3), done("", 3));
+    assert_eq!(printed(&three_terms(), 21, 0, 0), done("", 0));
+}
+
+#[test]
+fn t3_an_empty_bracket() {
+    let (words, top) = nest(1);
+    assert_eq!(printed(&words, top, 0, 2), done("()", 0));
+}
+
+#[test]
+fn t4_codes() {
+    assert_eq!(printed(&lone(268_435_455), 17, 0, 9), done("268435455", 0));
+    assert_eq!(printed(&lone(100_000_002), 17, 0, 9), done("100000002", 0));
+    assert_eq!(printed(&lone(0), 17, 0, 2), done("0", 1));
+    for digits in 1..9 {
+        let power = 10u32.pow(digits);
+        for code in [power - 1, power, power + 1] {
+            let text = code.to_string();
+            assert_eq!(printed(&lone(code), 17, 0, text.len()), done(&text, 0));
+            assert_eq!(printed(&lone(code), 17, 0, text.len() - 1), no_text(22, 0, text.len() - 1));
+        }
+    }
+}
+
+#[test]
+fn t5_to_t7_as_many_brackets_as_may_be_open_and_one_more() {
+    let (words, top) = nest(64);
+    let text = "(".repeat(64) + &")".repeat(64);
+    assert_eq!(printed(&words, top, 0, 128), done(&text, 0));
+    let (words, top) = nest(65);
+    assert_eq!(printed(&words, top, 0, 200), no_text(21, 0, 200));
+    assert_eq!(printed(&words, top, 0, 64), no_text(21, 0, 64));
+    assert_eq!(printed(&words, top, 0, 63), no_text(22, 0, 63));
+}
+
+#[test]
+fn t8_the_last_register_and_one_that_is_none() {
+    assert_eq!(printed(&three_terms(), 21, 15, 1), done("", 1));
+    assert_eq!(printed(&three_terms(), 21, 16, 1), no_text(20, 0, 1));
+}
+
+#[test]
+fn t9_damage_is_judged_before_the_register() {
+    let words = words(20, &[(16, [1, 0]), (17, [2, 0]), (18, [16, EMPTY + 18])]);
+    assert_eq!(printed(&words, 19, 16, 1), no_text(3, 18, 1));
 }
 
 #[test]

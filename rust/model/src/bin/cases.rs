@@ -1,12 +1,12 @@
-//! Random cases for the definitions, as a module of antt: stores, calls, answer spaces and inputs
-//! with what the model makes of them.
+//! Random cases for the definitions, as a module of antt: stores, calls, answer spaces, text spaces and
+//! inputs with what the model makes of them.
 //!
 //! `cases COUNT` writes the module to standard output. The definitions compute each case when the
 //! module is checked. A group of cases is one theorem, so that a refusal names its group.
 
 use std::fmt::Write;
 use zelmotar_model::make::{self, Runs};
-use zelmotar_model::plain::{self, Reply, FIRST_HEAP_CELL};
+use zelmotar_model::plain::{self, Reply, Text, FIRST_HEAP_CELL};
 use zelmotar_model::random::Random;
 
 /// The cases of one theorem.
@@ -14,6 +14,9 @@ const GROUP: usize = 20;
 
 /// Stores stay small: the definitions are computed by unfolding, which is slow on long lists.
 const MAX_CELLS: usize = 30;
+
+/// And so do text spaces, all but a few in which as many brackets fit as may be open.
+const MAX_TEXT: usize = 60;
 
 /// Everything before the cases: their type, and the test of each kind.
 const HEAD: &str = "\
@@ -23,8 +26,10 @@ use mathlib.Core.List.{List, [], _∷_}
 use Prim.Native.Nat.{ℕ}
 use lib.Dec.{eqb, T}
 use Rattle.bytes.specs.Decimal.{decimal}
-use Rattle.meaning.specs.Limits.{firstHeapCell, limit, codeTest, callsLimit, programCells, programBytes}
+use Rattle.bytes.specs.Space.{filled}
+use Rattle.meaning.specs.Limits.{firstHeapCell, limit, codeTest, depthLimit, callsLimit, programCells, programBytes}
 use Rattle.meaning.specs.Sound.{at}
+use Rattle.meaning.specs.Meaning.{meaning}
 use Rattle.meaning.specs.Reach.{reached, live}
 use Rattle.meaning.specs.Collected.{newAddress, collectedOf, collected, collectedTop}
 use Rattle.meaning.specs.Verdicts.{Verdict, Done}
@@ -37,6 +42,7 @@ use Rattle.meaning.specs.Actions.{newBracket, newRunOf, newRun}
 use Rattle.meaning.specs.Call.{keeps, sought, planOf, lacks, roomWords, roomTop, withRoom, carryOut, perform}
 use Rattle.meaning.specs.Call.{stepAfter, step}
 use Rattle.meaning.specs.Batch.{Outcome, ended, callsTest, batchOf, batch}
+use Rattle.meaning.specs.Text.{Printed, leftAfter, tooDeep, printed, printIn}
 use Rattle.meaning.specs.Program.{written, refusal, output, inputFault, program}
 use Rattle.meaning.specs.Rows.{same}
 
@@ -45,6 +51,7 @@ data Case : Type 0 where
   collects : List ℕ → ℕ → ℕ → ℕ → List ℕ → ℕ → Case
   makes : List ℕ → ℕ → List ℕ → ℕ → Case
   looks : List ℕ → ℕ → ℕ → ℕ → ℕ → Case
+  prints : List ℕ → ℕ → ℕ → ℕ → ℕ → ℕ → ℕ → List ℕ → Case
   writes : List ℕ → List ℕ → Case
 
 verdict : Verdict → ℕ → ℕ → Bool
@@ -60,12 +67,16 @@ left r s v ws top = verdict (r .verdict) s v && same (r .words) ws && eqb (r .to
 span : Span → ℕ → ℕ → Bool
 span s from to = eqb (s .from) from && eqb (s .to) to
 
+textual : Printed → ℕ → ℕ → ℕ → List ℕ → Bool
+textual p s v n t = verdict (p .verdict) s v && eqb (p .size) n && same (p .space) t
+
 right : Case → Bool
 right (batches ws top calls out s v ws′ top′ answers) =
     outcome (batch firstHeapCell ws top calls out) s v ws′ top′ answers
 right (collects ws top s v ws′ top′) = left (collectIn firstHeapCell ws top) s v ws′ top′
 right (makes ws s ws′ top′) = left (freshIn firstHeapCell ws) s 0 ws′ top′
 right (looks ws top i from to) = span (lookSpan firstHeapCell ws top i) from to
+right (prints ws top i n s v m t) = textual (printIn firstHeapCell ws top i n) s v m t
 right (writes input said) = same (program firstHeapCell input) said
 
 every : List Case → Bool
@@ -80,7 +91,7 @@ unfolding limit codeTest callsLimit programCells programBytes at reached live ne
     lookSpan ops opAt uses wrong11 wrong12 wrong13 fault put copy share head rest openTerm openFirst codeTerm
     codeFirst newSymbol newBracket newRunOf newRun names isOperand keeps sought planOf lacks roomWords roomTop
     withRoom carryOut perform stepAfter step ended callsTest batchOf batch decimal written refusal output inputFault
-    program verdict outcome left span right every";
+    program depthLimit meaning leftAfter tooDeep filled printed printIn verdict outcome left span textual right every";
 
 /// A list of numbers in antt.
 fn list<T: std::fmt::Display>(numbers: &[T]) -> String {
@@ -141,6 +152,34 @@ fn look(random: &mut Random) -> String {
     format!("looks {} {top} {register} {from} {to}", list(&words))
 }
 
+/// A register printed, or a number that is none. One store in a few nests brackets too deep, or nearly.
+fn print(random: &mut Random) -> String {
+    let register = random.below(FIRST_HEAP_CELL + 3);
+    let ((mut words, top), most) = match (register < FIRST_HEAP_CELL, random.below(8)) {
+        (true, 0..=1) => {
+            let (brackets, most) = (random.within(62..=67), random.pick(&[0, 0, 1]));
+            (make::nest(random, brackets, most, register), 2 * brackets)
+        }
+        (true, 2) => {
+            let levels = random.within(2..=6);
+            (make::doubled(random, levels, register), MAX_TEXT)
+        }
+        _ => (store(random), MAX_TEXT),
+    };
+    if plain::check(&words, top).status == 0 {
+        make::recode(random, &mut words, top);
+    }
+    let end = make::text_end(&words, top, register, most);
+    let mut space = make::text_space(random, end);
+    let Text { status, value, length } = plain::print(&words, top, register, &mut space);
+    let n = space.len();
+    format!(
+        "prints {} {top} {register} {n} {status} {value} {length} {}",
+        list(&words),
+        list(&space)
+    )
+}
+
 /// The little-endian word that four bytes spell.
 fn word(bytes: &[u8]) -> u32 {
     u32::from_le_bytes(bytes.try_into().expect("four bytes"))
@@ -177,11 +216,12 @@ fn program(random: &mut Random) -> String {
 
 /// One case of any kind, batches more often than not.
 fn case(random: &mut Random) -> String {
-    match random.below(10) {
+    match random.below(13) {
         0..=4 => batch(random),
         5..=6 => collection(random),
         7 => fresh(random),
         8 => look(random),
+        9..=11 => print(random),
         _ => program(random),
     }
 }
