@@ -1,5 +1,5 @@
 -- Laws of a space that is written from left to right. In order:
---   put-in, put-past, put-short              one byte: written, one too many, nothing any more
+--   put-in, put-past, put-short, put-stopped   one byte: written, one too many, nothing any more
 --   write-then, write-step                   bytes, then bytes; the first of what is left to write is written
 --   bytes-next, bytes-none                   bytes, a byte a turn
 --   words-next, words-none                   words, a word a turn
@@ -42,6 +42,10 @@ module _ (s : Space) (b : ℕ) where
   pub put-short : s .short ≡ true → putByte b s ≡ s
   unfolding putByte
   put-short e = rw e refl
+
+  pub put-stopped : s .short ≡ true → putByte b s ≡ record { bytes = s .bytes; place = s .place; short = true }
+  put-stopped e =
+      put-short e ∙ ap {B = Space} (λ (t : Bool). record { bytes = s .bytes; place = s .place; short = t }) e
 
   put-length : length (putByte b s .bytes) ≡ length (s .bytes)
   unfolding putByte

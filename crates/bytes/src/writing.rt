@@ -29,10 +29,10 @@ pub fn start() -> Pen
 pub fn put(out: &mut [u8], pen: Pen, b: u8) -> Pen
     ensures { λ r. ⌜ space (now (out .exit)) r ≡ putByte b (space (now (out .entry)) pen) ⌝ }
 {
-    if pen.short {
-        return pen;
-    }
     let place = pen.place;
+    if pen.short {
+        return Pen { place, short: true };
+    }
     if place < out.len() {
         out[place] = b;
         return Pen {

@@ -30,7 +30,7 @@ use Rattle.store.specs.Holds.{RunIs}
 use Rattle.store.specs.declared.Run.{Run}
 use Rattle.text.specs.Page.{Page, blank, plain, stopped, next, writes, ended}
 use Rattle.text.proofs.Pages.{writes-stopped}
-use Rattle.text.proofs.Steps.{with-space, stop-here, register-is}
+use Rattle.text.proofs.Steps.{stop-here, register-is}
 
 -- ---- what comes of a page; v is the space as it was zeroed
 
@@ -176,14 +176,14 @@ module _ (t out : List ℕ) where
       go s g q k (short d e) =
           sym (short-ended g (filled n []) d e (rw k refl)) ∙ sym (troubled t n (rw z at q))
 
--- a register's expression, written from the start of the space; x is where the pen begins
-pub register-printed : (ws : List ℕ) (top i : ℕ) (r : Run) (out : List ℕ) (x : Space) (g : Page)
-    → Sound firstHeapCell ws top → i < firstHeapCell → RunIs r (at ws i) → x ≡ space.blank out
-    → g ≡ writes depthLimit (text (run (termAt ws) (r .start) (r .size))) (going x)
+-- a register's expression, written from the start of the space
+pub register-printed : (ws : List ℕ) (top i : ℕ) (r : Run) (out : List ℕ) (g : Page)
+    → Sound firstHeapCell ws top → i < firstHeapCell → RunIs r (at ws i)
+    → g ≡ writes depthLimit (text (run (termAt ws) (r .start) (r .size))) (blank out)
     → ended g ≡ printed (text (meaning ws i)) (length out)
-register-printed ws top i r out x g s h k e w =
+register-printed ws top i r out g s h k w =
     let t = text (run (termAt ws) (r .start) (r .size)) in
-    rw (register-is ws top s i h r k) (ap ended (w ∙ ap (writes depthLimit t) (with-space false e)) ∙ ended-printed t out)
+    rw (register-is ws top s i h r k) (ap ended w ∙ ended-printed t out)
 
 -- refused, with the space as it was zeroed
 pub zeroed : (v : Verdict) (n : ℕ) {out : List ℕ} → out ≡ filled n []

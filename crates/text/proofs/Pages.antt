@@ -16,13 +16,12 @@ use lib.ListN.{length}
 use borrow.Author.Tests.{ne-eqb}
 use Rattle.bytes.specs.Decimal.{decimal}
 use Rattle.bytes.specs.Claims.{AllDigits}
-use Rattle.bytes.specs.Space.{write}
 use Rattle.bytes.proofs.Spaces.{put-short}
 use Rattle.bytes.proofs.Final.{only-digits}
 use Rattle.meaning.specs.Expr.{Expr, nothing, symbol, parens}
 use Rattle.meaning.specs.Text.{text, leftAfter, tooDeep}
 use Rattle.meaning.proofs.text.Texts.{tail}
-use Rattle.text.specs.Page.{Page, plain, stopped, next, writes}
+use Rattle.text.specs.Page.{Page, plain, written, stopped, next, writes}
 
 -- ---- one byte
 
@@ -93,7 +92,7 @@ writes-space left xs g = writes-plain left 32 xs g (λ e. omega arith) (λ e. om
 
 -- digits are written as bytes are
 pub writes-digits : (left : ℕ) (xs ys : List ℕ) (g : Page) → AllDigits xs
-    → writes left (xs ++ ys) g ≡ writes left ys (record { space = write xs (g .space); deep = g .deep })
+    → writes left (xs ++ ys) g ≡ writes left ys (written xs g)
 writes-digits left [] ys g h = refl
 writes-digits left (x ∷ xs) ys g h =
     let d = h 0 (omega arith) in
@@ -138,7 +137,7 @@ tail-apart (parens i r) h left ys g =
 
 digits-apart : (xs t : List ℕ) → AllDigits xs → Apart t → Apart (xs ++ t)
 digits-apart xs t d h left ys g =
-    let g′ : Page = record { space = write xs (g .space); deep = g .deep } in
+    let g′ = written xs g in
     ap (λ (z : List ℕ). writes left z g) (append-assoc xs t ys)
     ∙ (writes-digits left xs (t ++ ys) g d ∙ (h left ys g′ ∙ ap (writes left ys) (sym (writes-digits left xs t g d))))
 

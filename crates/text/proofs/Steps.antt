@@ -12,7 +12,7 @@ use mathlib.Core.List.{List, [], _∷_, _++_, append-nil}
 use Prim.Native.Nat.{ℕ, zero, suc, _+_, _-_, _≤_, _<_}
 use native.Mathlib.Omega.{arith}
 use Rattle.bytes.specs.Decimal.{decimal}
-use Rattle.bytes.specs.Space.{Space, write}
+use Rattle.bytes.specs.Space.{Space}
 use Rattle.bytes.proofs.Final.{only-digits}
 use Rattle.meaning.specs.Limits.{firstHeapCell}
 use Rattle.meaning.specs.Expr.{Expr, nothing, symbol, parens, append, terms}
@@ -28,7 +28,7 @@ use Rattle.store.specs.declared.Term.the-variants.{Symbol, Bracket}
 use Rattle.store.specs.declared.Run.{Run}
 use Rattle.store.proofs.Sounds.{firstHeapCell-pos}
 use Rattle.store.proofs.Held.{symbol-is, bracket-is}
-use Rattle.text.specs.Page.{Page, plain, stopped, between, writes, Within}
+use Rattle.text.specs.Page.{Page, plain, written, stopped, between, writes, Within}
 use Rattle.text.proofs.Pages.{writes-stopped, writes-space, writes-digits, writes-deep, writes-bracket, writes-text}
 
 -- ---- a page by its space
@@ -58,9 +58,9 @@ gap-one (suc i) g g′ n e = e
 -- ---- a term
 
 module _ (left : ℕ) (x : Expr) (g : Page) where
-  pub symbol-written : (a : ℕ) (s : Space) → x ≡ symbol a nothing → s ≡ write (decimal a) (g .space)
-      → record { space = s; deep = g .deep } ≡ writes left (text x) g
-  symbol-written a s e h = rw (e, h) (sym (writes-digits left (decimal a) [] g (only-digits a)))
+  pub symbol-written : (a : ℕ) (g′ : Page) → x ≡ symbol a nothing → g′ ≡ written (decimal a) g
+      → g′ ≡ writes left (text x) g
+  symbol-written a g′ e h = rw e (h ∙ sym (writes-digits left (decimal a) [] g (only-digits a)))
 
   pub deep-stopped : (i : Expr) (g′ : Page) → x ≡ parens i nothing → left ≡ 0 → g′ ≡ stopped g
       → g′ ≡ writes left (text x) g

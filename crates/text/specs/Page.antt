@@ -1,6 +1,6 @@
 -- A text space that is written from left to right, up to the first trouble: what the writers do, byte by byte. In order:
 --   Page, page          the space, and whether it stopped before a bracket that is one too many
---   plain, stopped      a byte; the end before such a bracket
+--   plain, written, stopped   a byte; bytes that are no brackets; the end before such a bracket
 --   next, writes        a byte of a text, by whether it opens a bracket;  a text
 --   between             the space before a term
 --   ended               what comes of a text that is written as far as it goes
@@ -11,8 +11,7 @@ use mathlib.Core.List.{List, [], _∷_}
 use Prim.Native.Nat.{ℕ, zero, suc, _+_, _≤_, _<_}
 use lib.ListN.{length, take}
 use Rattle.bytes.specs.Space as space
-use Rattle.bytes.specs.Space.{Space, putByte, filled}
-use Rattle.bytes.specs.Pens as pens
+use Rattle.bytes.specs.Space.{Space, putByte, write, filled}
 use Rattle.meaning.specs.Limits.{firstHeapCell}
 use Rattle.meaning.specs.Verdicts.{only}
 use Rattle.meaning.specs.Text.{leftAfter, tooDeep, Printed, unprinted}
@@ -25,7 +24,7 @@ pub record Page : Type 0 where
 
 -- the bytes that are lent, and how far the text has come in them
 abbrev pub page : List ℕ → Progress → Page
-page out p = record { space = pens.space out (p .pen); deep = p .deep }
+page out p = record { space = record { bytes = out; place = p .place; short = p .short }; deep = p .deep }
 
 -- with nothing written yet
 abbrev pub blank : List ℕ → Page
@@ -34,6 +33,10 @@ blank out = record { space = space.blank out; deep = false }
 -- the next byte, where it fits
 abbrev pub plain : ℕ → Page → Page
 plain b g = record { space = putByte b (g .space); deep = g .deep }
+
+-- and bytes that are no brackets
+abbrev pub written : List ℕ → Page → Page
+written xs g = record { space = write xs (g .space); deep = g .deep }
 
 -- the end before a bracket that is one too many; where a byte did not fit, that was the end
 unfoldable pub stopped : Page → Page

@@ -1,10 +1,12 @@
 // Text for the service desk (SCOPE 2.4, 5.7): a register printed into a space of bytes that the caller lends.
 //
-// The text is written from left to right, each byte once, up to the first trouble. A pen of `bytes` knows where the next
-// byte goes and whether one did not fit; `Progress` adds whether it stopped before a bracket that is one too many.
+// The text is written from left to right, each byte once, up to the first trouble: a byte that does not fit, or a bracket
+// that is one too many. Then the whole space becomes zero.
 ghost use mathlib.Core.Path.{_≡_};
+ghost use mathlib.Core.List.{[]};
 ghost use Prim.Native.Nat.{_<_};
 ghost use lib.ListN.{length};
+ghost use Rattle.bytes.specs.Space.{filled};
 ghost use Rattle.meaning.specs.Limits.{firstHeapCell};
 ghost use Rattle.meaning.specs.Sound.{Sound};
 ghost use Rattle.meaning.specs.Meaning.{meaning};
@@ -27,21 +29,26 @@ pub enum Printed {
     ShortSpace,
 }
 
+// Refused: the whole text space becomes zero.
+fn refuse(out: &mut [u8], why: Printed) -> Printed
+    ensures { λ r. ⌜ (r ≡ why) × (now (out .exit) ≡ filled (length (now (out .entry))) []) ⌝ }
+{
+    writing::zero_from(out, 0);
+    why
+}
+
 // What comes of a text that is written as far as it goes: zeros after it, or zeros everywhere.
 fn finish(out: &mut [u8], end: Progress) -> Printed
     ensures { λ r. ⌜ printedIn r (now (out .exit)) ≡ ended (page (now (out .entry)) end) ⌝ }
 {
     if end.deep {
-        writing::zero_from(out, 0);
-        return Printed::TooDeep;
+        return refuse(out, Printed::TooDeep);
     }
-    let pen = end.pen;
-    if pen.short {
-        writing::zero_from(out, 0);
-        return Printed::ShortSpace;
+    if end.short {
+        return refuse(out, Printed::ShortSpace);
     }
-    writing::zero_from(out, pen.place);
-    Printed::Done(pen.place)
+    writing::zero_from(out, end.place);
+    Printed::Done(end.place)
 }
 
 // A register of a sound store.
@@ -52,7 +59,8 @@ fn print_register(ws: &[u32], top: usize, register: usize, out: &mut [u8]) -> Pr
 {
     let held = store::run_at(ws, register);
     let start = Progress {
-        pen: writing::start(),
+        place: 0,
+        short: false,
         deep: false,
     };
     let end = writers::write_run(
@@ -74,14 +82,10 @@ pub fn print(ws: &[u32], top: usize, register: usize, out: &mut [u8]) -> Printed
     match store::check(ws, top) {
         Checked::Sound => {
             if meaning::FIRST_HEAP_CELL <= register {
-                writing::zero_from(out, 0);
-                return Printed::NoRegister;
+                return refuse(out, Printed::NoRegister);
             }
             print_register(ws, top, register, out)
         }
-        Checked::Refused(why) => {
-            writing::zero_from(out, 0);
-            Printed::Refused(why)
-        }
+        Checked::Refused(why) => refuse(out, Printed::Refused(why)),
     }
 }

@@ -9,14 +9,16 @@ ghost use Rattle.meaning.specs.Limits.{firstHeapCell};
 ghost use Rattle.meaning.specs.Sound.{Sound};
 ghost use Rattle.meaning.specs.Meaning.{run, termAt};
 ghost use Rattle.meaning.specs.Text.{text};
-ghost use Rattle.text.specs.Page.{page, plain, stopped, between, writes, Within};
+ghost use Rattle.bytes.specs.Decimal.{decimal};
+ghost use Rattle.text.specs.Page.{page, plain, written, stopped, between, writes, Within};
 use bytes::writing;
 use bytes::writing::Pen;
 
-// How far a text has come: the pen, and whether it stopped before a bracket that is one too many. Then the pen is short
-// too, so that it writes nothing more.
+// How far a text has come: where the next byte goes, whether nothing more is written, and whether that is for a bracket
+// that is one too many. (It holds a pen's fields and no pen: a pen inside takes a third more stack for each bracket.)
 pub struct Progress {
-    pub pen: Pen,
+    pub place: usize,
+    pub short: bool,
     pub deep: bool,
 }
 
@@ -24,8 +26,17 @@ pub struct Progress {
 fn put(out: &mut [u8], p: Progress, b: u8) -> Progress
     ensures { λ r. ⌜ page (now (out .exit)) r ≡ plain b (page (now (out .entry)) p) ⌝ }
 {
+    let next = writing::put(
+        out,
+        Pen {
+            place: p.place,
+            short: p.short,
+        },
+        b,
+    );
     Progress {
-        pen: writing::put(out, p.pen, b),
+        place: next.place,
+        short: next.short,
         deep: p.deep,
     }
 }
@@ -40,19 +51,35 @@ fn put_gap(out: &mut [u8], p: Progress, i: usize) -> Progress
     put(out, p, b' ')
 }
 
+// A code in decimal.
+fn put_code(out: &mut [u8], p: Progress, code: u32) -> Progress
+    ensures { λ r. ⌜ page (now (out .exit)) r ≡ written (decimal code) (page (now (out .entry)) p) ⌝ }
+{
+    let next = writing::put_decimal(
+        out,
+        Pen {
+            place: p.place,
+            short: p.short,
+        },
+        code as usize,
+    );
+    Progress {
+        place: next.place,
+        short: next.short,
+        deep: p.deep,
+    }
+}
+
 // The end before a bracket that is one too many, unless a byte before it did not fit.
 fn stop(p: Progress) -> Progress
     ensures { λ r. ⌜ ((out : List ℕ) → page out r ≡ stopped (page out p)) ⌝ }
 {
-    let pen = p.pen;
-    if pen.short {
+    if p.short {
         return p;
     }
     Progress {
-        pen: Pen {
-            place: pen.place,
-            short: true,
-        },
+        place: p.place,
+        short: true,
         deep: true,
     }
 }
@@ -71,10 +98,7 @@ fn write_term(
         ≡ writes left (text (termAt (now (ws .entry)) c)) (page (now (out .entry)) p) ⌝ }
 {
     match store::term_at(ws, c) {
-        store::Term::Symbol(code) => Progress {
-            pen: writing::put_decimal(out, p.pen, code as usize),
-            deep: p.deep,
-        },
+        store::Term::Symbol(code) => put_code(out, p, code),
         store::Term::Bracket(inside) => {
             if left == 0 {
                 return stop(p);
@@ -103,7 +127,7 @@ pub fn write_run(
     let mut next = p;
     let mut i: usize = 0;
     while i < n {
-        if next.pen.short {
+        if next.short {
             return next;
         }
         next = put_gap(out, next, i);

@@ -15,11 +15,13 @@ use Rattle.text.proofs.print.Tie as tie
 -- a register that is none
 returns : tie.Need-returns
 returns c =
+    let refuse = c .before .before .refuse in
     let if1 = c .before .before .before .before in
     let told = if1 .before in
     let found = told .before .before .check in
     let s = found-sound firstHeapCell _ _ (found .result) (found .ensures) (told .enum-told .given .1) in
-    zeroed (only 20) _ (c .before .before .zero-from .ensures) ∙ sym (print-none firstHeapCell _ _ _ _ s (if1 .if1 .taken))
+    rw (refuse .ensures .0)
+    (zeroed (only 20) _ (refuse .ensures .1) ∙ sym (print-none firstHeapCell _ _ _ _ s (if1 .if1 .taken)))
 
 print-register-requires : tie.Need-print-register-requires
 print-register-requires c κs =
@@ -40,12 +42,14 @@ returns-2 c =
 returns-3 : tie.Need-returns-3
 unfolding printIn
 returns-3 c =
+    let refuse = c .before .before .refuse2 in
     let told = c .before .before .before .before .before in
     let found = told .before .before .check in
     let u = told .why .given in
     let n = length (told .before .before .before .before .before .args .out .now) in
-    zeroed (refusalOf (u .0 .0)) n (c .before .before .zero-from2 .ensures)
-    ∙ found-refused firstHeapCell _ _ (found .result) (found .ensures) _ (λ (v : Verdict). unprinted v n) (u .1)
+    rw (refuse .ensures .0)
+    (zeroed (refusalOf (u .0 .0)) n (refuse .ensures .1)
+    ∙ found-refused firstHeapCell _ _ (found .result) (found .ensures) _ (λ (v : Verdict). unprinted v n) (u .1))
 
 pub print-spec : {M : Type 1} → statement M
 print-spec =

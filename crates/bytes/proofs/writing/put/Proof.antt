@@ -1,12 +1,12 @@
 -- `bytes::writing::put` meets its contract: a case for each of the definition's. Assumes nothing.
 use mathlib.Core.Path.{sym}
-use Rattle.bytes.proofs.Spaces.{put-in, put-past, put-short}
+use Rattle.bytes.proofs.Spaces.{put-in, put-past, put-stopped}
 use borrow.Author.Needs.{needs}
 use Rattle.bytes.proofs.writing.put.Statement.{statement}
 use Rattle.bytes.proofs.writing.put.Tie as tie
 
 returns : tie.Need-returns
-returns c = sym (put-short _ _ (c .if1 .taken))
+returns c = sym (put-stopped _ _ (c .if1 .taken))
 
 returns-2 : tie.Need-returns-2
 returns-2 c = sym (put-in _ _ (c .before .if1 .left) (c .if2 .taken))

@@ -20,9 +20,9 @@ use Rattle.text.proofs.writers.+write_run+write_term.Lts-write_run as w
 use Rattle.text.proofs.writers.write_term.Reads as write-term
 use Rattle.text.proofs.writers.write_term.Kinds as write-term-kinds
 use Rattle.text.proofs.writers.+write_run+write_term.Lts-write_term as write-term-lts
-use Rattle.bytes.proofs.writing.put_decimal.Reads as put-decimal
 use Rattle.store.proofs.term_at.Reads as term-at
 use Rattle.text.proofs.writers.put.Reads as put
+use Rattle.text.proofs.writers.put_code.Reads as put-code
 use Rattle.text.proofs.writers.put_gap.Reads as put-gap
 use Rattle.text.proofs.writers.stop.Reads as stop
 use Rattle.text.proofs.writers.+write_run+write_term.{statement}
@@ -97,8 +97,8 @@ pub +write-run+write-term-spec : {M : Type 1} → statement M
     (λ t. write-term-lts.spec (
       term-at.Asked,
       term-at.Learnt,
-      put-decimal.Asked,
-      put-decimal.Learnt,
+      put-code.Asked,
+      put-code.Learnt,
       stop.Asked,
       stop.Learnt,
       put.Asked,
@@ -109,7 +109,7 @@ pub +write-run+write-term-spec : {M : Type 1} → statement M
     (λ c κs.
     let s = c .before .before in
     let p = s .pre .1 in (heap-inside _ _ (p .0) _ (p .2), heap-termed _ _ (p .0) _ (p .1) (p .2)))
-    (λ c. search needs) (λ c. omega arith) (λ c κs. tt) (λ c. search needs) (λ c κs. tt)
+    (λ c. search needs) (λ c κs. tt) (λ c. search needs) (λ c κs. tt)
     -- a bracket that is one too many
     (λ c.
     let m = c .before .before .before in
@@ -133,7 +133,7 @@ pub +write-run+write-term-spec : {M : Type 1} → statement M
     let found = m .before .before .term-at in
     let p = m .before .before .before .before .before .pre .1 in
     symbol-written _ _ _ _ _ (symbol-arm _ _ (p .0) _ (p .1) (p .2) (found .ensures) (m .code .given .1))
-    (c .before .before .put-decimal .ensures))
+    (c .before .before .put-code .ensures))
     -- a bracket
     (λ c. c .before .before .put2 .kept .0 ∙ (c .before .before .before .before .before .before .write-run .kept .1 .1 .1 .1 .1 .0 ∙ c .before .before .before .before .before .before .before .before .before .before .put .kept .0))
     (λ c.
