@@ -3,7 +3,6 @@
 --   write-then, write-step                   bytes, then bytes; the first of what is left to write is written
 --   bytes-next, bytes-none                   bytes, a byte a turn
 --   words-next, words-none                   words, a word a turn
---   decimal-first, decimal-last              a number, a digit a turn
 --   same-space                               the space stays as long
 --   write-fits, pen-fits                     bytes that fit, and the pen after them
 --   write-stops, write-short                 bytes that do not
@@ -19,12 +18,10 @@ use lib.ListN.{length, getD, drop, set, length-set, drop-of-length-le}
 use lib.Seq.{sets, sets-eq, drop-cons}
 use borrow.Author.Tests.{lt-ltb, le-ltb, ltb-true, ltb-false}
 use Rattle.bytes.specs.Little.{bytesOf}
-use Rattle.bytes.specs.Decimal.{decimal}
 use Rattle.bytes.specs.Space.{Space, upTo, blank, putByte, write}
 use Rattle.bytes.specs.Pens.{space}
 use Rattle.bytes.specs.declared.writing.Pen.{Pen}
 use Rattle.bytes.specs.Claims.{WriteFits, WriteShort, WriteStops}
-use Rattle.bytes.proofs.Decimals.{decimal-one, decimal-more}
 
 -- ---- one byte
 
@@ -89,15 +86,6 @@ words-next l i s s′ x h e f =
 
 pub words-none : (l : List ℕ) (i : ℕ) (s x : Space) → length l ≤ i → write (bytesOf (drop i l)) s ≡ x → s ≡ x
 words-none l i s x h f = rw (drop-of-length-le l h) at f
-
--- a number's digits: the only one; the last one, after those of n / 10
-pub decimal-first : (n : ℕ) (s s′ : Space) → n < 10 → s′ ≡ putByte (48 + n) s → s′ ≡ write (decimal n) s
-decimal-first n s s′ h e = rw (decimal-one n h) e
-
-pub decimal-last : (n : ℕ) (s s′ s″ : Space) → 10 ≤ n → s′ ≡ write (decimal (n / 10)) s → s″ ≡ putByte (48 + n % 10) s′
-    → s″ ≡ write (decimal n) s
-decimal-last n s s′ s″ h e f =
-    rw (decimal-more n h) (write-then (decimal (n / 10)) ((48 + n % 10) ∷ []) s s′ s″ e f)
 
 write-length : (xs : List ℕ) (s : Space) → length (write xs s .bytes) ≡ length (s .bytes)
 write-length [] s = refl

@@ -56,15 +56,23 @@ pub fn put_bytes(out: &mut [u8], pen: Pen, s: &[u8]) -> Pen
     next
 }
 
-// n in decimal: the digits of n / 10 first, then the last one. It ends because n falls.
+// The most digits that a number has.
+pub const DIGITS: usize = 20;
+
+// n in decimal: the digits from the last one on, then written from the first.
 pub fn put_decimal(out: &mut [u8], pen: Pen, n: usize) -> Pen
     ensures { λ r. ⌜ space (now (out .exit)) r ≡ write (decimal n) (space (now (out .entry)) pen) ⌝ }
 {
-    if n < 10 {
-        return put(out, pen, b'0' + n as u8);
+    let mut digits = [0u8; DIGITS];
+    let mut first = DIGITS - 1;
+    let mut rest = n;
+    digits[first] = b'0' + (rest % 10) as u8;
+    while 10 <= rest {
+        rest /= 10;
+        first -= 1;
+        digits[first] = b'0' + (rest % 10) as u8;
     }
-    let next = put_decimal(out, pen, n / 10);
-    put(out, next, b'0' + (n % 10) as u8)
+    put_bytes(out, pen, &digits[first..])
 }
 
 // The four bytes of a word, the lowest first.
