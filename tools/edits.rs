@@ -11,12 +11,15 @@
 //     answers N       the next batch gets N words for its answers, and not two more than it needs;
 //                     each is 7
 //     SYMBOL 0 65     a call, as tools/batch has them; those that follow each other are one batch
+//     nest N          WRAP 0 0, N times, in a batch of which nothing is said
 //     check, fresh, collect, look R    the other functions of the library
+//     print R N       register R goes as text to a space of N bytes, each of them 7
 //     bytes N B ..    the program reads N bytes: these, then zeros
 //     word W in N     the four bytes of W go to a space of N bytes, each of them 7, then zeros
 // A batch answers with its status and value, `run`; if it is run, with those of each call; with the
 // words of the answer space after those, `answers`; and with `top`. `check`, `fresh` and `collect`
-// answer with status, value and `top`, a look with its two word numbers. The cells come last.
+// answer with status, value and `top`, a look with its two word numbers, a print with status, value
+// and length, then with the bytes of its space, `space`. The cells come last.
 #![allow(warnings)]
 mod build;
 mod bytes;
@@ -26,6 +29,7 @@ mod collect;
 mod meaning;
 mod serve;
 mod store;
+mod text;
 mod words;
 
 // Each call, by its number, with the places of its operands. CALL has any words.
@@ -174,6 +178,23 @@ impl Lent {
                 let s = format!("(lookSpan 16 {ws} {t} {r})");
                 let term = format!("{s} .from ∷ {s} .to ∷ []");
                 self.say(text, &[place.from as u32, place.to as u32], term);
+            }
+            ("nest", &[n]) => {
+                let calls = [3, 0, 0, 0].repeat(n as usize);
+                let mut answers = vec![7; 2 * n as usize];
+                let (list, space) = (list(&calls), answers.len());
+                let done = format!("(batch 16 {ws} {t} ({list}) (replicate {space} 7))");
+                let a = capi::zelmotar_run(&mut self.words, self.top, &calls, &mut answers);
+                self.left(a.top, done);
+            }
+            ("print", &[r, n]) => {
+                let mut space = vec![7; n as usize];
+                let a = capi::zelmotar_print(&self.words, self.top, r as usize, &mut space);
+                let p = format!("(printIn 16 {ws} {t} {r} {n})");
+                let term = format!("{p} .verdict .status ∷ {p} .verdict .value ∷ {p} .size ∷ []");
+                self.say(text, &[a.status, a.value as u32, a.length as u32], term);
+                let space: Vec<u32> = space.iter().map(|&b| b as u32).collect();
+                self.say("space", &space, format!("{p} .space"));
             }
             ("bytes", [n, first @ ..]) => program(*n as usize, first),
             ("word", &[w, n]) => self.word(w, n as usize),

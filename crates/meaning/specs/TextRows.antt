@@ -6,7 +6,6 @@ use Prim.Native.Nat.{ℕ, zero, suc, _+_, _-_}
 use lib.Dec.{eqb, T}
 use lib.ListN.{replicate}
 use Rattle.words.specs.Second.{bracketTo}
-use Rattle.meaning.specs.Limits.{depthLimit}
 use Rattle.meaning.specs.Fresh.{emptyRegisters}
 use Rattle.meaning.specs.Text.{Printed, printIn}
 use Rattle.meaning.specs.Rows.{same, verdictTest, p6, lone}
@@ -58,12 +57,12 @@ textRows F =
     prints (lone F 268435455) (1 + F) 0 9 0 0 9 (50 ∷ 54 ∷ 56 ∷ 52 ∷ 51 ∷ 53 ∷ 52 ∷ 53 ∷ 53 ∷ []) ∷
     prints (lone F 100000002) (1 + F) 0 9 0 0 9 (49 ∷ 48 ∷ 48 ∷ 48 ∷ 48 ∷ 48 ∷ 48 ∷ 48 ∷ 50 ∷ []) ∷
     prints (lone F 0) (1 + F) 0 2 0 0 1 (48 ∷ 0 ∷ []) ∷
-    -- T5: as many brackets as may be open, T6: one more
-    prints (nest F (depthLimit - 1)) (depthLimit + F) 0 128 0 0 128 (replicate 64 40 ++ replicate 64 41) ∷
-    prints (nest F depthLimit) (1 + depthLimit + F) 0 200 21 0 0 (replicate 200 0) ∷
+    -- T5: 64 brackets, T6: 65
+    prints (nest F 63) (64 + F) 0 128 0 0 128 (replicate 64 40 ++ replicate 64 41) ∷
+    prints (nest F 64) (65 + F) 0 200 21 0 0 (replicate 200 0) ∷
     -- T7: the same where its 65th byte does not fit either, and where the 64th does not
-    prints (nest F depthLimit) (1 + depthLimit + F) 0 64 21 0 0 (replicate 64 0) ∷
-    prints (nest F depthLimit) (1 + depthLimit + F) 0 63 22 0 0 (replicate 63 0) ∷
+    prints (nest F 64) (65 + F) 0 64 21 0 0 (replicate 64 0) ∷
+    prints (nest F 64) (65 + F) 0 63 22 0 0 (replicate 63 0) ∷
     -- T8: the last register, and one that is none
     prints (t1Store F) (5 + F) (F - 1) 1 0 0 0 (0 ∷ []) ∷
     prints (t1Store F) (5 + F) F 1 20 0 0 (0 ∷ []) ∷
