@@ -17,7 +17,7 @@
 enum { CHECK, FRESH, COLLECT, RUN, LOOK, PRINT, FUNCTIONS };
 
 static const char *const names[FUNCTIONS] = {"check", "fresh", "collect", "run", "look", "print"};
-static const size_t under[FUNCTIONS] = {128, 128, 192, 512, 128, 20480}; /* as zelmotar.h says */
+static const size_t under[FUNCTIONS] = {128, 128, 192, 512, 128, 13312}; /* as zelmotar.h says */
 
 static struct test_case c;
 static uint32_t words[MOST_STORE], answers[MOST_ANSWERS];

@@ -30,5 +30,5 @@ OneLook = (ws : List ℕ) (top i : ℕ) (r r′ : span.Span) → Places ws top i
 
 abbrev pub OnePrint : Type 0
 OnePrint =
-    (ws : List ℕ) (top i : ℕ) (out vs vs′ : List ℕ) (r r′ : Text) → Prints ws top i out r vs → Prints ws top i out r′ vs′
-    → (r ≡ r′) × (vs ≡ vs′)
+    (ws : List ℕ) (top i : ℕ) (out vs vs′ : List ℕ) (r r′ : Text)
+    → Prints ws top i out r vs → Prints ws top i out r′ vs′ → (r ≡ r′) × (vs ≡ vs′)

@@ -1,6 +1,6 @@
 // The store for C and Rust. A slice crosses as a pointer and a count of words or bytes. No enum and no slice can come
-// back: a reply is a struct of SCOPE's numbers (5), so is what printing gives, and a look is a place. Each exported function is one call of a proved
-// one, and takes whatever it is handed.
+// back: a reply is a struct of SCOPE's numbers (5), so is what printing gives, and a look is a place. Each exported
+// function is one call of a proved one, and takes whatever it is handed.
 use calls::Ran;
 use collect::Collected;
 use store::Checked;

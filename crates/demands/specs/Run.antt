@@ -85,8 +85,8 @@ RunMeets =
     (ws : List ℕ) (top : ℕ) (calls out : List ℕ) (r : Ran) (v a : List ℕ) → Runs ws top calls out r v a
     → BatchTable firstHeapCell ws top calls out (ranIn r v top a) × Running ws top calls out r v a
 
--- ---- a print: done, with a length, it leaves the text of what register i denotes and zeros after it; refused, it leaves
--- n zeros, as many as the text space has bytes
+-- ---- a print: done, with a length, it leaves the text of what register i denotes and zeros after it; refused, it
+-- leaves n zeros, as many as the text space has bytes
 
 abbrev pub Printing : List ℕ → ℕ → ℕ → ℕ → Printed → List ℕ → Type 0
 Printing ws top i n (printed.Done m) a =

@@ -1,10 +1,10 @@
 -- Demands 1 and 2, printing (SCOPE 2.4, 5.7): what a text is, what it meets as it is written, and every answer from its
 -- table. In order:
---   IsText               what is said of the text of expressions;  TextInWords, OneText  `text` is the one that it is said of
---   OneTooMany, Meets    a bracket that is one too many; what a text meets in a space, by the place of the first trouble
---   PrintTable           every answer is from its table, and every byte of the space is said;  PrintAnswers
---   PrintsAlike          a print goes by what the register denotes;  CollectionsUnprinted, AlikePrinted  so it shows no
---                        collection
+--   IsText              what is said of texts of expressions;  TextInWords, OneText  `text` alone is such
+--   OneTooMany, Meets   a bracket that is one too many;  what a text meets in a space, by the first place of trouble
+--   PrintTable          every answer is from its table, and every byte of the space is said;  PrintAnswers
+--   PrintsAlike         a print goes by what the register denotes;  CollectionsUnprinted, AlikePrinted  so it shows no
+--                       collection
 -- Assumes nothing.
 use mathlib.Core.Path.{_≡_}
 use mathlib.Core.Logic.{_≢_}

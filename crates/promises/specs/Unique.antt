@@ -1,5 +1,5 @@
--- One outcome: what the claims say of a check, a fresh store, a collection, a look, a batch, a print and the program leaves no
--- second answer, word or byte (SCOPE 8.5). The contracts of the code are equations, of answers by their
+-- One outcome: what the claims say of a check, a fresh store, a collection, a look, a batch, a print and the program
+-- leaves no second answer, word or byte (SCOPE 8.5). The contracts of the code are equations, of answers by their
 -- numbers and values: two outcomes of one equation are equal. Assumes nothing.
 use mathlib.Core.Path.{_≡_}
 use mathlib.Core.List.{List}

@@ -7,7 +7,7 @@
 --   register-bracketed, heap-termed   a sound store's registers and heap cells may be read
 --   register-inside, heap-inside      their words lie in the store
 -- Assumes nothing.
-use mathlib.Core.Path.{_≡_, refl, sym, ap, _∙_}
+use mathlib.Core.Path.{_≡_, sym, ap, _∙_}
 use mathlib.Core.Logic.{_≢_, _↔_}
 use mathlib.Core.Bool.{Bool, true, false}
 use mathlib.Core.List.{List}

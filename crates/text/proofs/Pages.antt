@@ -9,10 +9,9 @@
 use mathlib.Core.Path.{_≡_, refl, sym, ap, _∙_}
 use mathlib.Core.Logic.{_≢_}
 use mathlib.Core.Bool.{Bool, true, false, cond}
-use mathlib.Core.List.{List, [], _∷_, _++_, append-assoc, append-nil}
-use Prim.Native.Nat.{ℕ, zero, suc, _≤_, _<_}
+use mathlib.Core.List.{List, [], _∷_, _++_, append-assoc}
+use Prim.Native.Nat.{ℕ, zero, suc}
 use native.Mathlib.Omega.{arith}
-use lib.ListN.{length}
 use borrow.Author.Tests.{ne-eqb}
 use Rattle.bytes.specs.Decimal.{decimal}
 use Rattle.bytes.specs.Claims.{AllDigits}
@@ -69,15 +68,18 @@ module _ (g : Page) (h : g .space .short ≡ true) where
 
   pub writes-stopped : (left : ℕ) (xs : List ℕ) → writes left xs g ≡ g
   writes-stopped left [] = refl
-  writes-stopped left (x ∷ xs) = ap (writes (leftAfter left x) xs) (next-same left x) ∙ writes-stopped (leftAfter left x) xs
+  writes-stopped left (x ∷ xs) =
+      ap (writes (leftAfter left x) xs) (next-same left x) ∙ writes-stopped (leftAfter left x) xs
 
 stopped-short : (g : Page) → stopped g .space .short ≡ true
 unfolding stopped
 stopped-short g = go (g .space .short) refl
   where
     go : (t : Bool) → g .space .short ≡ t
-        → cond t g (record { space = record { bytes = g .space .bytes; place = g .space .place; short = true }; deep = true })
-        .space .short ≡ true
+        → cond t g (record {
+          space = record { bytes = g .space .bytes; place = g .space .place; short = true };
+          deep = true;
+        }) .space .short ≡ true
     go true e = e
     go false e = refl
 

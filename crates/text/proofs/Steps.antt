@@ -1,14 +1,16 @@
 -- What the term writer and the expression writer do, step by step; t has the terms of the cells. In order:
---   gap-none, gap-one                         the space before a term
---   symbol-written, deep-stopped, bracket-written   a term: a symbol, a bracket that is one too many, any other
---   Left                                      what is left of an expression, where i of its terms are written
---   begun, one-more, left-stopped, left-none  the loop over its cells
---   terms-are, inside-is, heap-within, register-within   the terms of cells in a sound store, and those in a bracket
+--   with-space, stop-short, stop-here                a page by its space;  the end before a bracket
+--   gap-none, gap-one                                the space before a term
+--   symbol-written, deep-stopped, bracket-written    a term: a symbol, a bracket that is one too many, any other
+--   Left, Rest                                       what is left of an expression, where i of its terms are written
+--   begun, one-more, left-stopped, left-none         the loop over its cells
+--   term-filled, symbol-arm, bracket-arm             the term of a cell in a sound store, by the arms of a `match`
+--   register-within, register-is                     the cells of a register, and what it denotes
 -- Assumes nothing.
 use mathlib.Core.Path.{_≡_, refl, sym, ap, _∙_, subst}
 use mathlib.Core.Logic.{_≢_}
 use mathlib.Core.Bool.{Bool, true, false, true≢false}
-use mathlib.Core.List.{List, [], _∷_, _++_, append-nil}
+use mathlib.Core.List.{List, [], _∷_, _++_}
 use Prim.Native.Nat.{ℕ, zero, suc, _+_, _-_, _≤_, _<_}
 use native.Mathlib.Omega.{arith}
 use Rattle.bytes.specs.Decimal.{decimal}
@@ -19,7 +21,7 @@ use Rattle.meaning.specs.Expr.{Expr, nothing, symbol, parens, append, terms}
 use Rattle.meaning.specs.Sound.{Cell, code, empty, ends, at, Sound, start, size}
 use Rattle.meaning.specs.Meaning.{run, inside, termOf, termAt, meaning}
 use Rattle.meaning.specs.Text.{text}
-use Rattle.meaning.proofs.sound.Cells.{TermIn, BracketIn, good, term-of-bracket}
+use Rattle.meaning.proofs.sound.Cells.{TermIn, good, term-of-bracket}
 use Rattle.meaning.proofs.actions.Writing.{term-law}
 use Rattle.meaning.proofs.text.Texts.{tail, text-append, gap-append, termOf-filled}
 use Rattle.store.specs.Holds.{RunIs, isCode, termIs}
@@ -29,7 +31,8 @@ use Rattle.store.specs.declared.Run.{Run}
 use Rattle.store.proofs.Sounds.{firstHeapCell-pos}
 use Rattle.store.proofs.Held.{symbol-is, bracket-is}
 use Rattle.text.specs.Page.{Page, plain, written, stopped, between, writes, Within}
-use Rattle.text.proofs.Pages.{writes-stopped, writes-space, writes-digits, writes-deep, writes-bracket, writes-text}
+use Rattle.text.proofs.Pages.{writes-stopped, writes-space, writes-digits, writes-deep, writes-bracket}
+use Rattle.text.proofs.Pages.{writes-text}
 
 -- ---- a page by its space
 
@@ -42,7 +45,8 @@ unfolding stopped
 stop-short g e = rw e refl
 
 pub stop-here : (g : Page) → g .space .short ≡ false
-    → record { space = record { bytes = g .space .bytes; place = g .space .place; short = true }; deep = true } ≡ stopped g
+    → record { space = record { bytes = g .space .bytes; place = g .space .place; short = true }; deep = true }
+    ≡ stopped g
 unfolding stopped
 stop-here g e = rw e refl
 

@@ -1,5 +1,4 @@
--- What has to be believed of `text` beside `meaning`: Answers, and that no statement leaves a second outcome, Unique. Page
--- is for the proofs. In order:
+-- What has to be believed of `text` beside `meaning`: Answers and the claim of Unique. Page is for proofs. In order:
 --   Answers  SCOPE's number and values for each case of an answer
 --   Page     a text space that is written from left to right, up to the first trouble
 --   Unique   the claim that no statement leaves a second outcome

@@ -1,10 +1,10 @@
--- A text space that is written from left to right, up to the first trouble: what the writers do, byte by byte. In order:
---   Page, page          the space, and whether it stopped before a bracket that is one too many
---   plain, written, stopped   a byte; bytes that are no brackets; the end before such a bracket
---   next, writes        a byte of a text, by whether it opens a bracket;  a text
---   between             the space before a term
---   ended               what comes of a text that is written as far as it goes
---   Within              which cells an expression may have
+-- A text space that is written from left to right up to the first trouble: what the writers do, byte by byte. In order:
+--   Page, page, blank         the space, and whether it stopped before a bracket that is one too many
+--   plain, written, stopped   a byte;  bytes that are no brackets;  the end before such a bracket
+--   next, writes              a byte of a text, by whether it opens a bracket;  a text
+--   between                   the space before a term
+--   ended                     what comes of a text that is written as far as it goes
+--   Within                    which cells an expression may have
 -- Assumes nothing.
 use mathlib.Core.Bool.{Bool, true, false, cond}
 use mathlib.Core.List.{List, [], _∷_}

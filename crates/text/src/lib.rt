@@ -1,7 +1,7 @@
 // Text for the service desk (SCOPE 2.4, 5.7): a register printed into a space of bytes that the caller lends.
 //
-// The text is written from left to right, each byte once, up to the first trouble: a byte that does not fit, or a bracket
-// that is one too many. Then the whole space becomes zero.
+// The text is written from left to right, each byte once, up to the first trouble: a byte that does not fit, or a
+// bracket that is one too many. Then the whole space becomes zero.
 ghost use mathlib.Core.Path.{_≡_};
 ghost use mathlib.Core.List.{[]};
 ghost use Prim.Native.Nat.{_<_};

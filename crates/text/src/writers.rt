@@ -1,7 +1,8 @@
 // The term writer and the expression writer, which call each other: from an expression to a bracket term, and to the
 // expression in the bracket. The brackets that may still be open fall from one expression to the next inside it, and
-// within one the cells left; so the stack goes as deep as brackets may nest, whatever the store. Where a byte did not fit
-// or a bracket is one too many, nothing more is written and every loop is left, so the time is that of the bytes written.
+// within one the cells left; so the stack goes as deep as brackets may nest, whatever the store. Where a byte did not
+// fit or a bracket is one too many, nothing more is written and every loop is left, so the time goes with the bytes
+// that are written.
 ghost use mathlib.Core.Path.{_≡_};
 ghost use mathlib.Core.List.{List};
 ghost use Prim.Native.Nat.{ℕ, _≤_, _<_};

@@ -5,18 +5,16 @@
 --   met-once                  a text meets one thing
 -- Assumes nothing.
 use mathlib.Core.Path.{_≡_, refl, sym, ap, ap₂, _∙_}
-use mathlib.Core.Logic.{_⊎_, inl, inr, _≢_}
+use mathlib.Core.Logic.{_≢_}
 use mathlib.Core.Bool.{Bool, true, false, cond, _&&_, false≢true}
 use mathlib.Core.List.{List, [], _∷_, _++_}
-use Prim.Native.Nat.{ℕ, zero, suc, _+_, _-_, _≤_, _<_}
+use Prim.Native.Nat.{ℕ, zero, suc, _+_, _-_, _<_}
 use native.Mathlib.Omega.{arith}
 use lib.Dec.{eqb}
-use lib.ListN.{length, getD, take}
+use lib.ListN.{take}
 use borrow.Author.Tests.{eqb-true, eqb-false, eq-eqb, ne-eqb}
-use Rattle.bytes.specs.Decimal.{decimal}
 use Rattle.meaning.specs.Expr.{Expr, nothing, symbol, parens, append, terms}
 use Rattle.meaning.specs.Text.{text, leftAfter, tooDeep, trouble}
-use Rattle.meaning.proofs.Lists.{lt-or-ge}
 use Rattle.meaning.proofs.text.Texts.{text-one, text-joined}
 use Rattle.promises.specs.Table.{Not}
 use Rattle.promises.specs.Printing.{IsText, TextInWords, OneText, count, OneTooMany, Meets, deep, long, fits}
@@ -127,7 +125,8 @@ pub meets : (left n : ℕ) (bs : List ℕ) → Meets left n bs (trouble left n b
 meets left n [] = fits (omega arith) (λ j m. omega (arith, m .0))
 meets left n (b ∷ bs) = go (tooDeep left b) n refl (λ k. meets (leftAfter left b) k bs)
   where
-    go : (t : Bool) (k : ℕ) → tooDeep left b ≡ t → ((j : ℕ) → Meets (leftAfter left b) j bs (trouble (leftAfter left b) j bs))
+    go : (t : Bool) (k : ℕ) → tooDeep left b ≡ t
+        → ((j : ℕ) → Meets (leftAfter left b) j bs (trouble (leftAfter left b) j bs))
         → Meets left k (b ∷ bs) (cond t 21 (cond (eqb k 0) 22 (trouble (leftAfter left b) (k - 1) bs)))
     go true k e r =
         let d = deep-is left b e in

@@ -3,16 +3,16 @@
 --   prints-once     one verdict;  one-print  one answer
 --   prints-alike, collections-unprinted, alike-printed   stores that print alike
 -- Assumes nothing.
-use mathlib.Core.Path.{_≡_, refl, sym, ap, _∙_, subst}
+use mathlib.Core.Path.{_≡_, refl, sym, ap, _∙_}
 use mathlib.Core.Logic.{_⊎_, inl, inr, _≢_}
-use mathlib.Core.List.{List, [], _∷_, _++_}
-use Prim.Native.Nat.{ℕ, zero, suc, _+_, _-_, _≤_, _<_}
+use mathlib.Core.List.{List, [], _∷_}
+use Prim.Native.Nat.{ℕ, zero, suc, _-_, _≤_, _<_}
 use native.Mathlib.Omega.{arith}
-use lib.ListN.{length, replicate}
+use lib.ListN.{replicate}
 use Rattle.bytes.specs.Space.{filled}
 use Rattle.bytes.proofs.Final.{filled-fits}
 use Rattle.meaning.specs.Limits.{depthLimit}
-use Rattle.meaning.specs.Sound.{capacity, Sound}
+use Rattle.meaning.specs.Sound.{Sound}
 use Rattle.meaning.specs.Meaning.{meaning}
 use Rattle.meaning.specs.Reach.{live}
 use Rattle.meaning.specs.Collected.{collected, collectedTop}
@@ -148,8 +148,10 @@ collections-unprinted F p ws top i n s = go (lt-or-ge i F)
     k = collecting-keeps F p ws top s
 
     go : (i < F) ⊎ (F ≤ i) → printIn F (collected F ws top) (collectedTop F ws top) i n ≡ printIn F ws top i n
-    go (inl h) = prints-alike F (collected F ws top) (collectedTop F ws top) ws top i n (k .sound) s (k .expressions i h)
-    go (inr h) = print-none F (collected F ws top) (collectedTop F ws top) i n (k .sound) h ∙ sym (print-none F ws top i n s h)
+    go (inl h) =
+        prints-alike F (collected F ws top) (collectedTop F ws top) ws top i n (k .sound) s (k .expressions i h)
+    go (inr h) =
+        print-none F (collected F ws top) (collectedTop F ws top) i n (k .sound) h ∙ sym (print-none F ws top i n s h)
 
 pub alike-printed : AlikePrinted
 alike-printed F p ws top ws′ top′ i n s s′ c a =

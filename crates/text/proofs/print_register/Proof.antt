@@ -1,5 +1,5 @@
 -- `text::print_register` meets its contract. Assumes nothing.
-use mathlib.Core.Path.{refl, _∙_}
+use mathlib.Core.Path.{_∙_}
 use Rattle.meaning.specs.Limits.{depthLimit}
 use Rattle.store.proofs.Registers.{readable}
 use Rattle.text.proofs.Steps.{register-within}

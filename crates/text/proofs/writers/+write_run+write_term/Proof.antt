@@ -1,6 +1,6 @@
--- The proof of `text::writers::write_run` and `write_term`, which call each other. The measure is twice the brackets that
--- may still be open, and one more for an expression: it falls from an expression to its terms, and from a term to the
--- expression in it. Assumes nothing.
+-- The proof of `text::writers::write_run` and `write_term`, which call each other. The measure is twice the brackets
+-- that may still be open, and one more for an expression: it falls from an expression to its terms, and from a term to
+-- the expression in it. Assumes nothing.
 use mathlib.Core.Path.{_≡_, refl, _∙_}
 use Prim.Native.Nat.{ℕ, _+_, _-_, _*_, _≤_, _<_}
 use native.Mathlib.Omega.{arith}
@@ -12,8 +12,8 @@ use Rattle.meaning.specs.Meaning.{run, termAt}
 use Rattle.meaning.specs.Text.{text}
 use Rattle.store.proofs.Sounds.{heap-inside, heap-termed}
 use Rattle.text.specs.Page.{page, writes}
-use Rattle.text.proofs.Steps.{Rest, begun, one-more, left-stopped, left-none, term-filled, symbol-arm, bracket-arm}
-use Rattle.text.proofs.Steps.{symbol-written, deep-stopped, bracket-written}
+use Rattle.text.proofs.Steps.{Rest, begun, one-more, left-stopped, left-none, term-filled}
+use Rattle.text.proofs.Steps.{symbol-arm, bracket-arm, symbol-written, deep-stopped, bracket-written}
 use Rattle.text.proofs.writers.write_run.Reads as write-run
 use Rattle.text.proofs.writers.write_run.Kinds as write-run-kinds
 use Rattle.text.proofs.writers.+write_run+write_term.Lts-write_run as write-run-lts
@@ -71,11 +71,13 @@ pub +write-run+write-term-spec : {M : Type 1} → statement M
     -- one term more
     (λ c κs. tt)
     (λ c.
-    let s = c .before .before .before .before .before .before .before .before .before in
-    omega (arith, s .pre .1 .1 (c .before .before .before .before .before .before .loop .i) (c .before .before .before .before .before .loop-test .taken)))
+    let test = c .before .before .before .before .before in
+    let s = test .before .before .before .before in
+    omega (arith, s .pre .1 .1 (test .before .loop .i) (test .loop-test .taken)))
     (λ c κs.
-    let s = c .before .before .before .before .before .before .before .before .before .before in
-    let w = s .pre .1 .1 (c .before .before .before .before .before .before .before .loop .i) (c .before .before .before .before .before .before .loop-test .taken) in
+    let test = c .before .before .before .before .before .before in
+    let s = test .before .before .before .before in
+    let w = s .pre .1 .1 (test .before .loop .i) (test .loop-test .taken) in
     (omega (arith, s .pre .0), (s .pre .1 .0, w .0, w .1)))
     (λ c. omega (arith, c .before .before .before .before .before .before .before .before .before .loop-test .taken))
     (λ c. omega (arith, c .before .before .before .before .before .before .before .before .before .loop-test .taken))
@@ -135,11 +137,17 @@ pub +write-run+write-term-spec : {M : Type 1} → statement M
     symbol-written _ _ _ _ _ (symbol-arm _ _ (p .0) _ (p .1) (p .2) (found .ensures) (m .code .given .1))
     (c .before .before .put-code .ensures))
     -- a bracket
-    (λ c. c .before .before .put2 .kept .0 ∙ (c .before .before .before .before .before .before .write-run .kept .1 .1 .1 .1 .1 .0 ∙ c .before .before .before .before .before .before .before .before .before .before .put .kept .0))
     (λ c.
-    let m = c .before .before .before .before .before .before .before .before .before .before .before .before .before .before in
+    let run = c .before .before .before .before .before .before in
+    c .before .before .put2 .kept .0
+    ∙ (run .write-run .kept .1 .1 .1 .1 .1 .0 ∙ run .before .before .before .before .put .kept .0))
+    (λ c.
+    let run = c .before .before .before .before .before .before in
+    let put = run .before .before .before .before in
+    let if1 = put .before .before in
+    let m = if1 .before .before in
     let found = m .before .before .term-at in
     let p = m .before .before .before .before .before .pre .1 in
     let x = bracket-arm _ _ (p .0) _ (p .1) (p .2) (found .ensures) (m .inside .given .1) in
-    bracket-written _ _ _ _ _ _ _ (x .0) (c .before .before .before .before .before .before .before .before .before .before .before .before .if1 .left) (c .before .before .before .before .before .before .before .before .before .before .put .ensures) (c .before .before .before .before .before .before .write-run .ensures)
+    bracket-written _ _ _ _ _ _ _ (x .0) (if1 .if1 .left) (put .put .ensures) (run .write-run .ensures)
     (c .before .before .put2 .ensures)))
