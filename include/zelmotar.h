@@ -41,8 +41,7 @@
  *     its time keeps within what the text space allows.
  *   - Stack. zelmotar_print uses under 13,312 bytes where 64 brackets are open, and 192 less for each that is not;
  *     zelmotar_run uses under 512, zelmotar_collect under 192, the others under 128, memset's own included: measured on
- *     x86-64 and 64-bit Arm by painting the stack (tests/c/stack.c), zelmotar_print on Arm alone so far. It does not
- *     grow with the store.
+ *     x86-64 and 64-bit Arm by painting the stack (tests/c/stack.c). It does not grow with the store.
  */
 #ifndef ZELMOTAR_H
 #define ZELMOTAR_H
