@@ -160,7 +160,7 @@ module _ (t out : List ℕ) where
       omega (arith, length-append t (drop (length t) out), length-drop (length t) out) in
       rw (write-fits t out h, k, take-at t (drop (length t) out) (length t) refl) refl
 
-  pub ended-printed : ended (writes depthLimit t (blank out)) ≡ printed t n
+  ended-printed : ended (writes depthLimit t (blank out)) ≡ printed t n
   ended-printed =
       go (trouble depthLimit (n - 0) t) (writes depthLimit t (blank out)) refl (writes-length depthLimit t (blank out))
       (fate depthLimit t (space.blank out) refl (omega arith))

@@ -1,10 +1,11 @@
 -- Laws of a text that is written byte by byte. In order:
---   next-plain, next-close, next-open, next-deep    one byte, by whether it opens a bracket
---   left-plain, left-close, left-open               how many more brackets may be open after it
---   writes-stopped                                  nothing more is written
---   writes-space, writes-digits                     a space; digits, as bytes are written
---   writes-bracket                                  a bracket around a text
---   writes-text                                     the text of an expression, then other bytes
+--   next-plain, next-open, next-deep      one byte, by whether it opens a bracket
+--   left-plain, left-close, left-open     how many more brackets may be open after it
+--   writes-stopped, stopped-short         nothing more is written
+--   writes-plain, -space, -digits         bytes that are no brackets
+--   writes-close, -open, -deep            brackets
+--   Apart                                 what is written behind a text has as many brackets to open as the text had
+--   writes-bracket, writes-text           a bracket around such a text;  the text of an expression is such
 -- Assumes nothing.
 use mathlib.Core.Path.{_≡_, refl, sym, ap, _∙_}
 use mathlib.Core.Logic.{_≢_}
@@ -85,7 +86,7 @@ stopped-short g = go (g .space .short) refl
 
 -- ---- bytes that are no brackets
 
-pub writes-plain : (left b : ℕ) (xs : List ℕ) (g : Page) → b ≢ 40 → b ≢ 41
+writes-plain : (left b : ℕ) (xs : List ℕ) (g : Page) → b ≢ 40 → b ≢ 41
     → writes left (b ∷ xs) g ≡ writes left xs (plain b g)
 writes-plain left b xs g m n = rw (left-plain left b m n, next-plain left b g m) refl
 
@@ -103,10 +104,10 @@ writes-digits left (x ∷ xs) ys g h =
 
 -- ---- brackets
 
-pub writes-close : (left : ℕ) (xs : List ℕ) (g : Page) → writes left (41 ∷ xs) g ≡ writes (suc left) xs (plain 41 g)
+writes-close : (left : ℕ) (xs : List ℕ) (g : Page) → writes left (41 ∷ xs) g ≡ writes (suc left) xs (plain 41 g)
 writes-close left xs g = rw (left-close left, next-plain left 41 g (λ e. omega arith)) refl
 
-pub writes-open : (left : ℕ) (xs : List ℕ) (g : Page)
+writes-open : (left : ℕ) (xs : List ℕ) (g : Page)
     → writes (suc left) (40 ∷ xs) g ≡ writes left xs (plain 40 g)
 writes-open left xs g = rw (left-open left, next-open left g) refl
 

@@ -1,8 +1,9 @@
 -- Laws of the text of an expression. In order:
---   tail, tail-append           what stands behind a term: the text of the rest, with its space
---   text-append                 one expression behind another
---   gap-filled, text-one, text-brackets, text-joined   the text by what is in the expression
---   termOf-filled               a cell's term is one term
+--   tail, tail-append        what stands behind a term: the text of the rest, with its space
+--   text-append              an expression, and another behind it
+--   gap-filled, gap-append   the space before an expression that is not empty
+--   text-one, text-joined    a symbol;  two rows of terms
+--   termOf-filled            a cell's term is one term
 -- Assumes nothing.
 use mathlib.Core.Path.{_≡_, refl, sym, ap, _∙_}
 use mathlib.Core.List.{List, [], _∷_, _++_, append-assoc, append-nil}
@@ -18,7 +19,7 @@ use Rattle.meaning.specs.Text.{gap, text}
 abbrev pub tail : Expr → List ℕ
 tail e = gap e ++ text e
 
-pub tail-append : (e f : Expr) → tail (append e f) ≡ tail e ++ tail f
+tail-append : (e f : Expr) → tail (append e f) ≡ tail e ++ tail f
 tail-append nothing f = refl
 tail-append (symbol a r) f =
     ap (λ (t : List ℕ). 32 ∷ (decimal a ++ t)) (tail-append r f)
@@ -36,7 +37,7 @@ text-append (parens i r) f h =
     ap (λ (t : List ℕ). 40 ∷ (text i ++ (41 ∷ t))) (tail-append r f)
     ∙ ap (λ (t : List ℕ). 40 ∷ t) (sym (append-assoc (text i) (41 ∷ tail r) (tail f)))
 
-pub gap-filled : (e : Expr) → 0 < terms e → gap e ≡ 32 ∷ []
+gap-filled : (e : Expr) → 0 < terms e → gap e ≡ 32 ∷ []
 gap-filled nothing h = absurd (omega arith)
 gap-filled (symbol a r) h = refl
 gap-filled (parens i r) h = refl

@@ -1,8 +1,10 @@
 -- What a text meets as it is written, by the place of the first trouble. In order:
---   text-in-words, one-text   the text of an expression
---   many-here, many-later, many-tail   a bracket that is one too many: the first byte, or a later one
---   meets                     the trouble of the definition is what is met
---   met-once                  a text meets one thing
+--   text-in-words, one-text          the text of an expression
+--   deep-is, not-deep                the test of the definition at one byte
+--   many-here, none-here             whether the first byte opens one bracket too many
+--   balance, later, back, up-to      and a later one, by the bytes behind the first
+--   meets                            the trouble of the definition is what is met
+--   met-once                         a text meets one thing
 -- Assumes nothing.
 use mathlib.Core.Path.{_≡_, refl, sym, ap, ap₂, _∙_}
 use mathlib.Core.Logic.{_≢_}
@@ -50,13 +52,6 @@ one-text t h (parens i r) =
     rest-joined t h (parens i nothing) r (omega arith) (one-bracket t h i (one-text t h i)) (one-text t h r) refl
 
 -- ---- a bracket that is one too many
-
--- where the byte b comes before others
-count-same : (b : ℕ) (xs : List ℕ) → count b (b ∷ xs) ≡ suc (count b xs)
-count-same b xs = rw (eq-eqb b b refl) refl
-
-count-other : (b x : ℕ) (xs : List ℕ) → x ≢ b → count b (x ∷ xs) ≡ count b xs
-count-other b x xs n = rw (ne-eqb x b n) refl
 
 -- the byte that opens too many brackets is 40, where no more may be open
 deep-is : (left b : ℕ) → tooDeep left b ≡ true → (b ≡ 40) × (left ≡ 0)
