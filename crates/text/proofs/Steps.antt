@@ -2,7 +2,8 @@
 --   with-space, stop-short, stop-here                a page by its space;  the end before a bracket
 --   gap-none, gap-one                                the space before a term
 --   symbol-written, deep-stopped, bracket-written    a term: a symbol, a bracket that is one too many, any other
---   Left, Rest                                       what is left of an expression, where i of its terms are written
+--   unwritten, finished                              what is left of an expression where i of its terms are written, and
+--                                                    the page with it
 --   begun, one-more, left-stopped, left-none         the loop over its cells
 --   term-filled, symbol-arm, bracket-arm             the term of a cell in a sound store, by the arms of a `match`
 --   register-within, register-is                     the cells of a register, and what it denotes
@@ -80,12 +81,12 @@ module _ (left : ℕ) (x : Expr) (g : Page) where
 -- ---- the loop over the cells of an expression
 
 -- the bytes of what is left of an expression, where i of its terms are written
-abbrev pub Left : ℕ → Expr → List ℕ
-Left zero e = text e
-Left (suc i) e = tail e
+abbrev pub unwritten : ℕ → Expr → List ℕ
+unwritten zero e = text e
+unwritten (suc i) e = tail e
 
 left-more : (left i : ℕ) (x e : Expr) (g g₁ g₂ : Page) → 0 < terms x → g₁ ≡ between i g → g₂ ≡ writes left (text x) g₁
-    → writes left (Left i (append x e)) g ≡ writes left (tail e) g₂
+    → writes left (unwritten i (append x e)) g ≡ writes left (tail e) g₂
 left-more left zero x e g g₁ g₂ h p q =
     ap (λ (t : List ℕ). writes left t g) (text-append x e h)
     ∙ (writes-text x left (tail e) g ∙ ap (writes left (tail e)) (rw (q, p) refl))
@@ -95,28 +96,28 @@ left-more left (suc i) x e g g₁ g₂ h p q =
     ∙ (writes-text x left (tail e) (plain 32 g) ∙ ap (writes left (tail e)) (rw (q, p) refl)))
 
 module _ (left : ℕ) (t : ℕ → Expr) (l n : ℕ) where
-  -- what is left to write from the page g on
-  abbrev pub Rest : ℕ → Page → Page
-  Rest i g = writes left (Left i (run t (l + i) (n - i))) g
+  -- the page g once what is left is written
+  abbrev pub finished : ℕ → Page → Page
+  finished i g = writes left (unwritten i (run t (l + i) (n - i))) g
 
-  pub begun : (g : Page) → Rest 0 g ≡ writes left (text (run t l n)) g
+  pub begun : (g : Page) → finished 0 g ≡ writes left (text (run t l n)) g
   begun g = let e : l + 0 ≡ l = omega arith in let f : n - 0 ≡ n = omega arith in rw (e, f) refl
 
   pub one-more : (i : ℕ) (g g₁ g₂ x : Page) → i < n → 0 < terms (t (l + i)) → g₁ ≡ between i g
-      → g₂ ≡ writes left (text (t (l + i))) g₁ → Rest i g ≡ x → Rest (i + 1) g₂ ≡ x
+      → g₂ ≡ writes left (text (t (l + i))) g₁ → finished i g ≡ x → finished (i + 1) g₂ ≡ x
   one-more i g g₁ g₂ x h s p q k =
       let a : n - i ≡ suc (n - suc i) = omega arith in
       let b : i + 1 ≡ suc i = omega arith in
       let c : l + suc i ≡ suc (l + i) = omega arith in
       rw (b, c) (sym (left-more left i (t (l + i)) (run t (suc (l + i)) (n - suc i)) g g₁ g₂ s p q) ∙ (rw a at k))
 
-  pub left-stopped : (i : ℕ) (g x : Page) → g .space .short ≡ true → Rest i g ≡ x → g ≡ x
-  left-stopped i g x h k = sym (writes-stopped g h left (Left i (run t (l + i) (n - i)))) ∙ k
+  pub left-stopped : (i : ℕ) (g x : Page) → g .space .short ≡ true → finished i g ≡ x → g ≡ x
+  left-stopped i g x h k = sym (writes-stopped g h left (unwritten i (run t (l + i) (n - i)))) ∙ k
 
-  pub left-none : (i : ℕ) (g x : Page) → n ≤ i → Rest i g ≡ x → g ≡ x
+  pub left-none : (i : ℕ) (g x : Page) → n ≤ i → finished i g ≡ x → g ≡ x
   left-none i g x h k = let e : n - i ≡ 0 = omega arith in go i (rw e at k)
     where
-      go : (j : ℕ) → writes left (Left j nothing) g ≡ x → g ≡ x
+      go : (j : ℕ) → writes left (unwritten j nothing) g ≡ x → g ≡ x
       go zero k = k
       go (suc j) k = k
 

@@ -12,7 +12,7 @@ use Rattle.meaning.specs.Meaning.{run, termAt}
 use Rattle.meaning.specs.Text.{text}
 use Rattle.store.proofs.Sounds.{heap-inside, heap-termed}
 use Rattle.text.specs.Page.{page, writes}
-use Rattle.text.proofs.Steps.{Rest, begun, one-more, left-stopped, left-none, term-filled}
+use Rattle.text.proofs.Steps.{finished, begun, one-more, left-stopped, left-none, term-filled}
 use Rattle.text.proofs.Steps.{symbol-arm, bracket-arm, symbol-written, deep-stopped, bracket-written}
 use Rattle.text.proofs.writers.write_run.Reads as write-run
 use Rattle.text.proofs.writers.write_run.Kinds as write-run-kinds
@@ -50,7 +50,7 @@ write-term-below t = and 2 write-term-kinds.ps (falls 2 write-term-kinds.ps _<_ 
 abbrev Inv-loop : write-run-lts.InvT-loop
 Inv-loop ws top l n left out₀ next₀ i₀ out next i =
     (i ≤ n) × (length out ≡ length out₀)
-    × (Rest left (termAt ws) l n i (page out next) ≡ writes left (text (run (termAt ws) l n)) (page out₀ next₀))
+    × (finished left (termAt ws) l n i (page out next) ≡ writes left (text (run (termAt ws) l n)) (page out₀ next₀))
 
 abbrev μ-loop : write-run-lts.MeasureT-loop
 μ-loop ws top l n left out₀ next₀ i₀ out next i = n - i
