@@ -2,8 +2,8 @@
 --   with-space, stop-short, stop-here                a page by its space;  the end before a bracket
 --   gap-none, gap-one                                the space before a term
 --   symbol-written, deep-stopped, bracket-written    a term: a symbol, a bracket that is one too many, any other
---   unwritten, finished                              what is left of an expression where i of its terms are written, and
---                                                    the page with it
+--   unwritten, finished                              what is left of an expression where i of its terms are written,
+--                                                    and the page once it is
 --   begun, one-more, left-stopped, left-none         the loop over its cells
 --   term-filled, symbol-arm, bracket-arm             the term of a cell in a sound store, by the arms of a `match`
 --   register-within, register-is                     the cells of a register, and what it denotes
