@@ -41,7 +41,7 @@ use Rattle.text.proofs.Final.{one-print}
 use Rattle.promises.specs.Table.{Not, CheckTable, FreshTable, LookTable, CollectTable, BatchTable}
 use Rattle.promises.specs.Collecting.{CollectedFrom}
 use Rattle.promises.specs.Calls.{BatchRun}
-use Rattle.promises.specs.Printing.{Prints, unsound, noRegister, written, PrintTable}
+use Rattle.promises.specs.Printing.{PrintedAs, unsound, noRegister, written, PrintTable}
 use Rattle.promises.proofs.Final.{check-answers, fresh-answers, look-answers, collect-answers, batch-answers}
 use Rattle.promises.proofs.Final.{collecting-keeps, batches-run, print-answers, alike-printed}
 use Rattle.demands.specs.Run.{CheckMeets, FreshMeets, LookMeets, SpanMeets, Collecting, CollectMeets}
@@ -151,7 +151,7 @@ run-meets ws top calls out r v a h =
 -- ---- a print
 
 -- a print that is done is one of a register of a sound store
-print-sound : (ws : List ℕ) (top i n : ℕ) (v : Verdict) → v .status ≡ 0 → Prints firstHeapCell ws top i n v
+print-sound : (ws : List ℕ) (top i n : ℕ) (v : Verdict) → v .status ≡ 0 → PrintedAs firstHeapCell ws top i n v
     → Sound firstHeapCell ws top × (i < firstHeapCell)
 print-sound ws top i n v e (unsound _ j z) = absurd (z e)
 print-sound ws top i n v e (noRegister s h) = absurd (omega (arith, e))

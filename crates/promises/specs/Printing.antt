@@ -2,7 +2,8 @@
 -- table. In order:
 --   IsText              what is said of texts of expressions;  TextInWords, OneText  `text` alone is such
 --   OneTooMany, Meets   a bracket that is one too many;  what a text meets in a space, by the first place of trouble
---   PrintTable          every answer is from its table, and every byte of the space is said;  PrintAnswers
+--   PrintedAs           the verdict, by cases;  PrintTable, PrintAnswers  every answer is from its table, and says every
+--                       byte of the space
 --   PrintsAlike         a print goes by what the register denotes;  CollectionsUnprinted, AlikePrinted  so it shows no
 --                       collection
 -- Assumes nothing.
@@ -62,16 +63,17 @@ pub data Meets (d n : ℕ) (bs : List ℕ) : ℕ → Type 0 where
 
 -- ---- printing
 
-pub data Prints (F : ℕ) (ws : List ℕ) (top i n : ℕ) : Verdict → Type 0 where
-  unsound : (v : Verdict) → Judged F ws top v → v .status ≢ 0 → Prints F ws top i n v
-  noRegister : Sound F ws top → F ≤ i → Prints F ws top i n (only 20)
+-- the status and value, by what comes first: the check's, 20, or what the register's text meets
+pub data PrintedAs (F : ℕ) (ws : List ℕ) (top i n : ℕ) : Verdict → Type 0 where
+  unsound : (v : Verdict) → Judged F ws top v → v .status ≢ 0 → PrintedAs F ws top i n v
+  noRegister : Sound F ws top → F ≤ i → PrintedAs F ws top i n (only 20)
   written : (s : ℕ) → Sound F ws top → i < F → Meets depthLimit n (text (meaning ws i)) s
-      → Prints F ws top i n (only s)
+      → PrintedAs F ws top i n (only s)
 
 pub record PrintTable (F : ℕ) (ws : List ℕ) (top i n : ℕ) (r : Printed) : Type 0 where
   pub number : OneOf (r .verdict .status) (0 ∷ 1 ∷ 2 ∷ 3 ∷ 20 ∷ 21 ∷ 22 ∷ [])
   pub value : r .verdict .status ≢ 3 → r .verdict .value ≡ 0
-  pub prints : Prints F ws top i n (r .verdict)
+  pub prints : PrintedAs F ws top i n (r .verdict)
   -- the whole text, and zeros after it
   pub whole : r .verdict .status ≡ 0
       → (r .size ≡ length (text (meaning ws i)))

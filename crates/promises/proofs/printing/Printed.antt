@@ -24,7 +24,7 @@ use Rattle.meaning.proofs.check.Checking.{check-sound, sound-check}
 use Rattle.meaning.proofs.text.Printing.{print-register, print-none, print-unsound, whole, troubled}
 use Rattle.promises.specs.Table.{OneOf, Judged}
 use Rattle.promises.specs.Collecting.{CollectedFrom}
-use Rattle.promises.specs.Printing.{Meets, deep, long, fits, Prints, unsound, noRegister, written, PrintTable}
+use Rattle.promises.specs.Printing.{Meets, deep, long, fits, PrintedAs, unsound, noRegister, written, PrintTable}
 use Rattle.promises.specs.Printing.{PrintAnswers, PrintsAlike, CollectionsUnprinted, AlikePrinted}
 use Rattle.promises.specs.Unique.{OnePrint}
 use Rattle.promises.proofs.table.Rules.{judged, judged-number, judged-value}
@@ -39,7 +39,7 @@ zeros n = let z : n - 0 ≡ n = omega arith in filled-fits n [] (omega arith) �
 module _ (F : ℕ) (ws : List ℕ) (top i n : ℕ) where
   -- a refusal
   refusal : (v : Verdict) → OneOf (v .status) (0 ∷ 1 ∷ 2 ∷ 3 ∷ 20 ∷ 21 ∷ 22 ∷ []) → (v .status ≢ 3 → v .value ≡ 0)
-      → v .status ≢ 0 → Prints F ws top i n v → PrintTable F ws top i n (unprinted v n)
+      → v .status ≢ 0 → PrintedAs F ws top i n v → PrintTable F ws top i n (unprinted v n)
   refusal v o e z p = record {
     number = o;
     value = e;
@@ -105,7 +105,7 @@ module _ (F : ℕ) (ws : List ℕ) (top i n : ℕ) where
       let e = judged-once F ws top v (check F ws top) j (judged F ws top) in
       z (ap (λ (x : Verdict). x .status) (e ∙ sound-check F ws top k))
 
-  prints-once : (v w : Verdict) → Prints F ws top i n v → Prints F ws top i n w → v ≡ w
+  prints-once : (v w : Verdict) → PrintedAs F ws top i n v → PrintedAs F ws top i n w → v ≡ w
   prints-once v w (unsound _ j z) (unsound _ j′ z′) = judged-once F ws top v w j j′
   prints-once v w (unsound _ j z) (noRegister k h) = absurd (not-sound v j z k)
   prints-once v w (unsound _ j z) (written s k h m) = absurd (not-sound v j z k)
