@@ -2,8 +2,8 @@
 -- table. In order:
 --   IsText              what is said of texts of expressions;  TextInWords, OneText  `text` alone is such
 --   OneTooMany, Meets   a bracket that is one too many;  what a text meets in a space, by the first place of trouble
---   PrintedAs           the verdict, by cases;  PrintTable, PrintAnswers  every answer is from its table, and says every
---                       byte of the space
+--   PrintedAs           the verdict, by cases;  PrintTable, PrintAnswers  every answer is from its table, and says
+--                       every byte of the space
 --   PrintsAlike         a print goes by what the register denotes;  CollectionsUnprinted, AlikePrinted  so it shows no
 --                       collection
 -- Assumes nothing.
