@@ -57,7 +57,7 @@ pub fn put_bytes(out: &mut [u8], pen: Pen, s: &[u8]) -> Pen
 }
 
 // The most digits that a number has.
-pub const DIGITS: usize = 20;
+const DIGITS: usize = 20;
 
 // n in decimal: the digits from the last one on, then written from the first.
 pub fn put_decimal(out: &mut [u8], pen: Pen, n: usize) -> Pen

@@ -28,7 +28,7 @@ use Rattle.meaning.proofs.Lists.{lt-or-ge}
 use Rattle.meaning.proofs.text.Printing.{whole, troubled}
 use Rattle.store.specs.Holds.{RunIs}
 use Rattle.store.specs.declared.Run.{Run}
-use Rattle.text.specs.Page.{Page, blank, plain, stopped, next, writes, ended}
+use Rattle.text.specs.Page.{Page, blank, plain, halted, stopped, next, writes, ended}
 use Rattle.text.proofs.Pages.{writes-stopped}
 use Rattle.text.proofs.Steps.{stop-here, register-is}
 
@@ -73,8 +73,7 @@ past-fate left b bs s w e h =
 -- a bracket that is one too many
 stop-fate : (left : ℕ) (bs : List ℕ) (s w : Space) → s .short ≡ false → Fate w 21 (writes left bs (stopped (going s)))
 stop-fate left bs s w e =
-    let g : Page = record { space = record { bytes = s .bytes; place = s .place; short = true }; deep = true } in
-    rw (← stop-here (going s) e, writes-stopped g refl left bs) (deep refl)
+    rw (← stop-here (going s) e, writes-stopped (halted (going s)) refl left bs) (deep refl)
 
 -- how many bytes are left of a space, and the space after a byte that fits
 abbrev room : Space → ℕ
@@ -121,11 +120,7 @@ stopped-length : (g : Page) → length (stopped g .space .bytes) ≡ length (g .
 unfolding stopped
 stopped-length g = go (g .space .short)
   where
-    go : (t : Bool)
-        → length (cond t g (record {
-          space = record { bytes = g .space .bytes; place = g .space .place; short = true };
-          deep = true;
-        }) .space .bytes) ≡ length (g .space .bytes)
+    go : (t : Bool) → length (cond t g (halted g) .space .bytes) ≡ length (g .space .bytes)
     go true = refl
     go false = refl
 

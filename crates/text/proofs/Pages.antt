@@ -21,7 +21,7 @@ use Rattle.bytes.proofs.Final.{only-digits}
 use Rattle.meaning.specs.Expr.{Expr, nothing, symbol, parens}
 use Rattle.meaning.specs.Text.{text, leftAfter, tooDeep}
 use Rattle.meaning.proofs.text.Texts.{tail}
-use Rattle.text.specs.Page.{Page, plain, written, stopped, next, writes}
+use Rattle.text.specs.Page.{Page, plain, written, halted, stopped, next, writes}
 
 -- ---- one byte
 
@@ -76,11 +76,7 @@ stopped-short : (g : Page) → stopped g .space .short ≡ true
 unfolding stopped
 stopped-short g = go (g .space .short) refl
   where
-    go : (t : Bool) → g .space .short ≡ t
-        → cond t g (record {
-          space = record { bytes = g .space .bytes; place = g .space .place; short = true };
-          deep = true;
-        }) .space .short ≡ true
+    go : (t : Bool) → g .space .short ≡ t → cond t g (halted g) .space .short ≡ true
     go true e = e
     go false e = refl
 

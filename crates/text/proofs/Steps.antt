@@ -31,7 +31,7 @@ use Rattle.store.specs.declared.Term.the-variants.{Symbol, Bracket}
 use Rattle.store.specs.declared.Run.{Run}
 use Rattle.store.proofs.Sounds.{firstHeapCell-pos}
 use Rattle.store.proofs.Held.{symbol-is, bracket-is}
-use Rattle.text.specs.Page.{Page, plain, written, stopped, between, writes, Within}
+use Rattle.text.specs.Page.{Page, plain, written, halted, stopped, between, writes, Within}
 use Rattle.text.proofs.Pages.{writes-stopped, writes-space, writes-digits, writes-deep, writes-bracket}
 use Rattle.text.proofs.Pages.{writes-text}
 
@@ -45,9 +45,7 @@ pub stop-short : (g : Page) → g .space .short ≡ true → g ≡ stopped g
 unfolding stopped
 stop-short g e = rw e refl
 
-pub stop-here : (g : Page) → g .space .short ≡ false
-    → record { space = record { bytes = g .space .bytes; place = g .space .place; short = true }; deep = true }
-    ≡ stopped g
+pub stop-here : (g : Page) → g .space .short ≡ false → halted g ≡ stopped g
 unfolding stopped
 stop-here g e = rw e refl
 

@@ -1,6 +1,7 @@
 -- A text space that is written from left to right up to the first trouble: what the writers do, byte by byte. In order:
 --   Page, page, blank         the space, and whether it stopped before a bracket that is one too many
---   plain, written, stopped   a byte;  bytes that are no brackets;  the end before such a bracket
+--   plain, written            a byte;  bytes that are no brackets
+--   halted, stopped           the end before such a bracket, and unless a byte before it did not fit
 --   next, writes              a byte of a text, by whether it opens a bracket;  a text
 --   between                   the space before a term
 --   ended                     what comes of a text that is written as far as it goes
@@ -39,10 +40,11 @@ abbrev pub written : List ℕ → Page → Page
 written xs g = record { space = write xs (g .space); deep = g .deep }
 
 -- the end before a bracket that is one too many; where a byte did not fit, that was the end
+abbrev pub halted : Page → Page
+halted g = record { space = record { bytes = g .space .bytes; place = g .space .place; short = true }; deep = true }
+
 unfoldable pub stopped : Page → Page
-stopped g =
-    cond (g .space .short) g
-    (record { space = record { bytes = g .space .bytes; place = g .space .place; short = true }; deep = true })
+stopped g = cond (g .space .short) g (halted g)
 
 -- the next byte of a text, where `left` more brackets may be open before it
 unfoldable pub next : ℕ → ℕ → Page → Page

@@ -16,7 +16,7 @@ use bytes::writing;
 use bytes::writing::Pen;
 
 // How far a text has come: where the next byte goes, whether nothing more is written, and whether that is for a bracket
-// that is one too many. (It holds a pen's fields and no pen: a pen inside takes a third more stack for each bracket.)
+// that is one too many. It holds a pen's fields and no pen, which would be copied with the bytes behind its flag.
 pub struct Progress {
     pub place: usize,
     pub short: bool,
