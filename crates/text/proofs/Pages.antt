@@ -125,14 +125,14 @@ writes-bracket t xs left g h =
     writes-open left (t ++ (41 ∷ xs)) g
     ∙ (h left (41 ∷ xs) (plain 40 g) ∙ writes-close left xs (writes left t (plain 40 g)))
 
+space-apart : (t : List ℕ) → Apart t → Apart (32 ∷ t)
+space-apart t h left ys g =
+    writes-space left (t ++ ys) g ∙ (h left ys (plain 32 g) ∙ ap (writes left ys) (sym (writes-space left t g)))
+
 tail-apart : (e : Expr) → Apart (text e) → Apart (tail e)
-tail-apart nothing h left ys g = refl
-tail-apart (symbol a r) h left ys g =
-    writes-space left (text (symbol a r) ++ ys) g
-    ∙ (h left ys (plain 32 g) ∙ ap (writes left ys) (sym (writes-space left (text (symbol a r)) g)))
-tail-apart (parens i r) h left ys g =
-    writes-space left (text (parens i r) ++ ys) g
-    ∙ (h left ys (plain 32 g) ∙ ap (writes left ys) (sym (writes-space left (text (parens i r)) g)))
+tail-apart nothing h = λ left ys g. refl
+tail-apart (symbol a r) h = space-apart (text (symbol a r)) h
+tail-apart (parens i r) h = space-apart (text (parens i r)) h
 
 digits-apart : (xs t : List ℕ) → AllDigits xs → Apart t → Apart (xs ++ t)
 digits-apart xs t d h left ys g =

@@ -9,6 +9,7 @@ use mathlib.Core.Path.{_≡_, refl, sym, ap, _∙_}
 use mathlib.Core.List.{List, [], _∷_, _++_, append-assoc, append-nil}
 use Prim.Native.Nat.{ℕ, _-_, _<_}
 use native.Mathlib.Omega.{arith}
+use lib.ListN.{drop}
 use Rattle.bytes.specs.Decimal.{decimal}
 use Rattle.meaning.specs.Expr.{Expr, nothing, symbol, parens, append, terms}
 use Rattle.meaning.specs.Sound.{Cell, code, empty, ends}
@@ -28,14 +29,11 @@ tail-append (parens i r) f =
     ap (λ (t : List ℕ). 32 ∷ 40 ∷ (text i ++ (41 ∷ t))) (tail-append r f)
     ∙ ap (λ (t : List ℕ). 32 ∷ 40 ∷ t) (sym (append-assoc (text i) (41 ∷ tail r) (tail f)))
 
--- an expression with a term in it, and another behind it
+-- an expression with a term in it, and another behind it: the same less the space before it
 pub text-append : (e f : Expr) → 0 < terms e → text (append e f) ≡ text e ++ tail f
 text-append nothing f h = absurd (omega arith)
-text-append (symbol a r) f h =
-    ap (λ (t : List ℕ). decimal a ++ t) (tail-append r f) ∙ sym (append-assoc (decimal a) (tail r) (tail f))
-text-append (parens i r) f h =
-    ap (λ (t : List ℕ). 40 ∷ (text i ++ (41 ∷ t))) (tail-append r f)
-    ∙ ap (λ (t : List ℕ). 40 ∷ t) (sym (append-assoc (text i) (41 ∷ tail r) (tail f)))
+text-append (symbol a r) f h = ap (drop 1) (tail-append (symbol a r) f)
+text-append (parens i r) f h = ap (drop 1) (tail-append (parens i r) f)
 
 gap-filled : (e : Expr) → 0 < terms e → gap e ≡ 32 ∷ []
 gap-filled nothing h = absurd (omega arith)
