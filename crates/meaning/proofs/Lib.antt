@@ -11,6 +11,7 @@
 --   look       the look
 --   operands   the table of operand words
 --   actions    registers and cells written, new cells laid
+--   lay        an expression laid in new cells
 --   call       one call, plans and the rule for room
 --   effect     each call does to expressions what its row says
 --   batch      a batch, call by call; the values that come back
@@ -30,6 +31,7 @@ pub mod fresh
 pub mod look
 pub mod operands
 pub mod actions
+pub mod lay
 pub mod call
 pub mod effect
 pub mod batch

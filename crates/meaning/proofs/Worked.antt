@@ -19,7 +19,12 @@ use Rattle.meaning.specs.Rows.{verdictTest, doneTest, ranTest, rowTest, 
 use Rattle.meaning.specs.Rows.{rows}
 use Rattle.meaning.specs.Rows.{RowsRight}
 use Rattle.meaning.specs.Text.{leftAfter, tooDeep, printed, printIn}
-use Rattle.meaning.specs.TextRows.{printTest, textRowTest, t1, t1Store, nest, textRows, TextRowsRight}
+use Rattle.meaning.specs.Judge.{isDigit, withDigit, firstMove, laterMove, moreMove}
+use Rattle.meaning.specs.Reader.{atStart, isWhole, stopVerdict, read, blank}
+use Rattle.meaning.specs.Lay.{newCells}
+use Rattle.meaning.specs.Typed.{typedOf, typeIn}
+use Rattle.meaning.specs.TextRows.{printTest, typeTest, textRowTest, t1, t1Store, nest, t11, t11Store, dead}
+use Rattle.meaning.specs.TextRows.{refuses, textRows, TextRowsRight}
 
 pub rows-right : RowsRight firstHeapCell
 unfolding limit codeTest programCells programBytes at reached live newAddress collectedOf collected
@@ -32,4 +37,7 @@ rows-right = tt
 pub text-rows-right : TextRowsRight firstHeapCell
 unfolding limit codeTest depthLimit at meaning bracketTest termTest cellTest lengthTest topTest verdictAt check decimal
     filled leftAfter tooDeep printed printIn verdictTest p6 lone printTest textRowTest t1 t1Store nest textRows
+    isDigit withDigit firstMove laterMove moreMove atStart isWhole stopVerdict read blank put reached live newAddress
+    collectedOf collected fresh sought lacks roomWords roomTop withRoom carryOut newCells typedOf typeIn typeTest t11
+    t11Store dead refuses
 text-rows-right = tt

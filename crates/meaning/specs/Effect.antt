@@ -10,6 +10,7 @@ use Rattle.meaning.specs.Meaning.{meaning}
 use Rattle.meaning.specs.Reach.{live}
 use Rattle.meaning.specs.Operands.{Op, CLEAR, COPY, SYMBOL, WRAP, JOIN, HEAD, REST, OPEN, LENGTH, FIRST, LIVE}
 use Rattle.meaning.specs.Operands.{COLLECT, opAt}
+use Rattle.meaning.specs.Lay.{allTerms}
 use Rattle.meaning.specs.Call.{joinNeed, soughtBy}
 
 -- what a call may depend on beside the expressions: live
@@ -76,6 +77,10 @@ effect F ws top o d a b = does (opAt o) (meaning ws) (facts F ws top) d a b
 
 abbrev pub liveForRoom : ℕ → List ℕ → ℕ → ℕ → ℕ → ℕ → ℕ → ℕ
 liveForRoom F ws top o d a b = live F (soughtBy (opAt o) d a b ws) top
+
+-- a text that denotes x typed into register d: a new cell a term
+abbrev pub typing : (ℕ → Expr) → ℕ → Expr → Effect
+typing e d x = sets 0 e d x (allTerms x)
 
 -- the first that applies, of two statuses
 abbrev pub orElse : ℕ → ℕ → ℕ

@@ -11,11 +11,15 @@
 --   Look       the look
 --   Operands   the twelve operations, the table of their operand words, statuses 10 to 13
 --   Actions    what each operation does to the words
+--   Lay        an expression laid in new cells
 --   Call       one call: plans and the rule for room
 --   Effect     one call: what it does to expressions
 --   Batch      a batch as it is lent
 --   Program    what the program writes for what it reads
 --   Text       the text of an expression; a register printed
+--   Judge      the judgement of a byte of a text that is read
+--   Reader     a text read: where it stops, or the expression that it denotes
+--   Typed      a register typed in
 --   Rows       the worked stores P1 to P8, as one table
 --   TextRows   the texts to try, as one table
 -- Everything is over the first heap cell F as a parameter. In a signature `ws` are the store's words and `c` is a cell.
@@ -34,10 +38,14 @@ pub mod Fresh
 pub mod Look
 pub mod Operands
 pub mod Actions
+pub mod Lay
 pub mod Call
 pub mod Effect
 pub mod Batch
 pub mod Program
 pub mod Text
+pub mod Judge
+pub mod Reader
+pub mod Typed
 pub mod Rows
 pub mod TextRows

@@ -2,13 +2,14 @@
 -- and 41 are brackets. Assumes nothing.
 use mathlib.Core.Bool.{Bool, cond, _&&_}
 use mathlib.Core.List.{List, [], _∷_, _++_}
-use Prim.Native.Nat.{ℕ, suc, _-_}
+use Prim.Native.Nat.{ℕ, zero, suc, _-_}
 use lib.Dec.{ltb, eqb}
 use lib.ListN.{length}
 use Rattle.bytes.specs.Decimal.{decimal}
 use Rattle.bytes.specs.Space.{filled}
 use Rattle.meaning.specs.Limits.{depthLimit}
 use Rattle.meaning.specs.Expr.{Expr, nothing, symbol, parens}
+use Rattle.meaning.specs.Sound.{IsCode}
 use Rattle.meaning.specs.Meaning.{meaning}
 use Rattle.meaning.specs.Verdicts.{Verdict, only, onZero, ifSound}
 use Rattle.meaning.specs.Check.{check}
@@ -25,6 +26,13 @@ abbrev pub text : Expr → List ℕ
 text nothing = []
 text (symbol a r) = decimal a ++ (gap r ++ text r)
 text (parens i r) = 40 ∷ text i ++ (41 ∷ gap r ++ text r)
+
+-- the expressions whose texts may be read: codes as they may be, at most `left` brackets within one another
+abbrev pub Readable : ℕ → Expr → Type 0
+Readable left nothing = Unit {0}
+Readable left (symbol a r) = IsCode a × Readable left r
+Readable zero (parens i r) = ⊥
+Readable (suc left) (parens i r) = Readable left i × Readable (suc left) r
 
 -- how many more brackets may be open after a byte of a text, where `left` may be before it
 unfoldable pub leftAfter : ℕ → ℕ → ℕ

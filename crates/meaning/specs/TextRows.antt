@@ -1,4 +1,4 @@
--- Texts to try (SCOPE 7.1, T1 to T9), as one table with one test of a row. The rows are for a heap that begins at
+-- Texts to try (SCOPE 7.1, T1 to T21), as one table with one test of a row. The rows are for a heap that begins at
 -- cell F. Assumes nothing.
 use mathlib.Core.Bool.{Bool, true, _&&_}
 use mathlib.Core.List.{List, [], _∷_, _++_}
@@ -6,19 +6,27 @@ use Prim.Native.Nat.{ℕ, zero, suc, _+_, _-_}
 use lib.Dec.{eqb, T}
 use lib.ListN.{replicate}
 use Rattle.words.specs.Second.{bracketTo}
-use Rattle.meaning.specs.Fresh.{emptyRegisters}
+use Rattle.meaning.specs.Verdicts.{Done}
+use Rattle.meaning.specs.Fresh.{fresh, emptyRegisters}
 use Rattle.meaning.specs.Text.{Printed, printIn}
+use Rattle.meaning.specs.Typed.{typeIn}
 use Rattle.meaning.specs.Rows.{same, verdictTest, p6, lone}
 
--- a store, `top`, a register and the length of the text space, then: status, value, length and the space
+-- A store, `top`, a register and the length of the text space, then: status, value, length and the space. Or a store,
+-- `top`, a register and a text, then: status, value, the store and `top`.
 pub data TextRow : Type 0 where
   prints : List ℕ → ℕ → ℕ → ℕ → ℕ → ℕ → ℕ → List ℕ → TextRow
+  types : List ℕ → ℕ → ℕ → List ℕ → ℕ → ℕ → List ℕ → ℕ → TextRow
 
 unfoldable pub printTest : Printed → ℕ → ℕ → ℕ → List ℕ → Bool
 printTest p s v n t = verdictTest (p .verdict) s v && eqb (p .size) n && same (p .space) t
 
+unfoldable pub typeTest : Done → ℕ → ℕ → List ℕ → ℕ → Bool
+typeTest r s v ws top = verdictTest (r .verdict) s v && same (r .words) ws && eqb (r .top) top
+
 unfoldable pub textRowTest : ℕ → TextRow → Bool
 textRowTest F (prints ws top i n s v m t) = printTest (printIn F ws top i n) s v m t
+textRowTest F (types ws top d bs s v ws′ top′) = typeTest (typeIn F ws top d bs) s v ws′ top′
 
 abbrev pub everyText : (TextRow → Bool) → List TextRow → Bool
 everyText f [] = true
@@ -41,6 +49,23 @@ nested c (suc n) = c ∷ bracketTo c ∷ nested (suc c) n
 -- an empty bracket inside n others, in register 0: its text opens n + 1 brackets, then closes them
 unfoldable pub nest : ℕ → ℕ → List ℕ
 nest F n = (F + n) ∷ bracketTo (F + n) ∷ emptyRegisters (F - 1) ++ (0 ∷ bracketTo 0 ∷ nested F n)
+
+-- `1 (2 (3) 4) 5 ()`, and register 0 with it: 3, then 2 (3) 4, then its own four terms
+unfoldable pub t11 : List ℕ
+t11 = 49 ∷ 32 ∷ 40 ∷ 50 ∷ 32 ∷ 40 ∷ 51 ∷ 41 ∷ 32 ∷ 52 ∷ 41 ∷ 32 ∷ 53 ∷ 32 ∷ 40 ∷ 41 ∷ []
+
+unfoldable pub t11Store : ℕ → List ℕ
+t11Store F =
+    ((4 + F) ∷ bracketTo (7 + F) ∷ emptyRegisters (F - 1)) ++
+    (3 ∷ 0 ∷ 2 ∷ 0 ∷ F ∷ bracketTo F ∷ 4 ∷ 0 ∷ 1 ∷ 0 ∷ (1 + F) ∷ bracketTo (3 + F) ∷ 5 ∷ 0 ∷ 0 ∷ bracketTo 0 ∷ [])
+
+-- a dead symbol and room for no other cell
+unfoldable pub dead : ℕ → ℕ → List ℕ
+dead F a = emptyRegisters F ++ (a ∷ 0 ∷ [])
+
+-- a text that is refused by itself, in a fresh store without room: its status and offset, and nothing changes
+unfoldable pub refuses : ℕ → List ℕ → ℕ → ℕ → TextRow
+refuses F bs s v = types (fresh F F) F 0 bs s v (fresh F F) F
 
 unfoldable pub textRows : ℕ → List TextRow
 textRows F =
@@ -67,7 +92,57 @@ textRows F =
     prints (t1Store F) (5 + F) (F - 1) 1 0 0 0 (0 ∷ []) ∷
     prints (t1Store F) (5 + F) F 1 20 0 0 (0 ∷ []) ∷
     -- T9: that one in a damaged store
-    prints (p6 F F (2 + F)) (3 + F) F 1 3 (2 + F) 0 (0 ∷ []) ∷ []
+    prints (p6 F F (2 + F)) (3 + F) F 1 3 (2 + F) 0 (0 ∷ []) ∷
+    -- T10: T1's text read back, the capacity exactly right; and once more, where there is no room
+    types (fresh F (5 + F)) F 1 t1 0 0 (t1Store F) (5 + F) ∷
+    types (t1Store F) (5 + F) 0 t1 16 0 (t1Store F) (5 + F) ∷
+    -- T11: the order of laying
+    types (fresh F (8 + F)) F 0 t11 0 0 (t11Store F) (8 + F) ∷
+    -- T12: the texts of T3, T4 and T5 read back
+    types (fresh F (1 + F)) F 0 (40 ∷ 41 ∷ []) 0 0 (nest F 0) (1 + F) ∷
+    types (fresh F (1 + F)) F 0 (50 ∷ 54 ∷ 56 ∷ 52 ∷ 51 ∷ 53 ∷ 52 ∷ 53 ∷ 53 ∷ []) 0 0 (lone F 268435455) (1 + F) ∷
+    types (fresh F (1 + F)) F 0 (49 ∷ 48 ∷ 48 ∷ 48 ∷ 48 ∷ 48 ∷ 48 ∷ 48 ∷ 50 ∷ []) 0 0 (lone F 100000002) (1 + F) ∷
+    types (fresh F (1 + F)) F 0 (48 ∷ []) 0 0 (lone F 0) (1 + F) ∷
+    types (fresh F (64 + F)) F 0 (replicate 64 40 ++ replicate 64 41) 0 0 (nest F 63) (64 + F) ∷
+    -- T13: no bytes, in a full store
+    types (lone F 7) (1 + F) 0 [] 0 0 (dead F 7) (1 + F) ∷
+    -- T14: 16 with the store collected, `1 1` and `9` where one dead symbol fills the heap
+    types (dead F 7) (1 + F) 0 (49 ∷ 32 ∷ 49 ∷ []) 16 0 (fresh F (1 + F)) F ∷
+    types (dead F 7) (1 + F) 0 (57 ∷ []) 0 0 (lone F 9) (1 + F) ∷
+    refuses F (49 ∷ []) 16 0 ∷
+    -- T15: the first byte: ` `, `)`, `x`
+    refuses F (32 ∷ []) 23 0 ∷
+    refuses F (41 ∷ []) 23 0 ∷
+    refuses F (120 ∷ []) 23 0 ∷
+    -- T16: a later one: `01`, `1)`, `1(`, `1  2`, `( )`, `(1 )`, `()1`, `)` behind `()`
+    refuses F (48 ∷ 49 ∷ []) 23 1 ∷
+    refuses F (49 ∷ 41 ∷ []) 23 1 ∷
+    refuses F (49 ∷ 40 ∷ []) 23 1 ∷
+    refuses F (49 ∷ 32 ∷ 32 ∷ 50 ∷ []) 23 2 ∷
+    refuses F (40 ∷ 32 ∷ 41 ∷ []) 23 1 ∷
+    refuses F (40 ∷ 49 ∷ 32 ∷ 41 ∷ []) 23 3 ∷
+    refuses F (40 ∷ 41 ∷ 49 ∷ []) 23 2 ∷
+    refuses F (40 ∷ 41 ∷ 41 ∷ []) 23 2 ∷
+    -- T17: the end comes too soon: `1 `, `(`, `(1`, `() `
+    refuses F (49 ∷ 32 ∷ []) 23 2 ∷
+    refuses F (40 ∷ []) 23 1 ∷
+    refuses F (40 ∷ 49 ∷ []) 23 2 ∷
+    refuses F (40 ∷ 41 ∷ 32 ∷ []) 23 3 ∷
+    -- T18: a code over the limit: 268435456, eleven digits, and `(268435456` before the end that comes too soon
+    refuses F (50 ∷ 54 ∷ 56 ∷ 52 ∷ 51 ∷ 53 ∷ 52 ∷ 53 ∷ 54 ∷ []) 13 8 ∷
+    refuses F (replicate 11 57) 13 8 ∷
+    refuses F (40 ∷ 50 ∷ 54 ∷ 56 ∷ 52 ∷ 51 ∷ 53 ∷ 52 ∷ 53 ∷ 54 ∷ []) 13 9 ∷
+    -- T19: 70 brackets; 64 and `1(`; 64, `() (` and 21; 64 that close, then `x`
+    refuses F (replicate 70 40) 21 64 ∷
+    refuses F (replicate 64 40 ++ (49 ∷ 40 ∷ [])) 23 65 ∷
+    refuses F (replicate 64 40 ++ (41 ∷ 32 ∷ 40 ∷ 40 ∷ [])) 21 67 ∷
+    refuses F (replicate 64 40 ++ (replicate 64 41 ++ (120 ∷ []))) 23 128 ∷
+    -- T20: the last register, and one that is none
+    types (fresh F (1 + F)) F (F - 1) (55 ∷ []) 0 0
+    (emptyRegisters (F - 1) ++ (F ∷ bracketTo F ∷ 7 ∷ 0 ∷ [])) (1 + F) ∷
+    types (t1Store F) (5 + F) F (120 ∷ []) 20 0 (t1Store F) (5 + F) ∷
+    -- T21: that one in a damaged store
+    types (p6 F F (2 + F)) (3 + F) F (120 ∷ []) 3 (2 + F) (p6 F F (2 + F)) (3 + F) ∷ []
 
 -- every row holds
 abbrev pub TextRowsRight : ℕ → Type 0

@@ -1,0 +1,55 @@
+-- The judgement of a byte of a text that is read (SCOPE 5.8): by where the reader stands, how many brackets are open and
+-- the code so far, the byte goes on in one of five ways, or stops the reading with a status. Reading a text (Reader) is a
+-- fold of it. Assumes nothing.
+use mathlib.Core.Bool.{Bool, cond, _&&_}
+use Prim.Native.Nat.{ℕ, _+_, _-_, _*_}
+use lib.Dec.{ltb, leb, eqb}
+use Rattle.meaning.specs.Limits.{codeTest, depthLimit}
+
+-- Where the reader stands: a level has begun, and a term or its end may come; after a space, a term must come; in a
+-- number, by the code so far, where after a 0 no digit may come; after a closing bracket; or stopped, with a status.
+pub data Stand : Type 0 where
+  begun : Stand
+  spaced : Stand
+  number : ℕ → Stand
+  closed : Stand
+  stopped : ℕ → Stand
+
+-- What a byte does: it stops the reading with a status, begins a code, is a further digit of one, opens or closes a
+-- bracket, or parts two terms.
+pub data Move : Type 0 where
+  stops : ℕ → Move
+  begins : ℕ → Move
+  grows : ℕ → Move
+  opens closes parts : Move
+
+unfoldable pub isDigit : ℕ → Bool
+isDigit b = leb 48 b && leb b 57
+
+-- the code a with the digit b behind it
+unfoldable pub withDigit : ℕ → ℕ → ℕ
+withDigit a b = 10 * a + (b - 48)
+
+-- a byte where a term may begin, with so many brackets open: 21 at a bracket that is one too many
+unfoldable pub firstMove : ℕ → ℕ → Move
+firstMove depth b =
+    cond (isDigit b) (cond (codeTest (withDigit 0 b)) (begins (withDigit 0 b)) (stops 13))
+    (cond (eqb b 40) (cond (ltb depth depthLimit) opens (stops 21)) (stops 23))
+
+-- a byte after a whole term, or at the end of a level
+unfoldable pub laterMove : ℕ → ℕ → Move
+laterMove depth b = cond (eqb b 32) parts (cond (eqb b 41) (cond (ltb 0 depth) closes (stops 23)) (stops 23))
+
+-- a byte after a digit: no leading zeros, and 13 at the digit that takes the code over the limit
+unfoldable pub moreMove : ℕ → ℕ → ℕ → Move
+moreMove a depth b =
+    cond (isDigit b)
+    (cond (eqb a 0) (stops 23) (cond (codeTest (withDigit a b)) (grows (withDigit a b)) (stops 13)))
+    (laterMove depth b)
+
+abbrev pub judge : Stand → ℕ → ℕ → Move
+judge begun depth b = cond (eqb b 41) (laterMove depth b) (firstMove depth b)
+judge spaced depth b = firstMove depth b
+judge (number a) depth b = moreMove a depth b
+judge closed depth b = laterMove depth b
+judge (stopped s) depth b = stops s
