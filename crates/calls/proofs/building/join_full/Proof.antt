@@ -13,10 +13,7 @@ use Rattle.calls.proofs.building.join_full.Tie as tie
 
 make-room-requires : tie.Need-make-room-requires
 make-room-requires c κs =
-    let s = c .before .before in
-    let x = run-below (s .args .a) (s .pre .0 .0) (s .pre .0 .2) in
-    let y = run-below (s .args .b) (s .pre .0 .0) (s .pre .0 .3) in
-    (s .pre .0 .0, omega (arith, s .pre .0 .0 .high, s .pre .1 .1 .0), s .pre .0 .1)
+    let s = c .before .before in (s .pre .0 .0, s .pre .0 .1)
 
 lay-run-requires : tie.Need-lay-run-requires
 lay-run-requires c κs =
