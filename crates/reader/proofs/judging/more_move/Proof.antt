@@ -1,0 +1,51 @@
+-- `reader::judging::more_move` meets its contract. Assumes nothing.
+use mathlib.Core.Path.{refl, sym, _∙_}
+use borrow.Author.Tests.{eq-eqb, ne-eqb}
+use borrow.Author.Needs.{needs}
+use Rattle.meaning.specs.Judge.{moreMove}
+use Rattle.meaning.proofs.reader.Moves.{digit-range}
+use Rattle.reader.proofs.judging.more_move.Statement.{statement}
+use Rattle.reader.proofs.judging.more_move.Tie as tie
+
+returns : tie.Need-returns
+unfolding moreMove
+returns c =
+    rw (sym (c .before .before .is-digit .ensures) ∙ c .before .if1 .taken, eq-eqb _ _ (c .if2 .taken)) refl
+
+with-digit-requires : tie.Need-with-digit-requires
+with-digit-requires c κs =
+    let i = digit-range _ (sym (c .before .before .is-digit .ensures) ∙ c .before .if1 .taken) in
+    (c .before .before .before .pre, i .0, i .1)
+
+returns-2 : tie.Need-returns-2
+unfolding moreMove
+returns-2 c =
+    let if2 = c .before .before .before in
+    rw (
+      sym (if2 .before .before .is-digit .ensures) ∙ if2 .before .if1 .taken,
+      ne-eqb _ _ (if2 .if2 .left),
+      sym (c .before .before .with-digit .ensures),
+      sym (c .before .is-code .ensures) ∙ c .if3 .taken,
+    ) refl
+
+returns-3 : tie.Need-returns-3
+unfolding moreMove
+returns-3 c =
+    let if2 = c .before .before .before in
+    rw (
+      sym (if2 .before .before .is-digit .ensures) ∙ if2 .before .if1 .taken,
+      ne-eqb _ _ (if2 .if2 .left),
+      sym (c .before .before .with-digit .ensures),
+      sym (c .before .is-code .ensures) ∙ c .if3 .left,
+    ) refl
+
+returns-4 : tie.Need-returns-4
+unfolding moreMove
+returns-4 c = rw (sym (c .before .before .is-digit .ensures) ∙ c .before .if1 .left) (c .later-move .ensures)
+
+pub more-move-spec : {M : Type 1} → statement M
+more-move-spec =
+    tie.close
+    (tie.spec
+    (λ c κs. search needs) returns with-digit-requires (λ c κs. search needs) returns-2 returns-3
+    (λ c κs. search needs) returns-4)

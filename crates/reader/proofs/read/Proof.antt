@@ -1,0 +1,37 @@
+-- `reader::read` meets its contract. Assumes nothing.
+use mathlib.Core.Path.{subst}
+use Prim.Native.Nat.{_-_}
+use native.Mathlib.Omega.{arith}
+use lib.ListN.{length}
+use Rattle.meaning.specs.Reader.{Reader}
+use Rattle.reader.specs.Readers.{readerOf, Finds}
+use Rattle.reader.proofs.Ranges.{Reading, begin, can-read, onward, finish}
+use Rattle.reader.proofs.read.Statement.{statement}
+use Rattle.reader.proofs.read.Tie as tie
+
+abbrev Inv-loop : tie.InvT-loop
+Inv-loop text r₀ i₀ r i = Reading text (readerOf r) i
+
+abbrev μ-loop : tie.MeasureT-loop
+μ-loop text r₀ i₀ r i = length text - i
+
+read-byte-requires : tie.Need-read-byte-requires Inv-loop μ-loop
+read-byte-requires c κs =
+    can-read _ _ _ (c .before .before .loop .inv) (c .before .loop-test .taken)
+    (c .before .before .before .before .good .0 .0)
+
+loop-again : tie.Need-loop-again Inv-loop μ-loop
+loop-again c =
+    onward _ _ _ (c .before .before .before .loop .inv) (c .before .before .loop-test .taken) (c .read-byte .ensures)
+
+returns : tie.Need-returns Inv-loop μ-loop
+returns c =
+    subst (λ (r : Reader). Finds r (c .finish .result))
+    (finish _ _ _ (c .before .before .loop .inv) (c .before .loop-test .left)) (c .finish .ensures)
+
+pub read-spec : {M : Type 1} → statement M
+read-spec =
+    tie.close
+    (tie.spec
+    Inv-loop μ-loop (λ c. begin _) (λ c. omega arith) read-byte-requires (λ c. omega arith) (λ c. omega arith)
+    loop-again (λ c κs. tt) returns)

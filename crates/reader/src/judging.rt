@@ -1,0 +1,126 @@
+// The judgement of a byte of a text that is read (SCOPE 5.8): where the reader stands, how many brackets are open and the
+// code so far decide what a byte does. A text is read by one judgement after the other.
+ghost use mathlib.Core.Path.{_≡_};
+ghost use Prim.Native.Nat.{_≤_, _<_, _^_};
+ghost use Rattle.meaning.specs.Judge.{isDigit, withDigit, firstMove, laterMove, moreMove, judge};
+ghost use Rattle.reader.specs.Readers.{standOf, moveOf, CodeIn};
+use store::cells::is_code;
+
+// Why a text is refused: a code over the limit, a bracket that is one too many, or a byte that cannot continue a text.
+pub enum Fault {
+    LargeCode,
+    TooDeep,
+    NotText,
+}
+
+// Where the reader stands.
+pub enum Stand {
+    // a level has begun, and a term or its end may come
+    Begun,
+    // after a space, a term must come
+    Spaced,
+    // in a number, by the code so far
+    Number(u32),
+    // after a closing bracket
+    Closed,
+    // stopped for good
+    Stopped(Fault),
+}
+
+// What a byte does.
+pub enum Move {
+    Stops(Fault),
+    Begins(u32),
+    Grows(u32),
+    Opens,
+    Closes,
+    Parts,
+}
+
+pub fn is_digit(b: u8) -> bool
+    ensures { λ r. ⌜ r ≡ isDigit b ⌝ }
+{
+    48 <= b && b <= 57
+}
+
+// The code with the digit b behind it.
+pub fn with_digit(code: u32, b: u8) -> u32
+    requires { ⌜ (code < 2 ^ 28) × (48 ≤ b) × (b ≤ 57) ⌝ }
+    ensures { λ r. ⌜ r ≡ withDigit code b ⌝ }
+{
+    10 * code + (b - 48) as u32
+}
+
+// A byte where a term may begin.
+fn first_move(depth: usize, b: u8) -> Move
+    ensures { λ r. ⌜ moveOf r ≡ firstMove depth b ⌝ }
+{
+    if is_digit(b) {
+        let code = with_digit(0, b);
+        if is_code(code) {
+            return Move::Begins(code);
+        }
+        return Move::Stops(Fault::LargeCode);
+    }
+    if b == b'(' {
+        if depth < meaning::DEPTH_LIMIT {
+            return Move::Opens;
+        }
+        return Move::Stops(Fault::TooDeep);
+    }
+    Move::Stops(Fault::NotText)
+}
+
+// A byte after a whole term, or at the end of a level.
+fn later_move(depth: usize, b: u8) -> Move
+    ensures { λ r. ⌜ moveOf r ≡ laterMove depth b ⌝ }
+{
+    if b == b' ' {
+        return Move::Parts;
+    }
+    if b == b')' {
+        if 0 < depth {
+            return Move::Closes;
+        }
+        return Move::Stops(Fault::NotText);
+    }
+    Move::Stops(Fault::NotText)
+}
+
+// A byte after a digit.
+fn more_move(code: u32, depth: usize, b: u8) -> Move
+    requires { ⌜ code < 2 ^ 28 ⌝ }
+    ensures { λ r. ⌜ moveOf r ≡ moreMove code depth b ⌝ }
+{
+    if is_digit(b) {
+        if code == 0 {
+            return Move::Stops(Fault::NotText);
+        }
+        let more = with_digit(code, b);
+        if is_code(more) {
+            return Move::Grows(more);
+        }
+        return Move::Stops(Fault::LargeCode);
+    }
+    later_move(depth, b)
+}
+
+// The judgement.
+pub fn judge(stand: Stand, depth: usize, b: u8) -> Move
+    requires { ⌜ CodeIn (standOf stand) ⌝ }
+    ensures { λ r. ⌜ moveOf r ≡ judge (standOf stand) depth b ⌝ }
+{
+    match stand {
+        Stand::Begun => {
+            if b == b')' {
+                later_move(depth, b)
+            } else {
+                first_move(depth, b)
+            }
+        }
+        Stand::Spaced => first_move(depth, b),
+        Stand::Number(code) => more_move(code, depth, b),
+        Stand::Closed => later_move(depth, b),
+        Stand::Stopped(fault) => Move::Stops(fault),
+    }
+}

@@ -1,0 +1,150 @@
+// A text read byte by byte, in one pass (SCOPE 5.8): where the reader stands decides what a byte does, and a byte that
+// cannot go on stops it for good. The state is a struct by value. Nothing is laid here: reading tells how many terms a
+// text has, or why it is none.
+ghost use mathlib.Core.Path.{_≡_};
+ghost use mathlib.Core.Bool.{_&&_};
+ghost use lib.Dec.{eqb};
+ghost use Rattle.meaning.specs.Reader.{moved, advance, advances, atStart, mayEnd, stopStatus};
+ghost use Rattle.reader.specs.Readers.{faultOf, standOf, moveOf, readerOf, CanGo, CanRead, Finds};
+use crate::judging::Fault;
+use crate::judging::Move;
+use crate::judging::Stand;
+use crate::judging::judge;
+
+pub mod judging;
+
+// Where the reader stands, the offset of the next byte or of the one that stopped it, the brackets that are open, and
+// the terms begun on all levels.
+pub struct Reader {
+    pub stand: Stand,
+    pub offset: usize,
+    pub depth: usize,
+    pub total: usize,
+}
+
+// What a byte leaves.
+fn go(m: Move, r: Reader) -> Reader
+    requires { ⌜ CanGo (moveOf m) (readerOf r) ⌝ }
+    ensures { λ q. ⌜ readerOf q ≡ moved (moveOf m) (readerOf r) ⌝ }
+{
+    let offset = r.offset;
+    let depth = r.depth;
+    let total = r.total;
+    match m {
+        Move::Stops(fault) => Reader {
+            stand: Stand::Stopped(fault),
+            offset,
+            depth,
+            total,
+        },
+        Move::Begins(code) => Reader {
+            stand: Stand::Number(code),
+            offset: offset + 1,
+            depth,
+            total: total + 1,
+        },
+        Move::Grows(code) => Reader {
+            stand: Stand::Number(code),
+            offset: offset + 1,
+            depth,
+            total,
+        },
+        Move::Opens => Reader {
+            stand: Stand::Begun,
+            offset: offset + 1,
+            depth: depth + 1,
+            total: total + 1,
+        },
+        Move::Closes => Reader {
+            stand: Stand::Closed,
+            offset: offset + 1,
+            depth: depth - 1,
+            total,
+        },
+        Move::Parts => Reader {
+            stand: Stand::Spaced,
+            offset: offset + 1,
+            depth,
+            total,
+        },
+    }
+}
+
+// One byte read.
+pub fn read_byte(r: Reader, b: u8) -> Reader
+    requires { ⌜ CanRead (readerOf r) ⌝ }
+    ensures { λ q. ⌜ readerOf q ≡ advance b (readerOf r) ⌝ }
+{
+    let stand = r.stand;
+    go(judge(stand, r.depth, b), r)
+}
+
+// Whether a text may end where the reader stands; and with no bracket open.
+fn may_end(stand: Stand) -> bool
+    ensures { λ r. ⌜ r ≡ mayEnd (standOf stand) ⌝ }
+{
+    match stand {
+        Stand::Begun => true,
+        Stand::Spaced => false,
+        Stand::Number(_) => true,
+        Stand::Closed => true,
+        Stand::Stopped(_) => false,
+    }
+}
+
+fn is_whole(stand: Stand, depth: usize) -> bool
+    ensures { λ r. ⌜ r ≡ (mayEnd (standOf stand) && eqb depth 0) ⌝ }
+{
+    if may_end(stand) {
+        return depth == 0;
+    }
+    false
+}
+
+// Why a text may not end where the reader stands.
+fn stop_fault(stand: Stand) -> Fault
+    ensures { λ r. ⌜ faultOf r ≡ stopStatus (standOf stand) ⌝ }
+{
+    match stand {
+        Stand::Begun => Fault::NotText,
+        Stand::Spaced => Fault::NotText,
+        Stand::Number(_) => Fault::NotText,
+        Stand::Closed => Fault::NotText,
+        Stand::Stopped(fault) => fault,
+    }
+}
+
+// What reading a text finds: the number of its terms on all levels; or its refusal, with the offset.
+pub enum Found {
+    Whole(usize),
+    Bad(Fault, usize),
+}
+
+// The end of the text.
+fn finish(r: Reader) -> Found
+    ensures { λ f. ⌜ Finds (readerOf r) f ⌝ }
+{
+    let stand = r.stand;
+    if is_whole(stand, r.depth) {
+        return Found::Whole(r.total);
+    }
+    Found::Bad(stop_fault(stand), r.offset)
+}
+
+// A whole text read.
+pub fn read(text: &[u8]) -> Found
+    ensures { λ f. ⌜ Finds (advances atStart (now (text .entry))) f ⌝ }
+{
+    let mut r = Reader {
+        stand: Stand::Begun,
+        offset: 0,
+        depth: 0,
+        total: 0,
+    };
+    let mut i: usize = 0;
+    while i < text.len() {
+        r = read_byte(r, text[i]);
+        i += 1;
+    }
+    finish(r)
+}
