@@ -11,9 +11,9 @@
 --   look       the look
 --   operands   the table of operand words
 --   actions    registers and cells written, new cells laid
---   lay        an expression laid in new cells
 --   call       one call, plans and the rule for room
 --   effect     each call does to expressions what its row says
+--   lay        an expression laid in new cells
 --   batch      a batch, call by call; the values that come back
 --   program    the program's tests
 --   text       the text of expressions put together; printing by its cases
@@ -31,9 +31,9 @@ pub mod fresh
 pub mod look
 pub mod operands
 pub mod actions
-pub mod lay
 pub mod call
 pub mod effect
+pub mod lay
 pub mod batch
 pub mod program
 pub mod text
