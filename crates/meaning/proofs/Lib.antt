@@ -17,6 +17,7 @@
 --   batch      a batch, call by call; the values that come back
 --   program    the program's tests
 --   text       the text of expressions put together; printing by its cases
+--   reader     a text read: what was read is what is written, and what was written is read
 --   twins      what a call does in a store, it does in any store with the same canonical words
 --   Worked     the tables of worked stores and of texts are right
 -- Assumes nothing.
@@ -37,5 +38,6 @@ pub mod lay
 pub mod batch
 pub mod program
 pub mod text
+pub mod reader
 pub mod twins
 pub mod Worked

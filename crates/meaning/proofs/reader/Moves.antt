@@ -1,0 +1,79 @@
+-- What a byte can do, by cases: what holds of every move that can be judged, with what the byte is, holds of the one
+-- that is. In order:
+--   either                                 a choice by a test
+--   digit-range                            a byte that is a digit
+--   first-cases, later-cases, more-cases   a byte where a term may begin, after a whole term, after a digit
+--   judge-cases                            a byte wherever the reader stands
+-- Assumes nothing.
+use mathlib.Core.Path.{_≡_, refl}
+use mathlib.Core.Bool.{Bool, true, false, cond, _&&_, false≢true}
+use Prim.Native.Nat.{ℕ, _+_, _-_, _*_, _≤_, _<_}
+use native.Mathlib.Omega.{arith}
+use lib.Dec.{ltb, leb, eqb}
+use borrow.Author.Tests.{ltb-true, leb-true, eqb-true, eqb-false}
+use Rattle.meaning.specs.Limits.{codeTest, depthLimit}
+use Rattle.meaning.specs.Sound.{IsCode}
+use Rattle.meaning.specs.Judge.{Stand, begun, spaced, number, closed, stopped}
+use Rattle.meaning.specs.Judge.{Move, stops, begins, grows, opens, closes, parts}
+use Rattle.meaning.specs.Judge.{isDigit, withDigit, firstMove, laterMove, moreMove, judge}
+
+pub either : {A : Type 0} (P : A → Type 0) (t : Bool) {x y : A} → (t ≡ true → P x) → (t ≡ false → P y)
+    → P (cond t x y)
+either P true f g = f refl
+either P false f g = g refl
+
+pub digit-range : (b : ℕ) → isDigit b ≡ true → (48 ≤ b) × (b ≤ 57)
+unfolding isDigit
+digit-range b e = both (leb 48 b) (leb b 57) refl refl e
+  where
+    both : (s t : Bool) → leb 48 b ≡ s → leb b 57 ≡ t → (s && t) ≡ true → (48 ≤ b) × (b ≤ 57)
+    both true true f g e = (leb-true 48 b f, leb-true b 57 g)
+    both true false f g e = absurd (false≢true e)
+    both false t f g e = absurd (false≢true e)
+
+-- what the byte is at each move
+module _ (P : Move → Type 0) (b : ℕ) (stop : (s : ℕ) → P (stops s)) where
+  pub first-cases : (depth : ℕ) → ((d : ℕ) → b ≡ 48 + d → d ≤ 9 → IsCode d → P (begins d))
+      → (b ≡ 40 → depth < depthLimit → P opens) → P (firstMove depth b)
+  unfolding firstMove withDigit
+  first-cases depth begin bracket =
+      either P (isDigit b)
+      (λ e. either P (codeTest (withDigit 0 b))
+      (λ f. let i = digit-range b e in begin (withDigit 0 b) (omega (arith, i .0)) (omega (arith, i .1)) f) (λ _. stop 13))
+      (λ _. either P (eqb b 40)
+      (λ g. either P (ltb depth depthLimit) (λ d. bracket (eqb-true b 40 g) (ltb-true depth depthLimit d)) (λ _. stop 21))
+      (λ _. stop 23))
+
+  pub later-cases : (depth : ℕ) → (b ≡ 41 → 0 < depth → P closes) → (b ≡ 32 → P parts) → P (laterMove depth b)
+  unfolding laterMove
+  later-cases depth close part =
+      either P (eqb b 32) (λ e. part (eqb-true b 32 e))
+      (λ _. either P (eqb b 41)
+      (λ f. either P (ltb 0 depth) (λ e. close (eqb-true b 41 f) (ltb-true 0 depth e)) (λ _. stop 23)) (λ _. stop 23))
+
+  pub more-cases : (a depth : ℕ) → ((d : ℕ) → b ≡ 48 + d → d ≤ 9 → 0 < a → IsCode (10 * a + d) → P (grows (10 * a + d)))
+      → (b ≡ 41 → 0 < depth → P closes) → (b ≡ 32 → P parts) → P (moreMove a depth b)
+  unfolding moreMove withDigit
+  more-cases a depth grow close part =
+      either P (isDigit b)
+      (λ e. either P (eqb a 0) (λ _. stop 23)
+      (λ z. either P (codeTest (withDigit a b))
+      (λ f. let i = digit-range b e in grow (b - 48) (omega (arith, i .0)) (omega (arith, i .1)) (positive z) f)
+      (λ _. stop 13)))
+      (λ _. later-cases depth close part)
+    where
+      positive : eqb a 0 ≡ false → 0 < a
+      positive z = let n = eqb-false a 0 z in omega (arith, n)
+
+-- a byte wherever the reader stands
+module _ (P : Move → Type 0) (b depth : ℕ) (stop : (s : ℕ) → P (stops s))
+    (begin : (d : ℕ) → b ≡ 48 + d → d ≤ 9 → IsCode d → P (begins d)) (bracket : b ≡ 40 → depth < depthLimit → P opens)
+    (grow : (a d : ℕ) → b ≡ 48 + d → d ≤ 9 → 0 < a → IsCode (10 * a + d) → P (grows (10 * a + d)))
+    (close : b ≡ 41 → 0 < depth → P closes) (part : b ≡ 32 → P parts) where
+  pub judge-cases : (s : Stand) → P (judge s depth b)
+  judge-cases begun =
+      either P (eqb b 41) (λ e. later-cases P b stop depth close part) (λ e. first-cases P b stop depth begin bracket)
+  judge-cases spaced = first-cases P b stop depth begin bracket
+  judge-cases (number a) = more-cases P b stop a depth (grow a) close part
+  judge-cases closed = later-cases P b stop depth close part
+  judge-cases (stopped s) = stop s
