@@ -19,6 +19,7 @@
 --   text       the text of expressions put together; printing by its cases
 --   reader     a text read: what was read is what is written, and what was written is read
 --   twins      what a call does in a store, it does in any store with the same canonical words
+--   typed      a text typed in, by its cases; what it does to expressions, and in twins
 --   Worked     the tables of worked stores and of texts are right
 -- Assumes nothing.
 pub mod Lists
@@ -40,4 +41,5 @@ pub mod program
 pub mod text
 pub mod reader
 pub mod twins
+pub mod typed
 pub mod Worked
