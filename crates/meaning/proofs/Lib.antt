@@ -11,14 +11,15 @@
 --   look       the look
 --   operands   the table of operand words
 --   actions    registers and cells written, new cells laid
---   lay        an expression laid in new cells
 --   call       one call, plans and the rule for room
 --   effect     each call does to expressions what its row says
+--   lay        an expression laid in new cells
 --   batch      a batch, call by call; the values that come back
 --   program    the program's tests
 --   text       the text of expressions put together; printing by its cases
 --   reader     a text read: what was read is what is written, and what was written is read
 --   twins      what a call does in a store, it does in any store with the same canonical words
+--   typed      a text typed in, by its cases; what it does to expressions, and in twins
 --   Worked     the tables of worked stores and of texts are right
 -- Assumes nothing.
 pub mod Lists
@@ -32,12 +33,13 @@ pub mod fresh
 pub mod look
 pub mod operands
 pub mod actions
-pub mod lay
 pub mod call
 pub mod effect
+pub mod lay
 pub mod batch
 pub mod program
 pub mod text
 pub mod reader
 pub mod twins
+pub mod typed
 pub mod Worked

@@ -8,10 +8,11 @@ use Rattle.promises.specs.Outright.{CallsOutright}
 use Rattle.promises.specs.Alike.{AlikeIsCollected, CollectionsNeverShow}
 use Rattle.promises.specs.Printing.{TextInWords, OneText, PrintAnswers, PrintsAlike, CollectionsUnprinted}
 use Rattle.promises.specs.Printing.{AlikePrinted}
+use Rattle.promises.specs.Typing.{TypesDo, TypeAnswers}
 use Rattle.promises.specs.Program.{ProgramWrites, ProgramReads}
 use Rattle.promises.specs.ProgramRows.{ProgramRows}
 use Rattle.promises.specs.Unique.{OneAnswer, OneCheck, OneFresh, OneCollected, OneLook, OneCollect, OneBatch}
-use Rattle.promises.specs.Unique.{OneCall, OnePrint, OneProgram}
+use Rattle.promises.specs.Unique.{OneCall, OnePrint, OneType, OneProgram}
 use Rattle.promises.specs.OwnWords.{FaultsInWords, FaultRows, OneFault}
 use Rattle.promises.proofs.table.Tables as tables
 use Rattle.promises.proofs.collecting.Keeping as keeping
@@ -21,6 +22,8 @@ use Rattle.promises.proofs.alike.Alikes as alikes
 use Rattle.promises.proofs.alike.Striking as struck
 use Rattle.promises.proofs.printing.Meeting as meeting
 use Rattle.promises.proofs.printing.Printed as printing
+use Rattle.promises.proofs.typing.Typing as typing
+use Rattle.promises.proofs.typing.Answers as typed
 use Rattle.promises.proofs.program.Written as program
 use Rattle.promises.proofs.ownwords.Faults as faults
 use Rattle.promises.proofs.unique.Calls as calls-once
@@ -97,6 +100,14 @@ collections-unprinted = printing.collections-unprinted
 pub alike-printed : AlikePrinted
 alike-printed = printing.alike-printed
 
+-- ---- typed text
+
+pub types-do : TypesDo
+types-do = typing.types-do
+
+pub type-answers : TypeAnswers
+type-answers = typed.type-answers
+
 -- ---- the program
 
 pub program-writes : ProgramWrites
@@ -139,6 +150,9 @@ one-batch = once.one-batch
 
 pub one-print : OnePrint
 one-print = printing.one-print
+
+pub one-type : OneType
+one-type = typed.one-type
 
 pub one-program : OneProgram
 one-program = program.one-program

@@ -2,6 +2,7 @@
 -- Assumes nothing.
 pub mod table
 pub mod collecting
+pub mod typing
 pub mod ownwords
 pub mod calls
 pub mod outright

@@ -1,9 +1,9 @@
 -- Demand 3: collections never show (SCOPE 8.3, 8.4). Two sound stores of equal capacity that are
--- alike, given lists of requests that are equal once COLLECT is struck out, each list cut into batches in its own way,
--- none of them refused: all other answers are equal, and one more collection of each makes the stores equal word for
+-- alike, given lists of calls and typed texts that are equal once COLLECT is struck out, each list cut into batches in its
+-- own way, none of them refused: all other answers are equal, and one more collection of each makes the stores equal word for
 -- word. Assumes nothing.
 use mathlib.Core.Path.{_≡_}
-use mathlib.Core.Bool.{Bool, cond}
+use mathlib.Core.Bool.{Bool, false, cond}
 use mathlib.Core.List.{List, [], _∷_, _++_}
 use Prim.Native.Nat.{ℕ, _*_, _/_, _<_}
 use lib.Dec.{eqb}
@@ -13,7 +13,8 @@ use Rattle.meaning.specs.Reach.{reached, live}
 use Rattle.meaning.specs.Verdicts.{Verdict}
 use Rattle.meaning.specs.Check.{collectIn}
 use Rattle.meaning.specs.Batch.{batch}
-use Rattle.promises.specs.Requests.{Request, call, requests, verdicts}
+use Rattle.meaning.specs.Typed.{typeIn}
+use Rattle.promises.specs.Requests.{Request, call, typed, requests, verdicts}
 
 -- ---- alike
 
@@ -55,16 +56,20 @@ AlikeIsCollected =
 
 -- ---- requests, cut into batches
 
--- what is lent in one go: a call list, and the answer space for it
+-- what is lent in one go: a call list, and the answer space for it; or a text for register d
 pub data Lent : Type 0 where
   calls : List ℕ → List ℕ → Lent
+  text : ℕ → List ℕ → Lent
 
--- its requests; that it is not refused with 1 to 5; the store and `top` that it leaves, and the answers to its requests
+-- its requests; that it is not refused with 1 to 5, which no text is in a sound store; the store and `top` that it
+-- leaves, and the answers to its requests
 abbrev pub requestsIn : Lent → List Request
 requestsIn (calls cs space) = requests cs
+requestsIn (text d bs) = typed d bs ∷ []
 
 abbrev pub Accepted : ℕ → List ℕ → ℕ → Lent → Type 0
 Accepted F ws top (calls cs space) = batch F ws top cs space .verdict .status ≡ 0
+Accepted F ws top (text d bs) = Unit {0}
 
 pub record Served : Type 0 where
   pub words : List ℕ
@@ -75,6 +80,8 @@ abbrev pub servedBy : ℕ → List ℕ → ℕ → Lent → Served
 servedBy F ws top (calls cs space) =
     let r = batch F ws top cs space in
     record { words = r .words; top = r .top; answers = verdicts (take (2 * (length cs / 4)) (r .answers)) }
+servedBy F ws top (text d bs) =
+    let r = typeIn F ws top d bs in record { words = r .words; top = r .top; answers = r .verdict ∷ [] }
 
 -- the same of a list, each on the store that the one before left
 abbrev pub requestsOf : List Lent → List Request
@@ -98,6 +105,7 @@ served F ws top (b ∷ bs) =
 -- operation word 11, whatever the other words are
 abbrev pub isCollect : Request → Bool
 isCollect (call o d a b) = eqb o 11
+isCollect (typed d bs) = false
 
 abbrev pub strike : List Request → List Request
 strike [] = []

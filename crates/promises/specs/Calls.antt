@@ -18,8 +18,9 @@ use Rattle.meaning.specs.Call.{soughtBy, step}
 use Rattle.meaning.specs.Effect.{effect, liveForRoom, callStatus, after, answer}
 use Rattle.meaning.specs.Batch.{Outcome, batch}
 use Rattle.promises.specs.OwnWords.{OwnFault}
-use Rattle.promises.specs.Cells.{OnlyThere, Leaves}
-use Rattle.promises.specs.Requests.{Request, call, requests, inWords}
+use Rattle.promises.specs.Cells.{OnlyThere, Leaves, laidOn, laidFrom}
+use Rattle.promises.specs.Requests.{Request, call, typed, requests, inWords}
+use Rattle.promises.specs.Typing.{TypedIn}
 
 -- ---- room for the n new cells that the call needs
 
@@ -27,17 +28,16 @@ use Rattle.promises.specs.Requests.{Request, call, requests, inWords}
 abbrev pub lacking : ℕ → List ℕ → ℕ → ℕ → ℕ → ℕ → ℕ → ℕ → Bool
 lacking F ws top o d a b n = ltb (capacity ws) (F + liveForRoom F ws top o d a b + n)
 
--- The store in which the call acts, and its `top`: collected by a call that collects without need; else, where `top`
--- + n exceeds the capacity, the store in which it seeks room, collected; else as it is.
+-- The store in which the call acts, and its `top`: collected by a call that collects without need, else by its room
 abbrev pub actedOn : ℕ → List ℕ → ℕ → ℕ → ℕ → ℕ → ℕ → ℕ → List ℕ
 actedOn F ws top o d a b n =
     cond (effect F ws top o d a b .collects) (collected F ws top)
-    (cond (ltb (capacity ws) (top + n)) (collected F (soughtBy (opAt o) d a b ws) top) ws)
+    (laidOn F n (soughtBy (opAt o) d a b ws) ws top)
 
 abbrev pub actedTop : ℕ → List ℕ → ℕ → ℕ → ℕ → ℕ → ℕ → ℕ → ℕ
 actedTop F ws top o d a b n =
     cond (effect F ws top o d a b .collects) (F + live F ws top)
-    (cond (ltb (capacity ws) (top + n)) (F + liveForRoom F ws top o d a b) top)
+    (laidFrom F n (soughtBy (opAt o) d a b ws) ws top)
 
 -- ---- one call
 
@@ -80,6 +80,7 @@ CallsDo =
 -- r is what the request does in the store ws
 abbrev pub Did : ℕ → List ℕ → ℕ → Request → Done → Type 0
 Did F ws top (call o d a b) r = Called F ws top o d a b (effect F ws top o d a b .need) r
+Did F ws top (typed d bs) r = TypedIn F ws top d bs r
 
 pub data Answered (F : ℕ) : List ℕ → ℕ → List Request → List Verdict → List ℕ → ℕ → Type 0 where
   none : {ws : List ℕ} {top : ℕ} → Answered F ws top [] [] ws top

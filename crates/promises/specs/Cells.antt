@@ -5,6 +5,7 @@
 --   dCells, newCells   d's cell and new cell number j, by a row for each operation that sets d
 --   OnlyThere          no other cell changes
 --   Leaves             all three
+--   laidOn, laidFrom   the store in which new cells are laid, and the first of them
 -- Assumes nothing.
 use mathlib.Core.Path.{_≡_}
 use mathlib.Core.Logic.{_⊎_, _≢_}
@@ -14,7 +15,9 @@ use Prim.Native.Nat.{ℕ, suc, _+_, _-_, _≤_, _<_}
 use lib.Dec.{ltb, leb, eqb}
 use lib.ListN.{getD}
 use Rattle.words.specs.Cell.{firstWord, secondWord}
-use Rattle.meaning.specs.Sound.{Cell, code, empty, ends, at, size, start}
+use Rattle.meaning.specs.Sound.{Cell, code, empty, ends, at, capacity, size, start}
+use Rattle.meaning.specs.Reach.{live}
+use Rattle.meaning.specs.Collected.{collected}
 
 -- register a without its first cell
 abbrev pub lessOne : List ℕ → ℕ → Cell
@@ -66,3 +69,12 @@ pub record Leaves (o d a b n : ℕ) (w : List ℕ) (t : ℕ) (v : List ℕ) : Ty
   pub others : OnlyThere d t n w v
   pub sets : o < 8 → at v d ≡ dCell o w t a b
   pub lays : (j : ℕ) → j < n → at v (t + j) ≡ newCell o w a b j
+
+-- ---- where n new cells are laid, with room sought in v
+
+-- the store, and its `top`: v collected where `top` + n exceeds the capacity, else the store as it is
+abbrev pub laidOn : ℕ → ℕ → List ℕ → List ℕ → ℕ → List ℕ
+laidOn F n v ws top = cond (ltb (capacity ws) (top + n)) (collected F v top) ws
+
+abbrev pub laidFrom : ℕ → ℕ → List ℕ → List ℕ → ℕ → ℕ
+laidFrom F n v ws top = cond (ltb (capacity ws) (top + n)) (F + live F v top) top

@@ -4,6 +4,7 @@
 --   Collecting  demand 2: what a collection keeps, and where
 --   OwnWords    demand 2: statuses 10 to 13
 --   Cells       demand 2: what a call leaves in the cells
+--   Typing      demands 1 and 2: a text typed into a register
 --   Calls       demand 2: what each call does, and a batch call by call
 --   Outright    demand 2: what each of the twelve does
 --   Alike       demand 3: collections never show
@@ -17,6 +18,7 @@ pub mod Requests
 pub mod Collecting
 pub mod OwnWords
 pub mod Cells
+pub mod Typing
 pub mod Calls
 pub mod Outright
 pub mod Alike

@@ -4,14 +4,17 @@ use mathlib.Core.List.{List, [], _∷_}
 use Prim.Native.Nat.{ℕ}
 use Rattle.meaning.specs.Verdicts.{Verdict, Done}
 use Rattle.meaning.specs.Call.{step}
+use Rattle.meaning.specs.Typed.{typeIn}
 
--- a call: operation, d, a, b
+-- a call: operation, d, a, b; or a text typed into register d
 pub data Request : Type 0 where
   call : ℕ → ℕ → ℕ → ℕ → Request
+  typed : ℕ → List ℕ → Request
 
 -- what a request does in a store with its `top`
 abbrev pub requested : ℕ → List ℕ → ℕ → Request → Done
 requested F ws top (call o d a b) = step F ws top o d a b
+requested F ws top (typed d bs) = typeIn F ws top d bs
 
 -- the requests of a call list: a call is four words
 abbrev pub requests : List ℕ → List Request

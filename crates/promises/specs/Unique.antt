@@ -1,6 +1,6 @@
--- One outcome: what the claims say of a check, a fresh store, a collection, a look, a batch, a print and the program
--- leaves no second answer, word or byte (SCOPE 8.5). The contracts of the code are equations, of answers by their
--- numbers and values: two outcomes of one equation are equal. Assumes nothing.
+-- One outcome: what the claims say of a check, a fresh store, a collection, a look, a batch, a print, a typed text and
+-- the program leaves no second answer, word or byte (SCOPE 8.5). The contracts of the code are equations, of answers by
+-- their numbers and values: two outcomes of one equation are equal. Assumes nothing.
 use mathlib.Core.Path.{_≡_}
 use mathlib.Core.List.{List}
 use Prim.Native.Nat.{ℕ, _<_}
@@ -13,6 +13,7 @@ use Rattle.promises.specs.Table.{CheckTable, FreshTable, CollectTable, L
 use Rattle.promises.specs.Calls.{Called, BatchRun}
 use Rattle.promises.specs.Collecting.{CollectedFrom}
 use Rattle.promises.specs.Printing.{PrintTable}
+use Rattle.promises.specs.Typing.{TypeTable}
 use Rattle.promises.specs.Program.{ProgramTable}
 
 -- an answer of which the promise says its number and values: two answers with the same numbers and values are one
@@ -64,3 +65,9 @@ OneProgram = (F : ℕ) (input x y : List ℕ) → ProgramTable F input x → Pro
 abbrev pub OnePrint : Type 0
 OnePrint =
     (F : ℕ) (ws : List ℕ) (top i n : ℕ) (r q : Printed) → PrintTable F ws top i n r → PrintTable F ws top i n q → r ≡ q
+
+-- a text typed into a register, with every word of the store
+abbrev pub OneType : Type 0
+OneType =
+    (F : ℕ) (ws : List ℕ) (top d : ℕ) (bs : List ℕ) (r q : Done) → TypeTable F ws top d bs r → TypeTable F ws top d bs q
+    → r ≡ q

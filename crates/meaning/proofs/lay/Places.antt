@@ -1,7 +1,8 @@
 -- Where the cells of an expression are laid, as terms are added to it. In order:
 --   own-length, deep-length, laid-length   how many cells its own terms take, the contents of its brackets, and all
 --   allTerms-append                        the terms on all levels of two expressions side by side
---   after, own-append, deep-append         where the contents of a further bracket begin, and the cells of two side by side
+--   after, after-parens                    where the contents of a further bracket begin;  past a bracket in front
+--   own-append, deep-append                the cells of two side by side
 -- Assumes nothing.
 use mathlib.Core.Path.{_≡_, refl, sym, ap, _∙_}
 use mathlib.Core.List.{List, [], _∷_, _++_, append-assoc, append-nil}
@@ -43,7 +44,7 @@ allTerms-append (parens i r) f = omega (arith, allTerms-append r f)
 abbrev pub after : ℕ → Expr → ℕ
 after c e = c + length (deepCells c e)
 
-after-parens : (c : ℕ) (i r : Expr) → after c (parens i r) ≡ after (c + allTerms i) r
+pub after-parens : (c : ℕ) (i r : Expr) → after c (parens i r) ≡ after (c + allTerms i) r
 after-parens c i r =
     omega (arith, laid-length c i, length-append (laid c i) (deepCells (c + allTerms i) r))
 

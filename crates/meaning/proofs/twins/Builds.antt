@@ -1,5 +1,7 @@
 -- The actions that lay new cells, where there is room: what SYMBOL, WRAP and JOIN do in a store, they do in that
--- store collected.
+-- store collected. In order:
+--   room′                              where there is room in a store, there is in that store collected
+--   symbol-same, wrap-same, run-same   SYMBOL, WRAP and JOIN
 -- Assumes nothing.
 use mathlib.Core.Path.{_≡_, refl, sym, ap, _∙_}
 use mathlib.Core.Logic.{_⊎_, inl, inr}
@@ -40,7 +42,7 @@ module _ (F : ℕ) (ws : List ℕ) (top : ℕ) (p : 0 < F) (s : Sound F ws top) 
   low′ : top′ ≤ top
   low′ = live-le F ws top p s
 
-  room′ : (n : ℕ) → 2 * (top + n) ≤ length ws → 2 * (top′ + n) ≤ length ws′
+  pub room′ : (n : ℕ) → 2 * (top + n) ≤ length ws → 2 * (top′ + n) ≤ length ws′
   room′ n h = omega (arith, low′, length-collected F ws top p s)
 
   -- one new cell in both

@@ -7,7 +7,7 @@
 --   canon-collected                it has the same canonical words
 --   set-both                       so they have once a register is set in both
 --   Kept, far                      where both get n new cells: a cell that is reached or new, and where it goes
---   old-along                      a cell with old contents only
+--   old-along, new-along           a cell with old contents only, and a run of new cells
 --   new-register, new-both         a register set in both, to old cells or new ones;  to the run of all new cells
 -- Assumes nothing.
 use mathlib.Core.Path.{_≡_, refl, sym, ap, ap₂, _∙_}
@@ -183,6 +183,19 @@ module _ (F : ℕ) (ws : List ℕ) (top : ℕ) (p : 0 < F) (s : Sound F ws top) 
     far-low c (inl i) = rw (far-old c (reached-below F ws top p s c i)) (new-low c)
     far-low c (inr i) = rw (far-new c (i .0)) (omega (arith, sound′ .low))
 
+    -- a run of new cells, from l to r and where it goes
+    pub new-along : (l r l′ r′ : ℕ) → top ≤ l → l ≤ r → r < top + n → l + top′ ≡ l′ + top → r + top′ ≡ r′ + top
+        → Along Kept far (ends l r) × (ends l′ r′ ≡ mapEnds far (ends l r))
+    new-along l r l′ r′ g h k e f = (
+      λ j m. (
+        inr (omega arith, omega arith),
+        far-new (l + j) (omega arith) ∙
+            (let z : top′ + (l + j - top) ≡ top′ + (l - top) + j = omega arith in z ∙ ap (λ (y : ℕ). y + j)
+            (sym (far-new l g))),
+      ),
+      sym (ap₂ {C = Cell} (λ a b. ends a b) (far-new l g ∙ omega arith) (far-new r (omega arith) ∙ omega arith)),
+    )
+
     module _ (v v′ : List ℕ) (x : Extends F ws top v (top + n)) (x′ : Extends F ws′ top′ v′ (top′ + n))
         (laid : (j : ℕ) → j < n
         → Along Kept far (at v (top + j)) × (at v′ (top′ + j) ≡ mapEnds far (at v (top + j)))) where
@@ -226,19 +239,6 @@ module _ (F : ℕ) (ws : List ℕ) (top : ℕ) (p : 0 < F) (s : Sound F ws top) 
           cell-of c (inl i) = old-cell c i
           cell-of c (inr i) = new-cell c (i .0) (i .1)
 
-      run-along : 0 < n
-          → Along Kept far (ends top (top + n - 1)) × (ends top′ (top′ + n - 1) ≡ mapEnds far (ends top (top + n - 1)))
-      run-along h = (
-        λ j k. (
-          inr (omega arith, omega arith),
-          far-new (top + j) (omega arith) ∙
-              (let z : top′ + (top + j - top) ≡ top′ + (top - top) + j = omega arith in z ∙ ap (λ (y : ℕ). y + j)
-              (sym (far-new top (le-refl top)))),
-        ),
-        sym (ap₂ {C = Cell} (λ a b. ends a b) (far-new top (le-refl top) ∙ omega arith)
-            (far-new (top + n - 1) (omega arith) ∙ omega arith)),
-      )
-
       -- a register set in both, to old cells or new ones
       pub new-register : (d : ℕ) → d < F → (b b′ : Cell) → BracketIn F (top + n) b → BracketIn F (top′ + n) b′
           → Along Kept far b → b′ ≡ mapEnds far b
@@ -254,6 +254,7 @@ module _ (F : ℕ) (ws : List ℕ) (top : ℕ) (p : 0 < F) (s : Sound F ws top) 
           → canon F (put v d (ends top (top + n - 1))) (top + n)
           ≡ canon F (put v′ d (ends top′ (top′ + n - 1))) (top′ + n)
       new-both d l h =
-          let y = run-along h in
+          let y = new-along top (top + n - 1) top′ (top′ + n - 1) (le-refl top) (omega arith) (omega arith) (omega arith)
+          (omega arith) in
           new-register d l (ends top (top + n - 1)) (ends top′ (top′ + n - 1)) (s .low, omega arith, omega arith)
           (sound′ .low, omega arith, omega arith) (y .0) (y .1)

@@ -2,7 +2,7 @@
 -- of the store that that leaves. Two lists that are equal once struck are compared through their common struck list.
 -- Assumes nothing.
 use mathlib.Core.Path.{_≡_, refl, sym, ap, ap₂, _∙_}
-use mathlib.Core.Bool.{Bool, true, false}
+use mathlib.Core.Bool.{Bool, true, false, false≢true}
 use mathlib.Core.List.{List, [], _∷_}
 use Prim.Native.Nat.{ℕ, zero, suc, _-_, _*_, _/_, _<_}
 use native.Mathlib.Omega.{arith}
@@ -17,8 +17,8 @@ use Rattle.meaning.specs.Batch.{ended}
 use Rattle.meaning.proofs.effect.Steps.{step-meets}
 use Rattle.meaning.proofs.batch.Batches.{fours-of}
 use Rattle.meaning.proofs.batch.Cases.{batch-runs}
-use Rattle.promises.specs.Requests.{Request, call, requested, requests, inWords}
-use Rattle.promises.specs.Alike.{calls, requestsIn, Accepted, servedBy, Lent, requestsOf, Served, served}
+use Rattle.promises.specs.Requests.{Request, call, typed, requested, requests, inWords}
+use Rattle.promises.specs.Alike.{calls, text, requestsIn, Accepted, servedBy, Lent, requestsOf, Served, served}
 use Rattle.promises.specs.Alike.{NoneRefused, isCollect, strike, strikeAnswers, CollectionsNeverShow}
 use Rattle.promises.proofs.alike.Requests.{ran, runs-ran, ran-cut, ran-length, requests-length, inWords-length}
 use Rattle.promises.proofs.alike.Requests.{verdicts-inWords}
@@ -27,6 +27,8 @@ use Rattle.meaning.proofs.twins.Canons.{canon}
 use Rattle.meaning.proofs.twins.Pairs.{canon-collected}
 use Rattle.meaning.proofs.twins.Twins.{Twin, twin-self, twin-flip, twin-trans}
 use Rattle.meaning.proofs.twins.Calls.{step-agrees}
+use Rattle.meaning.proofs.typed.Agreeing.{type-agrees}
+use Rattle.promises.proofs.typing.Typing.{types-do}
 use Rattle.promises.proofs.alike.Alikes.{alike-canon, canon-alike, collect-sound, same-length, canon-collects}
 
 -- ---- one request
@@ -48,15 +50,18 @@ module _ (F : ℕ) (p : 0 < F) (ws : List ℕ) (top : ℕ) where
       → Sound F (requested F ws top q .words) (requested F ws top q .top)
       × (length (requested F ws top q .words) ≡ length ws)
   leaves s (call o d a b) = let m = step-meets F ws top p s o d a b in (m .sound, m .len)
+  leaves s (typed d bs) = let m = types-do F ws top s d bs in (m .sound, m .len)
 
   module _ (ws′ : List ℕ) (top′ : ℕ) (t : Twin F ws top ws′ top′) where
     agrees : (q : Request) → Agree F (requested F ws top q) (requested F ws′ top′ q)
     agrees (call o d a b) = step-agrees F ws top ws′ top′ p t o d a b
+    agrees (typed d bs) = type-agrees F ws top ws′ top′ p t d bs
 
     collects : (q : Request) → isCollect q ≡ true
         → canon F (requested F ws top q .words) (requested F ws top q .top) ≡ canon F ws top
     collects (call o d a b) e =
         let z : o ≡ 11 = eqb-true o 11 e in rw z (collect-canon (t .one) d a b)
+    collects (typed d bs) e = absurd (false≢true e)
 
 -- in twins, with COLLECT in the first alone
 module _ (F : ℕ) (p : 0 < F) (ws : List ℕ) (top : ℕ) (ws′ : List ℕ) (top′ : ℕ) (t : Twin F ws top ws′ top′)
@@ -144,6 +149,7 @@ lent-ran F p ws top (calls cs space) n =
     let k = take-at (inWords (s .answers)) (replicate (length space - length (inWords (s .answers))) 0)
     (2 * (length cs / 4)) l in
     rw (r .2, runs-ran F ws top c, k, verdicts-inWords (s .answers)) refl
+lent-ran F p ws top (text d bs) n = refl
 
 served-ran : (F : ℕ) → 0 < F → (ws : List ℕ) (top : ℕ) (bs : List Lent) → NoneRefused F ws top bs
     → served F ws top bs ≡ ran F ws top (requestsOf bs)

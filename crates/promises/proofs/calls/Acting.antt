@@ -11,25 +11,25 @@ use native.Mathlib.Decide.{ℕ-discrete}
 use native.Mathlib.Omega.{arith}
 use lib.Dec.{ltb}
 use lib.ListN.{length}
-use borrow.Author.Tests.{le-ltb}
 use Rattle.meaning.specs.Sound.{Cell, code, empty, ends, at, capacity, Sound, size, start}
 use Rattle.meaning.specs.Meaning.{meaning}
 use Rattle.meaning.specs.Reach.{live}
-use Rattle.meaning.specs.Collected.{collected, collectedTop}
-use Rattle.meaning.specs.Verdicts.{Done, done, refused, only}
+use Rattle.meaning.specs.Collected.{collected}
+use Rattle.meaning.specs.Verdicts.{Done, done}
 use Rattle.meaning.specs.Operands.{Op, CLEAR, COPY, SYMBOL, WRAP, JOIN, HEAD, REST, OPEN, LENGTH, FIRST, LIVE, COLLECT}
 use Rattle.meaning.specs.Operands.{ops, uses, opAt, index}
 use Rattle.meaning.specs.Actions.{put, share, head, rest, openFirst, codeFirst, newRun, newSymbol, newBracket}
-use Rattle.meaning.specs.Call.{keeps, soughtBy, joinNeed, joinPlan, lacks, roomWords, roomTop, withRoom, planOf}
+use Rattle.meaning.specs.Call.{keeps, soughtBy, joinNeed, joinPlan, roomTop, withRoom, planOf}
 use Rattle.meaning.specs.Call.{carryOut, perform}
 use Rattle.meaning.specs.Effect.{Effect, facts, does, orElse}
 use Rattle.meaning.proofs.effect.Effects.{Denote}
 use Rattle.meaning.proofs.effect.Stepping.{size-terms}
 use Rattle.meaning.proofs.sound.Cells.{BracketIn, good}
 use Rattle.meaning.proofs.operands.Uses.{WordsRight, is-register, is-code, keeps-a, keeps-b}
-use Rattle.meaning.proofs.call.Plans.{sought-kept, sought-other, planTop, room-sound, room-denote, room-fits}
+use Rattle.meaning.proofs.call.Plans.{sought-kept, sought-other, planTop}
 use Rattle.meaning.proofs.effect.Steps.{sound-by, length-by, size-a, size-b}
 use Rattle.promises.specs.Cells.{dCell, newCell, Leaves}
+use Rattle.promises.proofs.calls.Rooms.{stays, room-top, room-leaves}
 use Rattle.promises.proofs.calls.Touching.{only-same, only-trans, first-words}
 use Rattle.promises.proofs.calls.Leaving.{clear-leaves, copy-leaves, join-first-leaves, join-second-leaves}
 use Rattle.promises.proofs.calls.Leaving.{head-leaves, rest-leaves, open-leaves, symbol-leaves, wrap-leaves}
@@ -49,13 +49,9 @@ orElse-zero zero t e = refl
 orElse-zero (suc f) t e = e
 
 module _ (F : ℕ) (ws : List ℕ) (top : ℕ) (p : 0 < F) (s : Sound F ws top) where
-  -- without need there is no collecting
-  pub stays : ltb (capacity ws) (top + 0) ≡ false
-  stays = le-ltb (capacity ws) (top + 0) (omega (arith, s .high))
-
   -- `top` of a call without need, with x reached heap cells in the store in which it would seek room
   same-top : (x : ℕ) → top ≡ cond (ltb (capacity ws) (top + 0)) (F + x) top + 0
-  same-top x = rw stays (sym (add-zero top))
+  same-top x = rw (stays F ws top s) (sym (add-zero top))
 
   module _ (d a b : ℕ) where
     -- the store in which the call seeks room, and what is live there
@@ -70,20 +66,19 @@ module _ (F : ℕ) (ws : List ℕ) (top : ℕ) (p : 0 < F) (s : Sound F ws top) 
 
     -- ---- `top`
 
-    sought-top : (o : Op) (n : ℕ) → roomTop F n (v o) top ≡ cond (ltb (capacity ws) (top + n)) (F + lv o) top
-    unfolding roomTop
-    sought-top o n = rw (length-by F ws top p s d a b o) refl
+    more-top : (o : Op) → WordsRight F o d a b → (n : ℕ)
+        → roomTop F n (v o) top + n ≡ cond (ltb (capacity ws) (top + n)) (F + lv o) top + n
+    more-top o q n =
+        ap (λ (y : ℕ). y + n)
+        (room-top F n (v o) ws top p (sound-by F ws top p s d a b o q) (length-by F ws top p s d a b o))
 
-    more-top : (o : Op) (n : ℕ) → roomTop F n (v o) top + n ≡ cond (ltb (capacity ws) (top + n)) (F + lv o) top + n
-    more-top o n = ap (λ (y : ℕ). y + n) (sought-top o n)
-
-    join-top : (n m : ℕ)
+    join-top : WordsRight F JOIN d a b → (n m : ℕ)
         → planTop F (joinPlan n m (v JOIN) d a b) ws top
         ≡ cond (ltb (capacity ws) (top + joinNeed n m)) (F + lv JOIN) top + joinNeed n m
     unfolding planTop
-    join-top zero m = same-top (lv JOIN)
-    join-top (suc n) zero = same-top (lv JOIN)
-    join-top (suc n) (suc m) = more-top JOIN (suc n + suc m)
+    join-top q zero m = same-top (lv JOIN)
+    join-top q (suc n) zero = same-top (lv JOIN)
+    join-top q (suc n) (suc m) = more-top JOIN q (suc n + suc m)
 
     pub plan-top : (o : Op) → WordsRight F o d a b
         → planTop F (planOf o F ws top d a b) ws top
@@ -92,14 +87,14 @@ module _ (F : ℕ) (ws : List ℕ) (top : ℕ) (p : 0 < F) (s : Sound F ws top) 
     unfolding planTop planOf uses
     plan-top CLEAR q = same-top (lv CLEAR)
     plan-top COPY q = same-top (lv COPY)
-    plan-top SYMBOL q = more-top SYMBOL 1
-    plan-top WRAP q = more-top WRAP 1
+    plan-top SYMBOL q = more-top SYMBOL q 1
+    plan-top WRAP q = more-top WRAP q 1
     plan-top JOIN q =
         rw (
           ← size-terms F ws top p s a (is-register F a (q .a11)),
           ← size-terms F ws top p s b (is-register F b (q .b11)),
         )
-        (join-top (size (at ws a)) (size (at ws b)))
+        (join-top q (size (at ws a)) (size (at ws b)))
     plan-top HEAD q = same-top (lv HEAD)
     plan-top REST q = same-top (lv REST)
     plan-top OPEN q = same-top (lv OPEN)
@@ -134,7 +129,7 @@ module _ (F : ℕ) (ws : List ℕ) (top : ℕ) (p : 0 < F) (s : Sound F ws top) 
 
     plainly : (o : Op) (r : Done) → Leaves (index o) d a b 0 ws top (r .words)
         → Left o (ltb (capacity ws) (top + 0)) 0 r
-    plainly o r h = rw stays h
+    plainly o r h = rw (stays F ws top s) h
 
     -- where nothing is collected, the store in which room is sought differs from the store at d alone
     module _ (o : Op) (n : ℕ) (t : ℕ) (u : List ℕ) (l : Leaves (index o) d a b n (v o) t u)
@@ -154,33 +149,9 @@ module _ (F : ℕ) (ws : List ℕ) (top : ℕ) (p : 0 < F) (s : Sound F ws top) 
         → Leaves (index o) d a b n u t (act u t .words))
         → withRoom F n (v o) act ws top .verdict .status ≡ 0
         → Left o (ltb (capacity ws) (top + n)) n (withRoom F n (v o) act ws top)
-    unfolding withRoom
-    makes o q n act dc nc h e = go (lacks F n (v o) top) refl e
-      where
-        w : Sound F (v o) top
-        w = sound-by F ws top p s d a b o q
-
-        room : roomWords F n (v o) top ≡ cond (ltb (capacity ws) (top + n)) (collected F (v o) top) (v o)
-        room = unfold roomWords in rw (length-by F ws top p s d a b o) refl
-
-        there : (y : Bool) (t : ℕ) (u : List ℕ) → Leaves (index o) d a b n (cond y (collected F (v o) top) (v o)) t u
-            → Leaves (index o) d a b n (cond y (collected F (v o) top) ws) t u
-        there true t u l = l
-        there false t u l = from-store o n t u l (dc t) nc
-
-        go : (t : Bool) → lacks F n (v o) top ≡ t
-            → cond t (refused (collected F ws top) (collectedTop F ws top) (only 16))
-            (act (roomWords F n (v o) top) (roomTop F n (v o) top)) .verdict .status ≡ 0
-            → Left o (ltb (capacity ws) (top + n)) n
-            (cond t (refused (collected F ws top) (collectedTop F ws top) (only 16))
-            (act (roomWords F n (v o) top) (roomTop F n (v o) top)))
-        go true r z = absurd (omega arith)
-        go false r z =
-            let u = roomWords F n (v o) top in
-            let t = roomTop F n (v o) top in
-            rw (← sought-top o n) (there (ltb (capacity ws) (top + n)) t (act u t .words)
-            (rw (← room) (h u t (room-sound F n (v o) top p w) (room-denote F n (v o) top p w)
-            (room-fits F n (v o) top p w r))))
+    makes o q n act dc nc =
+        room-leaves F n (v o) ws top p (sound-by F ws top p s d a b o q) (length-by F ws top p s d a b o)
+        (Leaves (index o) d a b n) act (λ t u l. from-store o n t u l (dc t) nc)
 
     -- JOIN of two registers that are not empty
     module _ (q : WordsRight F JOIN d a b) (hd : d < F) (ha : a < F) (hb : b < F) where
@@ -278,4 +249,4 @@ module _ (F : ℕ) (ws : List ℕ) (top : ℕ) (p : 0 < F) (s : Sound F ws top) 
     asked-words =
         asking (λ o. perform o F ws top d a b .words ≡ cond (x o .collects) (collected F ws top)
         (cond (ltb (capacity ws) (top + x o .need)) (collected F (v o) top) ws))
-        (rw stays refl) (rw stays (first-words ws top (at ws a))) (rw stays refl) refl
+        (rw (stays F ws top s) refl) (rw (stays F ws top s) (first-words ws top (at ws a))) (rw (stays F ws top s) refl) refl

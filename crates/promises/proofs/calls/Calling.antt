@@ -7,8 +7,8 @@ use mathlib.Core.List.{List, [], _∷_}
 use Prim.Native.Nat.{ℕ, zero, suc, _+_, _-_, _≤_, _<_}
 use native.Mathlib.Nat.{add-zero}
 use native.Mathlib.Omega.{arith}
-use lib.Dec.{ltb, eqb}
-use borrow.Author.Tests.{ltb-true, lt-ltb, ne-eqb}
+use lib.Dec.{ltb}
+use borrow.Author.Tests.{ltb-true, lt-ltb}
 use Rattle.meaning.specs.Sound.{at, capacity, Sound}
 use Rattle.meaning.specs.Reach.{live}
 use Rattle.meaning.specs.Collected.{collected}
@@ -18,25 +18,21 @@ use Rattle.meaning.specs.Call.{planOf, perform, stepAfter, step}
 use Rattle.meaning.specs.Effect.{effect, liveForRoom, callStatus}
 use Rattle.meaning.specs.Batch.{ended}
 use Rattle.meaning.proofs.operands.Uses.{right, op-small, index-opAt}
-use Rattle.meaning.proofs.call.Plans.{planTop, topAfter, WordsAfter}
+use Rattle.meaning.proofs.call.Plans.{planTop}
 use Rattle.meaning.proofs.effect.Steps.{Steps, step-meets}
 use Rattle.meaning.proofs.batch.Batches.{fours-of}
 use Rattle.meaning.proofs.batch.Cases.{batch-runs}
-use Rattle.promises.specs.Requests.{Request, call, requested, requests}
+use Rattle.promises.specs.Requests.{Request, call, typed, requested, requests}
 use Rattle.promises.specs.Cells.{Leaves}
 use Rattle.promises.proofs.ownwords.Faults.{faults-in-words}
 use Rattle.promises.proofs.alike.Requests.{ran, runs-ran, ran-length, requests-length}
 use Rattle.promises.specs.Calls.{Did, actedOn, actedTop, CallsDo, Answered, none, next}
 use Rattle.promises.specs.Calls.{BatchesRun}
-use Rattle.promises.proofs.calls.Acting.{orElse-zero, stays, plan-top, plan-words, asked-words}
+use Rattle.promises.proofs.calls.Rooms.{as-was, stays}
+use Rattle.promises.proofs.typing.Typing.{types-do}
+use Rattle.promises.proofs.calls.Acting.{orElse-zero, plan-top, plan-words, asked-words}
 
 -- ---- a call, whatever its words are
-
--- the words and `top` of a refused call
-module _ (ws ws₁ v : List ℕ) (x y top u : ℕ) where
-  as-was : (s : ℕ) → WordsAfter s ws ws₁ v → u ≡ topAfter s x y top → s ≢ 0 → s ≢ 16 → (v ≡ ws) × (u ≡ top)
-  as-was zero w t n m = absurd (n refl)
-  as-was (suc s) w t n m = let z : eqb s 15 ≡ false = ne-eqb s 15 (omega arith) in (rw z at w, rw z at t)
 
 -- 16 by room alone
 sixteen : (c n : ℕ) (s : ℕ) → s ≡ cond (ltb c n) 16 0 → (s ≡ 16 → c < n) × (c < n → s ≡ 16)
@@ -89,7 +85,7 @@ module _ (F : ℕ) (p : 0 < F) (ws : List ℕ) (top : ℕ) (s : Sound F ws top) 
 
   -- without need
   as-it-is : n ≡ 0 → ltb (capacity ws) (top + n) ≡ false
-  as-it-is z = rw z (stays F ws top p s)
+  as-it-is z = rw z (stays F ws top s)
 
 pub calls-do : CallsDo
 unfolding callStatus
@@ -126,6 +122,7 @@ calls-do F p ws top s o d a b =
 did : (F : ℕ) (p : 0 < F) (ws : List ℕ) (top : ℕ) → Sound F ws top → (q : Request)
     → Did F ws top q (requested F ws top q) × Sound F (requested F ws top q .words) (requested F ws top q .top)
 did F p ws top s (call o d a b) = let k = calls-do F p ws top s o d a b in (k, k .sound)
+did F p ws top s (typed d bs) = let k = types-do F ws top s d bs in (k, k .sound)
 
 answered : (F : ℕ) (p : 0 < F) (ws : List ℕ) (top : ℕ) (qs : List Request) → Sound F ws top
     → (let r = ran F ws top qs in Answered F ws top qs (r .answers) (r .words) (r .top))

@@ -25,7 +25,7 @@ use Rattle.meaning.specs.Effect.{effect, sets, becomes, liveForRoom, callStatus
 use Rattle.meaning.proofs.operands.Uses.{right}
 use Rattle.meaning.proofs.effect.Steps.{no-need, step-meets}
 use Rattle.promises.specs.Outright.{Sets, SetsInRoom, Refuses, CallsOutright}
-use Rattle.promises.proofs.calls.Acting.{stays}
+use Rattle.promises.proofs.calls.Rooms.{stays}
 use Rattle.promises.proofs.calls.Calling.{calls-do}
 
 -- ---- operands that are right
@@ -122,7 +122,7 @@ module _ (F : ℕ) (p : 0 < F) (ws : List ℕ) (top : ℕ) (s : Sound F ws top) 
   asks o a x l f u z c =
       let k = calls-do F p ws top s o 0 a 0 in
       let g = no-need F ws top p s 0 a 0 (opAt o) (right F o 0 a 0 f) in
-      let y = stays F ws top p s in
+      let y = stays F ws top s in
       let e : step F ws top o 0 a 0 .verdict .status ≡ 0 =
       step-meets F ws top p s o 0 a 0 .status ∙ rw (f, u, z, ← g) refl in
       by-parts (step F ws top o 0 a 0) (cond x (collected F ws top) ws) (cond x (F + live F ws top) top) 0

@@ -1,17 +1,15 @@
 -- One outcome of a call: what is said of its status, its value, `top` and its cells leaves no second one.
 -- Assumes nothing.
 use mathlib.Core.Path.{_≡_, refl, sym, ap, _∙_}
-use mathlib.Core.Logic.{_⊎_, inl, inr, _≢_}
+use mathlib.Core.Logic.{_⊎_, inl, inr}
 use mathlib.Core.Bool.{Bool, true, false, cond, false≢true}
 use mathlib.Core.List.{List}
-use Prim.Native.Nat.{ℕ, _+_, _-_, _≤_, _<_}
-use native.Mathlib.Decide.{ℕ-discrete}
+use Prim.Native.Nat.{ℕ, _+_, _≤_, _<_}
 use native.Mathlib.Omega.{arith}
 use lib.Dec.{ltb}
-use Rattle.words.specs.Cell.{firstWord, secondWord}
-use Rattle.words.proofs.Cells.{words-ext}
-use Rattle.meaning.specs.Sound.{at, capacity, Sound}
+use Rattle.meaning.specs.Sound.{capacity, Sound}
 use Rattle.meaning.specs.Reach.{live}
+use Rattle.meaning.specs.Collected.{collected}
 use Rattle.meaning.specs.Verdicts.{Done}
 use Rattle.meaning.specs.Effect.{effect, callStatus, liveForRoom, answer}
 use Rattle.meaning.proofs.Lists.{lt-or-ge}
@@ -23,7 +21,7 @@ use Rattle.promises.specs.Calls.{lacking, actedOn, actedTop, Called}
 use Rattle.promises.specs.Unique.{OneCall}
 use Rattle.promises.proofs.ownwords.Faults.{one-fault}
 use Rattle.promises.proofs.calls.Acting.{orElse-zero}
-use Rattle.promises.proofs.unique.Words.{same-register, same-heap}
+use Rattle.promises.proofs.unique.Words.{laid-once, left-once}
 
 -- ---- an operation below 8 sets a register
 
@@ -76,66 +74,31 @@ module _ (F : ℕ) (p : 0 < F) (ws : List ℕ) (top : ℕ) (s : Sound F ws top) 
       go false false = s .low
 
   module _ (e : r .verdict .status ≡ 0) (f : q .verdict .status ≡ 0) where
-    abbrev Same : ℕ → Type 0
-    Same c = (firstWord (r .words) c ≡ firstWord (q .words) c) × (secondWord (r .words) c ≡ secondWord (q .words) c)
-
     faultless : x .wrong ≡ 0
     unfolding callStatus
     faultless = orElse-zero (x .wrong) _ (sym (x .status) ∙ e)
 
-    same-cell : o < 8 → (c : ℕ) → Same c
-    same-cell h c = go (ℕ-discrete c d) (lt-or-ge c t) (lt-or-ge c (t + n))
-      where
-        t : ℕ
-        t = actedTop F ws top o d a b n
-
-        v : Leaves o d a b n (actedOn F ws top o d a b n) t (r .words)
-        v = x .doneWords e
-
-        w : Leaves o d a b n (actedOn F ws top o d a b n) t (q .words)
-        w = y .doneWords f
-
-        both : c ≢ d → (c < t) ⊎ (t + n ≤ c) → Same c
-        both m l =
-            let i = v .others c m l in
-            let j = w .others c m l in
-            (i .0 ∙ sym (j .0), i .1 ∙ sym (j .1))
-
-        go : Dec (c ≡ d) → (c < t) ⊎ (t ≤ c) → (c < t + n) ⊎ (t + n ≤ c) → Same c
-        go (yes m) k l =
-            rw m (same-register F p (r .words) (q .words) (r .top) (q .top) (x .sound) (y .sound) d
-            (d-register F o d a b (x .own) faultless h) (v .sets h ∙ sym (w .sets h)))
-        go (no m) (inl k) l = both m (inl k)
-        go (no m) (inr k) (inr l) = both m (inr l)
-        go (no m) (inr k) (inl l) =
-            let z : t + (c - t) ≡ c = omega arith in
-            rw z at (same-heap F p (r .words) (q .words) (r .top) (q .top) (x .sound) (y .sound) (t + (c - t))
-            (omega (arith, new-heap)) (omega (arith, x .doneTop e)) (omega (arith, y .doneTop f))
-            (v .lays (c - t) (omega arith) ∙ sym (w .lays (c - t) (omega arith))))
-
     same-words : r .words ≡ q .words
     same-words = go (lt-or-ge o 8)
       where
+        v : Leaves o d a b n (actedOn F ws top o d a b n) (actedTop F ws top o d a b n) (r .words)
+        v = x .doneWords e
+
+        w : Leaves o d a b n (actedOn F ws top o d a b n) (actedTop F ws top o d a b n) (q .words)
+        w = y .doneWords f
+
         go : (o < 8) ⊎ (8 ≤ o) → r .words ≡ q .words
         go (inl h) =
-            words-ext (r .words) (q .words) (x .len ∙ sym (y .len)) (x .sound .allowed .even)
-            (λ c _. same-cell h c .0) (λ c _. same-cell h c .1)
+            laid-once F r q (actedOn F ws top o d a b n) d (actedTop F ws top o d a b n) n
+            (d-register F o d a b (x .own) faultless h) new-heap (x .sound) (y .sound) (x .doneTop e) (y .doneTop f)
+            (v .others) (w .others) (v .sets h ∙ sym (w .sets h)) (λ j l. v .lays j l ∙ sym (w .lays j l))
+            (x .len ∙ sym (y .len))
         go (inr h) = x .asked e h ∙ sym (y .asked f h)
 
   same-left : (r .words ≡ q .words) × (r .top ≡ q .top)
-  same-left = go (ℕ-discrete (r .verdict .status) 0) (ℕ-discrete (r .verdict .status) 16)
-    where
-      go : Dec (r .verdict .status ≡ 0) → Dec (r .verdict .status ≡ 16) → (r .words ≡ q .words) × (r .top ≡ q .top)
-      go (yes e) k =
-          let f = sym same-status ∙ e in (same-words e f, x .doneTop e ∙ sym (y .doneTop f))
-      go (no e) (yes k) =
-          let u = x .full k in
-          let v = y .full (sym same-status ∙ k) in
-          (u .0 ∙ sym (v .0), u .1 ∙ sym (v .1))
-      go (no e) (no k) =
-          let u = x .refused e k in
-          let v = y .refused (λ z. e (same-status ∙ z)) (λ z. k (same-status ∙ z)) in
-          (u .0 ∙ sym (v .0), u .1 ∙ sym (v .1))
+  same-left =
+      left-once r q same-status (λ e f. (same-words e f, x .doneTop e ∙ sym (y .doneTop f))) (collected F ws top)
+      (F + live F ws top) (x .full) (y .full) ws top (λ k. x .refused (k .0) (k .1)) (λ k. y .refused (k .0) (k .1))
 
 pub one-call : OneCall
 one-call F p ws top s o d a b n r q x y =

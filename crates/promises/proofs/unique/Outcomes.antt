@@ -1,8 +1,8 @@
 -- One outcome: two that satisfy the same claim are equal. In order:
 --   one-answer                   an answer of which the promise says its number and values
 --   judged-once                  a store is judged once
---   one-check, one-fresh         the check, and a fresh store
---   one-collected, one-collect   the collected store, and collecting
+--   one-check, one-fresh         the check, and a fresh store;  done-parts  an answer by its parts
+--   one-collected, one-collect   the collected store, and collecting;  unsound-check  a store that is refused
 --   Left                         what is left of a list of requests: the answers, the words and `top`
 --   one-batch, one-look          a batch, and the look
 -- Assumes nothing.
@@ -27,11 +27,12 @@ use Rattle.meaning.proofs.check.Checking.{length-yes, yes-length, check-sound, 
 use Rattle.meaning.proofs.collected.Determined.{is-collected}
 use Rattle.promises.specs.Table.{Not, TopRule, Judged, badLength, badTop, badCell, isSound}
 use Rattle.promises.specs.Table.{Batched, unsound, badCalls, badSpace, runs}
-use Rattle.promises.specs.Requests.{Request, call, inWords}
+use Rattle.promises.specs.Requests.{Request, call, typed, inWords}
 use Rattle.promises.specs.Calls.{Did, Answered, none, next, BatchRun}
 use Rattle.promises.specs.Unique.{OneAnswer, OneCheck, OneFresh, OneCollected, OneLook, OneCollect, OneBatch}
 use Rattle.promises.proofs.unique.Words.{register-words, heap-words}
 use Rattle.promises.proofs.unique.Calls.{one-call}
+use Rattle.promises.proofs.unique.Texts.{typed-once}
 use Rattle.promises.proofs.table.Rules.{refuted}
 
 pub one-answer : OneAnswer
@@ -76,7 +77,7 @@ one-check F ws top v w a b = judged-once F ws top v w (a .judged) (b .judged)
 verdict-parts : (v w : Verdict) → v .status ≡ w .status → v .value ≡ w .value → v ≡ w
 verdict-parts v w e f = ap₂ {C = Verdict} (λ x y. record { status = x; value = y }) e f
 
-done-parts : (r q : Done) → r .verdict ≡ q .verdict → r .words ≡ q .words → r .top ≡ q .top → r ≡ q
+pub done-parts : (r q : Done) → r .verdict ≡ q .verdict → r .words ≡ q .words → r .top ≡ q .top → r ≡ q
 done-parts r q e f g = rw (e, f, g) refl
 
 pub one-fresh : OneFresh
@@ -106,7 +107,7 @@ one-collected F p ws top s v g =
     (mapEnds (new F ws top) (at ws c)) (g .cells c r))
     (λ i l h. free-words F v t (g .sound) i l (rw (g .len) h))
 
-unsound-check : (F : ℕ) (ws : List ℕ) (top n : ℕ) → check F ws top .status ≡ suc n → Not (Sound F ws top)
+pub unsound-check : (F : ℕ) (ws : List ℕ) (top n : ℕ) → check F ws top .status ≡ suc n → Not (Sound F ws top)
 unsound-check F ws top n e s =
     let z : check F ws top .status ≡ 0 = ap (λ (v : Verdict). v .status) (sound-check F ws top s) in omega arith
 
@@ -140,6 +141,7 @@ did-once F p ws top s (call o d a b) r r′ x y = (
   one-call F p ws top s o d a b (effect F ws top o d a b .need) r r′ x y,
   x .sound,
 )
+did-once F p ws top s (typed d bs) r r′ x y = (typed-once F ws top d bs s r r′ x y, x .sound)
 
 answered-once : (F : ℕ) → 0 < F → {ws : List ℕ} {top : ℕ} {qs : List Request} {said said′ : List Verdict}
     {v v′ : List ℕ} {t t′ : ℕ} → Sound F ws top → Answered F ws top qs said v t → Answered F ws top qs said′ v′ t′

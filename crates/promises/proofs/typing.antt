@@ -1,0 +1,6 @@
+-- A text typed in. In order:
+--   Typing   what it does in a sound store
+--   Answers  every answer is from its table, and no second one is
+-- Assumes nothing.
+pub mod Typing
+pub mod Answers
