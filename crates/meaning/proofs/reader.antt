@@ -2,7 +2,11 @@
 --   Moves   what a byte can do, by cases
 --   Drafts  what a draft is of the bytes read so far
 --   Forth   a text that is read whole is the text of what it is read as
+--   Codes   single bytes where they may stand, and a code read
+--   Back    the text of an expression, read, gives the expression back
 -- Assumes nothing.
 pub mod Moves
 pub mod Drafts
 pub mod Forth
+pub mod Codes
+pub mod Back

@@ -126,7 +126,8 @@ module _ (depth total : ℕ) (ar : List Expr) (own : Expr) (pre : List ℕ) (b l
       left = left;
       bytes =
           ap (λ (t : List ℕ). behind ar ++ t)
-          (text-code own d ∙ ap (λ (t : List ℕ). text own ++ (gap own ++ t)) (code-one d g ∙ ap (λ (x : ℕ). x ∷ []) (sym e)))
+          (text-code own d
+          ∙ ap (λ (t : List ℕ). text own ++ (gap own ++ t)) (code-one d g ∙ ap (λ (x : ℕ). x ∷ []) (sym e)))
           ∙ (assoc4 (behind ar) (text own) (gap own) (b ∷ []) ∙ ap (λ (t : List ℕ). t ++ b ∷ []) h);
       shape = l;
       level = o .level;
@@ -217,7 +218,8 @@ module _ (r : Draft) (pre : List ℕ) (b : ℕ) where
     bytes =
         ap (λ (t : List ℕ). behind ar ++ t)
         (text-code own (10 * a + x)
-        ∙ ap (λ (t : List ℕ). text own ++ (gap own ++ t)) (code-more a x p g ∙ ap (λ (y : ℕ). decimal a ++ y ∷ []) (sym c)))
+        ∙ ap (λ (t : List ℕ). text own ++ (gap own ++ t))
+        (code-more a x p g ∙ ap (λ (y : ℕ). decimal a ++ y ∷ []) (sym c)))
         ∙ ((simp append-assoc (ap (λ (t : List ℕ). behind ar ++ t) refl))
         ∙ ap (λ (t : List ℕ). t ++ b ∷ []) (ap (λ (t : List ℕ). behind ar ++ t) (sym (text-code own a)) ∙ k .bytes));
     shape = l;

@@ -39,9 +39,11 @@ module _ (P : Move → Type 0) (b : ℕ) (stop : (s : ℕ) → P (stops s)) wher
   first-cases depth begin bracket =
       either P (isDigit b)
       (λ e. either P (codeTest (withDigit 0 b))
-      (λ f. let i = digit-range b e in begin (withDigit 0 b) (omega (arith, i .0)) (omega (arith, i .1)) f) (λ _. stop 13))
+      (λ f. let i = digit-range b e in begin (withDigit 0 b) (omega (arith, i .0)) (omega (arith, i .1)) f)
+      (λ _. stop 13))
       (λ _. either P (eqb b 40)
-      (λ g. either P (ltb depth depthLimit) (λ d. bracket (eqb-true b 40 g) (ltb-true depth depthLimit d)) (λ _. stop 21))
+      (λ g. either P (ltb depth depthLimit) (λ d. bracket (eqb-true b 40 g) (ltb-true depth depthLimit d))
+      (λ _. stop 21))
       (λ _. stop 23))
 
   pub later-cases : (depth : ℕ) → (b ≡ 41 → 0 < depth → P closes) → (b ≡ 32 → P parts) → P (laterMove depth b)
