@@ -5,6 +5,7 @@
 --   Codes       single bytes where they may stand, and a code read
 --   Back        the text of an expression, read, gives the expression back
 --   Completing  bytes that do not stop the reader begin a text
+--   Standing    where the reader stands, by the bytes that it has read last
 --   Leftmost    where bytes stop the reader, and why
 -- Assumes nothing.
 pub mod Moves
@@ -13,4 +14,5 @@ pub mod Forth
 pub mod Codes
 pub mod Back
 pub mod Completing
+pub mod Standing
 pub mod Leftmost

@@ -8,6 +8,7 @@ use Rattle.promises.specs.Outright.{CallsOutright}
 use Rattle.promises.specs.Alike.{AlikeIsCollected, CollectionsNeverShow}
 use Rattle.promises.specs.Printing.{TextInWords, OneText, PrintAnswers, PrintsAlike, CollectionsUnprinted}
 use Rattle.promises.specs.Printing.{AlikePrinted}
+use Rattle.promises.specs.Reading.{ReadsBack, WritesBack, StopsLeftmost, OneRefusal}
 use Rattle.promises.specs.Program.{ProgramWrites, ProgramReads}
 use Rattle.promises.specs.ProgramRows.{ProgramRows}
 use Rattle.promises.specs.Unique.{OneAnswer, OneCheck, OneFresh, OneCollected, OneLook, OneCollect, OneBatch}
@@ -21,6 +22,7 @@ use Rattle.promises.proofs.alike.Alikes as alikes
 use Rattle.promises.proofs.alike.Striking as struck
 use Rattle.promises.proofs.printing.Meeting as meeting
 use Rattle.promises.proofs.printing.Printed as printing
+use Rattle.promises.proofs.reading.Refusing as reading
 use Rattle.promises.proofs.program.Written as program
 use Rattle.promises.proofs.ownwords.Faults as faults
 use Rattle.promises.proofs.unique.Calls as calls-once
@@ -97,6 +99,17 @@ collections-unprinted = printing.collections-unprinted
 pub alike-printed : AlikePrinted
 alike-printed = printing.alike-printed
 
+-- ---- a text read
+
+pub reads-back : ReadsBack
+reads-back = reading.reads-back
+
+pub writes-back : WritesBack
+writes-back = reading.writes-back
+
+pub stops-leftmost : StopsLeftmost
+stops-leftmost = reading.stops-leftmost
+
 -- ---- the program
 
 pub program-writes : ProgramWrites
@@ -139,6 +152,9 @@ one-batch = once.one-batch
 
 pub one-print : OnePrint
 one-print = printing.one-print
+
+pub one-refusal : OneRefusal
+one-refusal = reading.one-refusal
 
 pub one-program : OneProgram
 one-program = program.one-program

@@ -60,7 +60,8 @@ module _ (depth total : ℕ) (ar : List Expr) (own : Expr) (pre : List ℕ) wher
       let e : behind ar ++ text f ≡ pre ++ decimal 1 =
       ap (λ (t : List ℕ). behind ar ++ t)
       (text-code own 1 ∙ ap (λ (t : List ℕ). text own ++ (t ++ decimal 1)) (gap-filled own (k .shape)))
-      ∙ (simp append-assoc (ap (λ (t : List ℕ). behind ar ++ t) refl) ∙ ap (λ (t : List ℕ). t ++ decimal 1) (k .bytes)) in
+      ∙ (simp append-assoc (ap (λ (t : List ℕ). behind ar ++ t) refl)
+      ∙ ap (λ (t : List ℕ). t ++ decimal 1) (k .bytes)) in
       earlier pre (decimal 1)
       (subst (λ (t : List ℕ). Completed t) e
       (shut-all (k .left) ar f (readable-append (k .left) own (symbol 1 nothing) (k .level) (refl, tt)) (k .stack)))
@@ -71,7 +72,8 @@ module _ (depth total : ℕ) (ar : List Expr) (own : Expr) (pre : List ℕ) wher
   completed spaced k g = with-term k
   completed (number a) k g =
       subst (λ (t : List ℕ). Completed t) (k .bytes)
-      (shut-all (k .left) ar (append own (symbol a nothing)) (so-far (number a) depth total ar own pre k .level) (k .stack))
+      (shut-all (k .left) ar (append own (symbol a nothing)) (so-far (number a) depth total ar own pre k .level)
+      (k .stack))
   completed closed k g =
       subst (λ (t : List ℕ). Completed t) (k .bytes) (shut-all (k .left) ar own (k .level) (k .stack))
   completed (stopped s) k g = absurd g

@@ -1,5 +1,4 @@
 -- Where bytes stop the reader: at the first that it refuses, and there it stays. In order:
---   stays          a reader that is stopped stays as it is
 --   StopsAt        byte k is the first to be refused, and with which status
 --   GoesOn, way    bytes are read to their end, or stop the reader at one of them
 --   no-text        up to the byte that is refused no text begins so
@@ -25,13 +24,9 @@ use Rattle.meaning.proofs.reader.Forth.{reads-place}
 use Rattle.meaning.proofs.reader.Codes.{Ready}
 use Rattle.meaning.proofs.reader.Back.{read-back}
 use Rattle.meaning.proofs.reader.Completing.{Completed, Going}
+use Rattle.meaning.proofs.reader.Standing.{stays}
 
 -- ---- where
-
-stays : (bs : List ℕ) (s n d m : ℕ) → advances (reader (stopped s) n d m) bs ≡ reader (stopped s) n d m
-unfolding advance
-stays [] s n d m = refl
-stays (b ∷ bs) s n d m = stays bs s n d m
 
 pub record StopsAt (bs : List ℕ) (r : Reader) (k s : ℕ) : Type 0 where
   pub inside : k < length bs
@@ -116,9 +111,9 @@ no-text bs k s w c =
 
 -- a digit that takes a code over the limit;  a bracket that may stand there but is one too many;  any other byte
 pub data Why (s : Stand) (depth b : ℕ) : ℕ → Type 0 where
-  large : (a : ℕ) → s ≡ number a → 0 < a → isDigit b ≡ true → codeTest (withDigit a b) ≡ false → Why s depth b 13
-  deep : Ready s → b ≡ 40 → depthLimit ≤ depth → Why s depth b 21
-  other : Why s depth b 23
+  overCode : (a : ℕ) → s ≡ number a → 0 < a → isDigit b ≡ true → codeTest (withDigit a b) ≡ false → Why s depth b 13
+  overDepth : Ready s → b ≡ 40 → depthLimit ≤ depth → Why s depth b 21
+  noMove : Why s depth b 23
 
 -- a code of one digit is never too large
 digit-code : (b : ℕ) → isDigit b ≡ true → codeTest (withDigit 0 b) ≡ true
@@ -142,21 +137,21 @@ module _ (s : Stand) (depth b : ℕ) where
       (λ f. absurd (false≢true (sym f ∙ digit-code b e))))
       (λ _. either Stopping (eqb b 40)
       (λ e. either Stopping (ltb depth depthLimit) (λ _. tt)
-      (λ f. deep r (eqb-true b 40 e) (ltb-false depth depthLimit f)))
-      (λ _. other))
+      (λ f. overDepth r (eqb-true b 40 e) (ltb-false depth depthLimit f)))
+      (λ _. noMove))
 
   later-why : Stopping (laterMove depth b)
   unfolding laterMove
   later-why =
       either Stopping (eqb b 32) (λ _. tt)
-      (λ _. either Stopping (eqb b 41) (λ _. either Stopping (ltb 0 depth) (λ _. tt) (λ _. other)) (λ _. other))
+      (λ _. either Stopping (eqb b 41) (λ _. either Stopping (ltb 0 depth) (λ _. tt) (λ _. noMove)) (λ _. noMove))
 
   more-why : (a : ℕ) → s ≡ number a → Stopping (moreMove a depth b)
   unfolding moreMove
   more-why a h =
       either Stopping (isDigit b)
-      (λ e. either Stopping (eqb a 0) (λ _. other)
-      (λ z. either Stopping (codeTest (withDigit a b)) (λ _. tt) (λ f. large a h (positive z) e f)))
+      (λ e. either Stopping (eqb a 0) (λ _. noMove)
+      (λ z. either Stopping (codeTest (withDigit a b)) (λ _. tt) (λ f. overCode a h (positive z) e f)))
       (λ _. later-why)
     where
       positive : eqb a 0 ≡ false → 0 < a
