@@ -9,6 +9,7 @@ use Rattle.promises.specs.Alike.{AlikeIsCollected, CollectionsNeverShow}
 use Rattle.promises.specs.Printing.{TextInWords, OneText, PrintAnswers, PrintsAlike, CollectionsUnprinted}
 use Rattle.promises.specs.Printing.{AlikePrinted}
 use Rattle.promises.specs.Typing.{TypesDo, TypeAnswers}
+use Rattle.promises.specs.Reading.{ReadsBack, WritesBack, StopsLeftmost, OneRefusal}
 use Rattle.promises.specs.Program.{ProgramWrites, ProgramReads}
 use Rattle.promises.specs.ProgramRows.{ProgramRows}
 use Rattle.promises.specs.Unique.{OneAnswer, OneCheck, OneFresh, OneCollected, OneLook, OneCollect, OneBatch}
@@ -24,6 +25,7 @@ use Rattle.promises.proofs.printing.Meeting as meeting
 use Rattle.promises.proofs.printing.Printed as printing
 use Rattle.promises.proofs.typing.Typing as typing
 use Rattle.promises.proofs.typing.Answers as typed
+use Rattle.promises.proofs.reading.Refusing as reading
 use Rattle.promises.proofs.program.Written as program
 use Rattle.promises.proofs.ownwords.Faults as faults
 use Rattle.promises.proofs.unique.Calls as calls-once
@@ -108,6 +110,17 @@ types-do = typing.types-do
 pub type-answers : TypeAnswers
 type-answers = typed.type-answers
 
+-- ---- a text read
+
+pub reads-back : ReadsBack
+reads-back = reading.reads-back
+
+pub writes-back : WritesBack
+writes-back = reading.writes-back
+
+pub stops-leftmost : StopsLeftmost
+stops-leftmost = reading.stops-leftmost
+
 -- ---- the program
 
 pub program-writes : ProgramWrites
@@ -153,6 +166,9 @@ one-print = printing.one-print
 
 pub one-type : OneType
 one-type = typed.one-type
+
+pub one-refusal : OneRefusal
+one-refusal = reading.one-refusal
 
 pub one-program : OneProgram
 one-program = program.one-program

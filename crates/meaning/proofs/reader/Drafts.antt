@@ -168,7 +168,7 @@ module _ (depth total : ℕ) (ar : List Expr) (own : Expr) (pre : List ℕ) (b l
     many = o .many;
   }
 
-closed-bytes : (ps : List Expr) (p f : Expr)
+pub closed-bytes : (ps : List Expr) (p f : Expr)
     → behind ps ++ text (append p (parens f nothing)) ≡ (behind (p ∷ ps) ++ text f) ++ 41 ∷ []
 closed-bytes ps p f = rw (text-after p (parens f nothing) (omega arith)) (simp append-assoc)
 
