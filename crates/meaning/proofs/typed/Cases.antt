@@ -1,7 +1,7 @@
 -- What typing a text in answers, by its cases. In order:
 --   type-unsound               in words that are no sound store
---   type-none                  in a sound store, into a register that is none
---   type-stopped, type-whole   into a register: a text that is refused, and one that is whole
+--   type-none, type-register   in a sound store: into a register that is none, and into one
+--   type-stopped, type-whole   then by the text: one that is refused, and one that is whole
 --   TypeCases, type-cases      all four
 -- Assumes nothing.
 use mathlib.Core.Path.{_≡_, refl}
@@ -29,15 +29,19 @@ module _ (F : ℕ) (ws : List ℕ) (top d : ℕ) (bs : List ℕ) where
   unfolding typeIn
   type-none s h = rw (sound-check F ws top s, le-ltb d F h) refl
 
+  pub type-register : Sound F ws top → d < F → typeIn F ws top d bs ≡ typedOf F ws top d (reads blank bs)
+  unfolding typeIn
+  type-register s h = rw (sound-check F ws top s, lt-ltb d F h) refl
+
   pub type-stopped : Sound F ws top → d < F → isWhole (reads blank bs .place) ≡ false
       → typeIn F ws top d bs ≡ refused ws top (stopVerdict (reads blank bs .place))
-  unfolding typeIn typedOf
-  type-stopped s h e = rw (sound-check F ws top s, lt-ltb d F h, e) refl
+  unfolding typedOf
+  type-stopped s h e = rw (type-register s h, e) refl
 
   pub type-whole : Sound F ws top → d < F → isWhole (reads blank bs .place) ≡ true
       → typeIn F ws top d bs ≡ carryOut F (typePlan d (expression (reads blank bs)) ws) ws top
-  unfolding typeIn typedOf
-  type-whole s h e = rw (sound-check F ws top s, lt-ltb d F h, e) refl
+  unfolding typedOf
+  type-whole s h e = rw (type-register s h, e) refl
 
   pub data TypeCases : Done → Type 0 where
     unsound : check F ws top .status ≢ 0 → TypeCases (refused ws top (check F ws top))
