@@ -1,6 +1,7 @@
 -- Laws of Judge and Reader. In order:
 --   Moves       what a byte can do, by cases
 --   Drafts      what a draft is of the bytes read so far
+--   Keeping     and that every byte keeps it so
 --   Forth       a text that is read whole is the text of what it is read as
 --   Codes       single bytes where they may stand, and a code read
 --   Back        the text of an expression, read, gives the expression back
@@ -10,6 +11,7 @@
 -- Assumes nothing.
 pub mod Moves
 pub mod Drafts
+pub mod Keeping
 pub mod Forth
 pub mod Codes
 pub mod Back

@@ -1,5 +1,5 @@
--- Demand 2, a text read (SCOPE 5.8): what is read is what was written, and a text is refused at the byte farthest to the
--- left. In order:
+-- Demand 2, a text read (SCOPE 5.8): what is read is what was written, and a text is refused at the byte farthest to
+-- the left. In order:
 --   BeginsText, AreText        bytes that begin a text;  bytes that are one
 --   ReadsBack, WritesBack      what was written is read back, and what is read is written back
 --   TermMayBegin               where a term may begin
@@ -11,7 +11,7 @@
 use mathlib.Core.Path.{_≡_}
 use mathlib.Core.Logic.{_⊎_}
 use mathlib.Core.Bool.{true, false}
-use mathlib.Core.List.{List, [], _∷_, _++_}
+use mathlib.Core.List.{List, _++_}
 use Prim.Native.Nat.{ℕ, suc, _+_, _-_, _*_, _≤_, _<_}
 use lib.ListN.{length, getD, take}
 use Rattle.bytes.specs.Decimal.{decimal}

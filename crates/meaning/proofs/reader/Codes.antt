@@ -9,7 +9,7 @@ use mathlib.Core.Path.{_≡_, refl, sym, ap, _∙_, subst}
 use mathlib.Core.Logic.{_⊎_, inl, inr}
 use mathlib.Core.Bool.{true}
 use mathlib.Core.List.{List, [], _∷_, _++_}
-use Prim.Native.Nat.{ℕ, zero, suc, _+_, _-_, _*_, _/_, _%_, _≤_, _<_}
+use Prim.Native.Nat.{ℕ, zero, suc, _+_, _*_, _/_, _%_, _≤_, _<_}
 use native.Mathlib.Omega.{arith}
 use native.Mathlib.Nat.{not-suc-le-zero}
 use lib.ListN.{length, length-append}
@@ -23,6 +23,7 @@ use Rattle.meaning.specs.Judge.{Move, begins, grows, opens, closes, part
 use Rattle.meaning.specs.Judge.{isDigit, withDigit, firstMove, laterMove, moreMove, judge}
 use Rattle.meaning.specs.Reader.{reader, Draft, takes, read, reads}
 use Rattle.meaning.proofs.Lists.{lt-or-ge}
+use Rattle.meaning.proofs.reader.Moves.{is-digit}
 
 pub reads-append : (xs ys : List ℕ) (r : Draft) → reads r (xs ++ ys) ≡ reads (reads r xs) ys
 reads-append [] ys r = refl
@@ -30,9 +31,8 @@ reads-append (x ∷ xs) ys r = reads-append xs ys (read x r)
 
 -- ---- single bytes
 
-pub digit-is : (d : ℕ) → d ≤ 9 → isDigit (48 + d) ≡ true
-unfolding isDigit
-digit-is d h = simp (le-leb 48 (48 + d) (omega arith), le-leb (48 + d) 57 (omega arith))
+digit-is : (d : ℕ) → d ≤ 9 → isDigit (48 + d) ≡ true
+digit-is d h = is-digit (48 + d) (omega arith) (omega arith)
 
 -- where a term may begin; where one has ended; where a bracket may close
 abbrev pub Ready : Stand → Type 0

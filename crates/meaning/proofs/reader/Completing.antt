@@ -10,11 +10,12 @@ use Prim.Native.Nat.{ℕ, suc}
 use Rattle.bytes.specs.Decimal.{decimal}
 use Rattle.meaning.specs.Limits.{codeTest, depthLimit}
 use Rattle.meaning.specs.Expr.{Expr, nothing, symbol, parens, append}
-use Rattle.meaning.specs.Text.{gap, text, Readable}
+use Rattle.meaning.specs.Text.{text, Readable}
 use Rattle.meaning.specs.Judge.{Stand, begun, spaced, number, closed, stopped}
 use Rattle.meaning.specs.Reader.{Reader, advances, atStart, reads, blank}
 use Rattle.meaning.proofs.text.Texts.{gap-filled, text-code, readable-append}
-use Rattle.meaning.proofs.reader.Drafts.{behind, Stack, Kept, Inv, so-far, closed-bytes, bytes-inv}
+use Rattle.meaning.proofs.reader.Drafts.{behind, Stack, Kept, Inv, so-far}
+use Rattle.meaning.proofs.reader.Keeping.{closed-bytes, bytes-inv}
 use Rattle.meaning.proofs.reader.Forth.{reads-place}
 
 pub record Completed (pre : List ℕ) : Type 0 where

@@ -6,20 +6,20 @@
 -- Assumes nothing.
 use mathlib.Core.Path.{_≡_, refl, sym, ap, _∙_, subst}
 use mathlib.Core.Logic.{_⊎_, inl, inr}
-use mathlib.Core.Bool.{Bool, true, false, _&&_, false≢true}
+use mathlib.Core.Bool.{true, false, false≢true}
 use mathlib.Core.List.{List, [], _∷_, _++_}
-use Prim.Native.Nat.{ℕ, zero, suc, _+_, _≤_, _<_}
+use Prim.Native.Nat.{ℕ, suc, _+_, _≤_, _<_}
 use native.Mathlib.Omega.{arith}
 use lib.Dec.{ltb, eqb}
 use lib.ListN.{length, getD, take}
-use borrow.Author.Tests.{ltb-false, le-ltb, le-leb, eqb-true, eqb-false, ne-eqb}
+use borrow.Author.Tests.{ltb-false, le-ltb, le-leb, eqb-true, ne-eqb}
 use Rattle.meaning.specs.Limits.{codeTest, depthLimit}
 use Rattle.meaning.specs.Text.{text}
 use Rattle.meaning.specs.Judge.{Stand, begun, spaced, number, closed, stopped}
 use Rattle.meaning.specs.Judge.{Move, stops, begins, grows, opens, closes, parts}
 use Rattle.meaning.specs.Judge.{isDigit, withDigit, firstMove, laterMove, moreMove, judge}
 use Rattle.meaning.specs.Reader.{Reader, reader, moved, advance, advances, atStart, isWhole, reads, blank}
-use Rattle.meaning.proofs.reader.Moves.{either, digit-range}
+use Rattle.meaning.proofs.reader.Moves.{either, positive, digit-range}
 use Rattle.meaning.proofs.reader.Forth.{reads-place}
 use Rattle.meaning.proofs.reader.Codes.{Ready}
 use Rattle.meaning.proofs.reader.Back.{read-back}
@@ -151,11 +151,8 @@ module _ (s : Stand) (depth b : ℕ) where
   more-why a h =
       either Stopping (isDigit b)
       (λ e. either Stopping (eqb a 0) (λ _. noMove)
-      (λ z. either Stopping (codeTest (withDigit a b)) (λ _. tt) (λ f. overCode a h (positive z) e f)))
+      (λ z. either Stopping (codeTest (withDigit a b)) (λ _. tt) (λ f. overCode a h (positive a z) e f)))
       (λ _. later-why)
-    where
-      positive : eqb a 0 ≡ false → 0 < a
-      positive z = let n = eqb-false a 0 z in omega (arith, n)
 
 judged-why : (s : Stand) (depth b : ℕ) → Going s → Stopping s depth b (judge s depth b)
 judged-why begun depth b g =

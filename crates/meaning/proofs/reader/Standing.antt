@@ -7,7 +7,7 @@
 -- Assumes nothing.
 use mathlib.Core.Path.{_≡_, refl, sym, ap, _∙_, subst}
 use mathlib.Core.Logic.{_⊎_, inl, inr}
-use mathlib.Core.List.{List, [], _∷_, _++_, append-assoc, append-nil}
+use mathlib.Core.List.{List, [], _∷_, _++_, append-assoc}
 use Prim.Native.Nat.{ℕ, _+_}
 use native.Mathlib.Omega.{arith}
 use Rattle.bytes.specs.Decimal.{decimal}
@@ -18,7 +18,8 @@ use Rattle.meaning.specs.Judge.{Stand, begun, spaced, number, closed, st
 use Rattle.meaning.specs.Reader.{Reader, reader, moved, advance, advances, atStart, Draft, reads, blank}
 use Rattle.meaning.proofs.text.Texts.{text-code}
 use Rattle.meaning.proofs.reader.Moves.{judge-cases}
-use Rattle.meaning.proofs.reader.Drafts.{behind, Kept, Inv, bytes-inv}
+use Rattle.meaning.proofs.reader.Drafts.{behind, Kept, Inv}
+use Rattle.meaning.proofs.reader.Keeping.{bytes-inv}
 use Rattle.meaning.proofs.reader.Forth.{reads-place}
 use Rattle.meaning.proofs.reader.Codes.{Ready, code-read}
 use Rattle.meaning.proofs.reader.Completing.{Going}

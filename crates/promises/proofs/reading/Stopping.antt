@@ -14,19 +14,19 @@ use native.Mathlib.Omega.{arith}
 use lib.Dec.{eqb}
 use lib.ListN.{length, getD, take, drop, length-append, length-take, take-append-drop}
 use lib.Seq.{length-take-le, take-suc, take-append-seam, getD-append-seam}
-use borrow.Author.Tests.{le-leb, eq-eqb, ne-eqb}
+use borrow.Author.Tests.{eq-eqb, ne-eqb}
 use Rattle.bytes.specs.Decimal.{decimal}
 use Rattle.meaning.specs.Limits.{codeTest, depthLimit}
 use Rattle.meaning.specs.Judge.{Stand, number, Move, stops, begins, grows, opens, closes, parts}
 use Rattle.meaning.specs.Judge.{isDigit, withDigit, judge}
 use Rattle.meaning.specs.Reader.{Reader, moved, advance, advances, atStart}
-use Rattle.meaning.proofs.reader.Moves.{digit-range, judge-cases}
+use Rattle.meaning.proofs.reader.Moves.{digit-range, is-digit, judge-cases}
 use Rattle.meaning.proofs.reader.Codes.{Ready}
 use Rattle.meaning.proofs.reader.Completing.{Going}
 use Rattle.meaning.proofs.reader.Standing.{advances-append, going-before, EndsReady, ready-after, code-after}
 use Rattle.meaning.proofs.reader.Standing.{ready-ends, code-ends}
 use Rattle.meaning.proofs.reader.Leftmost.{StopsAt, Why, overCode, overDepth, noMove, why, large-stops, deep-stops}
-use Rattle.promises.specs.Printing.{count, OneTooMany}
+use Rattle.promises.specs.Printing.{count}
 use Rattle.promises.specs.Reading.{TermMayBegin, CodeTooLarge, BracketTooDeep, StopsWith, large, deep, other}
 
 -- ---- how many brackets are open
@@ -94,10 +94,6 @@ may-begin bs p ys e (inr (q, c, f, h)) =
 
 -- ---- why a byte is refused
 
-is-digit : (b : ℕ) → 48 ≤ b → b ≤ 57 → isDigit b ≡ true
-unfolding isDigit
-is-digit b h l = simp (le-leb 48 b h, le-leb b 57 l)
-
 not-code : (a : ℕ) → (codeTest a ≡ true → ⊥) → codeTest a ≡ false
 not-code a n = go (codeTest a) refl
   where
@@ -159,7 +155,8 @@ module _ (bs : List ℕ) (k : ℕ) (l : k < length bs) where
       ap (advances atStart) (c .digits) ∙ advances-append (take (c .start) bs) (decimal a) atStart in
       let h = going-before (decimal a) q (subst (λ (r : Reader). Going (r .stand)) e g) in
       let s : at .stand ≡ number a =
-      ap (λ (r : Reader). r .stand) e ∙ code-after q a (ready-at bs (c .start) (start-in c) (c .begins) h) (c .isCode) in
+      ap (λ (r : Reader). r .stand) e
+      ∙ code-after q a (ready-at bs (c .start) (start-in c) (c .begins) h) (c .isCode) in
       ap (λ (y : Stand). judge y (at .depth) x) s
       ∙ large-stops a (at .depth) x (c .positive) (is-digit x (c .digit .0) (c .digit .1))
       (not-code (10 * a + (x - 48)) (c .over))
