@@ -40,13 +40,6 @@ module _ (s : ℕ) where
   stop-number-listed (inr (inl e)) = inr (inr (inr (inr (inr (inr (inr (inl e)))))))
   stop-number-listed (inr (inr e)) = inr (inr (inr (inr (inr (inr (inr (inr (inl e))))))))
 
-  check-number-listed : OneOf s (0 ∷ 1 ∷ 2 ∷ 3 ∷ []) → Numbers s
-  check-number-listed (inl e) = inl e
-  check-number-listed (inr (inl e)) = inr (inl e)
-  check-number-listed (inr (inr (inl e))) = inr (inr (inl e))
-  check-number-listed (inr (inr (inr (inl e)))) = inr (inr (inr (inl e)))
-  check-number-listed (inr (inr (inr (inr e)))) = absurd e
-
   plain-away : Plain s → (s ≢ 3) × (s ≢ 13) × (s ≢ 21) × (s ≢ 23)
   plain-away (inl e) = (omega arith, omega arith, omega arith, omega arith)
   plain-away (inr (inl e)) = (omega arith, omega arith, omega arith, omega arith)
@@ -90,7 +83,7 @@ module _ (F : ℕ) (ws : List ℕ) (top d : ℕ) (bs : List ℕ) where
       let z : v .status ≢ 0 = (λ f. omega arith) in
       rw (type-unsound F ws top d bs z)
       (record {
-        number = check-number-listed (v .status) (judged-number F ws top v j);
+        number = judged-number F ws top (13 ∷ 16 ∷ 20 ∷ 21 ∷ 23 ∷ []) v j;
         value = λ o. judged-value F ws top v j (plain-away (v .status) o .0);
         types = λ s. absurd (unsound-check F ws top n e s);
         unsound = λ _. (j, z, refl, refl);
