@@ -1,4 +1,7 @@
--- The statuses with which a text is refused: 13, 21 and 23. Assumes nothing.
+-- The statuses with which a text is refused. In order:
+--   StopNumber    13, 21 or 23
+--   stop-number   a text that is refused has such a status
+-- Assumes nothing.
 use mathlib.Core.Path.{_≡_, refl}
 use mathlib.Core.Logic.{_⊎_, inl, inr}
 use mathlib.Core.List.{List, [], _∷_}
@@ -11,7 +14,7 @@ use Rattle.meaning.specs.Judge.{isDigit, withDigit, firstMove, laterMove
 use Rattle.meaning.specs.Reader.{atStart, stopStatus, stopVerdict, Reader, moved, Draft, read, reads, blank}
 use Rattle.meaning.proofs.reader.Moves.{either}
 
-abbrev StopNumber : ℕ → Type 0
+abbrev pub StopNumber : ℕ → Type 0
 StopNumber s = (s ≡ 13) ⊎ ((s ≡ 21) ⊎ (s ≡ 23))
 
 -- of a move that stops, and of a reader that is stopped
@@ -81,8 +84,6 @@ stand-number (number a) h = inr (inr refl)
 stand-number closed h = inr (inr refl)
 stand-number (stopped s) h = h
 
-pub stop-number : (bs : List ℕ)
-    → (stopVerdict (reads blank bs .place) .status ≡ 13)
-    ⊎ ((stopVerdict (reads blank bs .place) .status ≡ 21) ⊎ (stopVerdict (reads blank bs .place) .status ≡ 23))
+pub stop-number : (bs : List ℕ) → StopNumber (stopVerdict (reads blank bs .place) .status)
 unfolding stopVerdict blank atStart
 stop-number bs = stand-number (reads blank bs .place .stand) (reads-stands bs blank tt)

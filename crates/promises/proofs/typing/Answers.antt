@@ -12,7 +12,7 @@ use Rattle.meaning.specs.Verdicts.{Verdict}
 use Rattle.meaning.specs.Check.{check}
 use Rattle.meaning.specs.Typed.{typeIn}
 use Rattle.meaning.proofs.check.Checking.{check-sound}
-use Rattle.meaning.proofs.typed.Stops.{stop-number}
+use Rattle.meaning.proofs.typed.Stops.{StopNumber, stop-number}
 use Rattle.meaning.proofs.typed.Cases.{type-unsound}
 use Rattle.promises.specs.Table.{OneOf}
 use Rattle.promises.specs.Typing.{TypedAs, noRegister, noText, noRoom, hasRoom, TypeTable, TypeAnswers}
@@ -31,11 +31,8 @@ Numbers s = OneOf s (0 ∷ 1 ∷ 2 ∷ 3 ∷ 13 ∷ 16 ∷ 20 ∷ 21 ∷ 23 ∷ 
 abbrev Plain : ℕ → Type 0
 Plain s = OneOf s (0 ∷ 1 ∷ 2 ∷ 16 ∷ 20 ∷ [])
 
-abbrev Stop : ℕ → Type 0
-Stop s = (s ≡ 13) ⊎ ((s ≡ 21) ⊎ (s ≡ 23))
-
 module _ (s : ℕ) where
-  stop-number-listed : Stop s → Numbers s
+  stop-number-listed : StopNumber s → Numbers s
   stop-number-listed (inl e) = inr (inr (inr (inr (inl e))))
   stop-number-listed (inr (inl e)) = inr (inr (inr (inr (inr (inr (inr (inl e)))))))
   stop-number-listed (inr (inr e)) = inr (inr (inr (inr (inr (inr (inr (inr (inl e))))))))
@@ -48,7 +45,7 @@ module _ (s : ℕ) where
   plain-away (inr (inr (inr (inr (inl e))))) = (omega arith, omega arith, omega arith, omega arith)
   plain-away (inr (inr (inr (inr (inr e))))) = absurd e
 
-  plain-stop : Plain s → Stop s → ⊥
+  plain-stop : Plain s → StopNumber s → ⊥
   plain-stop o (inl e) = plain-away o .1 e
   plain-stop o (inr (inl e)) = plain-away o .2 e
   plain-stop o (inr (inr e)) = plain-away o .3 e

@@ -32,7 +32,7 @@ use Rattle.meaning.proofs.actions.Writing.{at-put, at-put-other}
 use Rattle.meaning.proofs.call.Plans.{sought-length, sought-other, sought-sound, planLacks, planTop, PlanMeets}
 use Rattle.meaning.proofs.lay.Each.{Coded}
 use Rattle.meaning.proofs.lay.Denoting.{laid-more, laid-at, laid-in}
-use Rattle.meaning.proofs.typed.Stops.{stop-number}
+use Rattle.meaning.proofs.typed.Stops.{StopNumber, stop-number}
 use Rattle.meaning.proofs.typed.Cases.{TypeCases, unsound, none, stopped, whole, type-cases}
 use Rattle.meaning.proofs.typed.Meeting.{coded-read, type-meets}
 use Rattle.promises.specs.Cells.{OnlyThere, laidOn, laidFrom}
@@ -64,6 +64,11 @@ after-refused : (s : ℕ) → s ≢ 0 → (x : Effect) (e : ℕ → Expr) (i : �
 after-refused zero n x e i = absurd (n refl)
 after-refused (suc s) n x e i = refl
 
+stop-away : (x : ℕ) → StopNumber x → (x ≢ 0) × (x ≢ 16)
+stop-away x (inl e) = (omega arith, omega arith)
+stop-away x (inr (inl e)) = (omega arith, omega arith)
+stop-away x (inr (inr e)) = (omega arith, omega arith)
+
 module _ (F : ℕ) (ws : List ℕ) (top : ℕ) (s : Sound F ws top) (d : ℕ) (bs : List ℕ) where
   refusal : (v : Verdict) → TypedAs F ws top d bs v → v .status ≢ 0 → v .status ≢ 16
       → TypedIn F ws top d bs (refused ws top v)
@@ -82,18 +87,8 @@ module _ (F : ℕ) (ws : List ℕ) (top : ℕ) (s : Sound F ws top) (d : ℕ) (b
   bad-text : d < F → (Whole bs → ⊥) → TypedIn F ws top d bs (refused ws top (stopVerdict (reads blank bs .place)))
   bad-text h w =
       let v = stopVerdict (reads blank bs .place) in
-      refusal v (noText h w) (λ e. no-zero (v .status) (stop-number bs) e)
-      (λ e. no-sixteen (v .status) (stop-number bs) e)
-    where
-      no-zero : (x : ℕ) → (x ≡ 13) ⊎ ((x ≡ 21) ⊎ (x ≡ 23)) → x ≢ 0
-      no-zero x (inl e) = omega arith
-      no-zero x (inr (inl e)) = omega arith
-      no-zero x (inr (inr e)) = omega arith
-
-      no-sixteen : (x : ℕ) → (x ≡ 13) ⊎ ((x ≡ 21) ⊎ (x ≡ 23)) → x ≢ 16
-      no-sixteen x (inl e) = omega arith
-      no-sixteen x (inr (inl e)) = omega arith
-      no-sixteen x (inr (inr e)) = omega arith
+      let x = stop-away (v .status) (stop-number bs) in
+      refusal v (noText h w) (x .0) (x .1)
 
   -- where no cell is laid
   none-laid : (n : ℕ) → n ≡ 0 → (v u : List ℕ) (t : ℕ) → t ≡ laidFrom F n v ws top + n
