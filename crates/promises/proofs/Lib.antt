@@ -8,6 +8,7 @@ pub mod calls
 pub mod outright
 pub mod alike
 pub mod printing
+pub mod reading
 pub mod program
 pub mod unique
 pub mod Final

@@ -9,6 +9,7 @@
 --   Outright    demand 2: what each of the twelve does
 --   Alike       demand 3: collections never show
 --   Printing    demands 1 and 2: a register printed
+--   Reading     demand 2: a text read, and where it is refused
 --   Program     what the program writes for what it reads;  ProgramRows  byte for byte
 --   Unique      no claim leaves a second outcome
 -- Everything is over the first heap cell F, which is more than 0.
@@ -23,6 +24,7 @@ pub mod Calls
 pub mod Outright
 pub mod Alike
 pub mod Printing
+pub mod Reading
 pub mod Program
 pub mod ProgramRows
 pub mod Unique

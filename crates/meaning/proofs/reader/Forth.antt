@@ -17,7 +17,8 @@ use Rattle.meaning.specs.Lay.{allTerms}
 use Rattle.meaning.specs.Text.{text, Readable}
 use Rattle.meaning.specs.Judge.{Stand, begun, spaced, number, closed, stopped}
 use Rattle.meaning.specs.Reader.{advance, advances, mayEnd, isWhole, Draft, ended, expression, read, reads, blank}
-use Rattle.meaning.proofs.reader.Drafts.{behind, Stack, sizes, Open, Inv, so-far, bytes-inv}
+use Rattle.meaning.proofs.reader.Drafts.{behind, Stack, sizes, Open, Inv, so-far}
+use Rattle.meaning.proofs.reader.Keeping.{bytes-inv}
 
 stack-long : (left : ℕ) (ar : List Expr) → Stack left ar → left + length ar ≡ depthLimit
 stack-long left [] h = omega (arith, h)

@@ -1,7 +1,8 @@
 -- What a byte can do, by cases: what holds of every move that can be judged, with what the byte is, holds of the one
 -- that is. In order:
 --   either                                 a choice by a test
---   digit-range                            a byte that is a digit
+--   positive                               a number that is not 0
+--   digit-range, is-digit                  a byte that is a digit
 --   first-cases, later-cases, more-cases   a byte where a term may begin, after a whole term, after a digit
 --   judge-cases                            a byte wherever the reader stands
 -- Assumes nothing.
@@ -10,7 +11,7 @@ use mathlib.Core.Bool.{Bool, true, false, cond, _&&_, false≢true}
 use Prim.Native.Nat.{ℕ, _+_, _-_, _*_, _≤_, _<_}
 use native.Mathlib.Omega.{arith}
 use lib.Dec.{ltb, leb, eqb}
-use borrow.Author.Tests.{ltb-true, leb-true, eqb-true, eqb-false}
+use borrow.Author.Tests.{ltb-true, leb-true, le-leb, eqb-true, eqb-false}
 use Rattle.meaning.specs.Limits.{codeTest, depthLimit}
 use Rattle.meaning.specs.Sound.{IsCode}
 use Rattle.meaning.specs.Judge.{Stand, begun, spaced, number, closed, stopped}
@@ -22,6 +23,9 @@ pub either : {A : Type 0} (P : A → Type 0) (t : Bool) {x y : A} → (t ≡ tru
 either P true f g = f refl
 either P false f g = g refl
 
+pub positive : (a : ℕ) → eqb a 0 ≡ false → 0 < a
+positive a z = let n = eqb-false a 0 z in omega (arith, n)
+
 pub digit-range : (b : ℕ) → isDigit b ≡ true → (48 ≤ b) × (b ≤ 57)
 unfolding isDigit
 digit-range b e = both (leb 48 b) (leb b 57) refl refl e
@@ -31,6 +35,10 @@ digit-range b e = both (leb 48 b) (leb b 57) refl refl e
     both true false f g e = absurd (false≢true e)
     both false t f g e = absurd (false≢true e)
 
+pub is-digit : (b : ℕ) → 48 ≤ b → b ≤ 57 → isDigit b ≡ true
+unfolding isDigit
+is-digit b h l = simp (le-leb 48 b h, le-leb b 57 l)
+
 -- what the byte is at each move
 module _ (P : Move → Type 0) (b : ℕ) (stop : (s : ℕ) → P (stops s)) where
   pub first-cases : (depth : ℕ) → ((d : ℕ) → b ≡ 48 + d → d ≤ 9 → IsCode d → P (begins d))
@@ -39,9 +47,11 @@ module _ (P : Move → Type 0) (b : ℕ) (stop : (s : ℕ) → P (stops s)) wher
   first-cases depth begin bracket =
       either P (isDigit b)
       (λ e. either P (codeTest (withDigit 0 b))
-      (λ f. let i = digit-range b e in begin (withDigit 0 b) (omega (arith, i .0)) (omega (arith, i .1)) f) (λ _. stop 13))
+      (λ f. let i = digit-range b e in begin (withDigit 0 b) (omega (arith, i .0)) (omega (arith, i .1)) f)
+      (λ _. stop 13))
       (λ _. either P (eqb b 40)
-      (λ g. either P (ltb depth depthLimit) (λ d. bracket (eqb-true b 40 g) (ltb-true depth depthLimit d)) (λ _. stop 21))
+      (λ g. either P (ltb depth depthLimit) (λ d. bracket (eqb-true b 40 g) (ltb-true depth depthLimit d))
+      (λ _. stop 21))
       (λ _. stop 23))
 
   pub later-cases : (depth : ℕ) → (b ≡ 41 → 0 < depth → P closes) → (b ≡ 32 → P parts) → P (laterMove depth b)
@@ -58,12 +68,9 @@ module _ (P : Move → Type 0) (b : ℕ) (stop : (s : ℕ) → P (stops s)) wher
       either P (isDigit b)
       (λ e. either P (eqb a 0) (λ _. stop 23)
       (λ z. either P (codeTest (withDigit a b))
-      (λ f. let i = digit-range b e in grow (b - 48) (omega (arith, i .0)) (omega (arith, i .1)) (positive z) f)
+      (λ f. let i = digit-range b e in grow (b - 48) (omega (arith, i .0)) (omega (arith, i .1)) (positive a z) f)
       (λ _. stop 13)))
       (λ _. later-cases depth close part)
-    where
-      positive : eqb a 0 ≡ false → 0 < a
-      positive z = let n = eqb-false a 0 z in omega (arith, n)
 
 -- a byte wherever the reader stands
 module _ (P : Move → Type 0) (b depth : ℕ) (stop : (s : ℕ) → P (stops s))
