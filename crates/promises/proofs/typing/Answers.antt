@@ -12,13 +12,12 @@ use Rattle.meaning.specs.Verdicts.{Verdict}
 use Rattle.meaning.specs.Check.{check}
 use Rattle.meaning.specs.Typed.{typeIn}
 use Rattle.meaning.proofs.check.Checking.{check-sound}
-use Rattle.meaning.proofs.typed.Stops.{StopNumber, stop-number}
 use Rattle.meaning.proofs.typed.Cases.{type-unsound}
 use Rattle.promises.specs.Table.{OneOf}
 use Rattle.promises.specs.Typing.{TypedAs, noRegister, noText, noRoom, hasRoom, TypeTable, TypeAnswers}
 use Rattle.promises.specs.Unique.{OneType}
 use Rattle.promises.proofs.table.Rules.{judged, judged-number, judged-value}
-use Rattle.promises.proofs.typing.Typing.{types-do}
+use Rattle.promises.proofs.typing.Typing.{StopNumber, refused-number, types-do}
 use Rattle.promises.proofs.unique.Texts.{typed-once}
 use Rattle.promises.proofs.unique.Outcomes.{judged-once, done-parts, unsound-check}
 
@@ -53,13 +52,13 @@ module _ (s : ℕ) where
 module _ (F : ℕ) (ws : List ℕ) (top d : ℕ) (bs : List ℕ) where
   says-number : (v : Verdict) → TypedAs F ws top d bs v → Numbers (v .status)
   says-number v (noRegister h) = inr (inr (inr (inr (inr (inr (inl refl))))))
-  says-number v (noText h n) = stop-number-listed (v .status) (stop-number bs)
+  says-number v (noText _ h n t) = stop-number-listed (v .status) (refused-number bs v t)
   says-number v (noRoom h n l) = inr (inr (inr (inr (inr (inl refl)))))
   says-number v (hasRoom h n l) = inl refl
 
   says-value : (v : Verdict) → TypedAs F ws top d bs v → Plain (v .status) → v .value ≡ 0
   says-value v (noRegister h) o = refl
-  says-value v (noText h n) o = absurd (plain-stop (v .status) o (stop-number bs))
+  says-value v (noText _ h n t) o = absurd (plain-stop (v .status) o (refused-number bs v t))
   says-value v (noRoom h n l) o = refl
   says-value v (hasRoom h n l) o = refl
 
