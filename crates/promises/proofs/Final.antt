@@ -8,8 +8,8 @@ use Rattle.promises.specs.Outright.{CallsOutright}
 use Rattle.promises.specs.Alike.{AlikeIsCollected, CollectionsNeverShow}
 use Rattle.promises.specs.Printing.{TextInWords, OneText, PrintAnswers, PrintsAlike, CollectionsUnprinted}
 use Rattle.promises.specs.Printing.{AlikePrinted}
-use Rattle.promises.specs.Typing.{TypesDo, TypeAnswers}
 use Rattle.promises.specs.Reading.{ReadsBack, WritesBack, StopsLeftmost, OneRefusal}
+use Rattle.promises.specs.Typing.{TypesDo, TypeAnswers}
 use Rattle.promises.specs.Program.{ProgramWrites, ProgramReads}
 use Rattle.promises.specs.ProgramRows.{ProgramRows}
 use Rattle.promises.specs.Unique.{OneAnswer, OneCheck, OneFresh, OneCollected, OneLook, OneCollect, OneBatch}
@@ -23,9 +23,9 @@ use Rattle.promises.proofs.alike.Alikes as alikes
 use Rattle.promises.proofs.alike.Striking as struck
 use Rattle.promises.proofs.printing.Meeting as meeting
 use Rattle.promises.proofs.printing.Printed as printing
+use Rattle.promises.proofs.reading.Refusing as reading
 use Rattle.promises.proofs.typing.Typing as typing
 use Rattle.promises.proofs.typing.Answers as typed
-use Rattle.promises.proofs.reading.Refusing as reading
 use Rattle.promises.proofs.program.Written as program
 use Rattle.promises.proofs.ownwords.Faults as faults
 use Rattle.promises.proofs.unique.Calls as calls-once
@@ -102,14 +102,6 @@ collections-unprinted = printing.collections-unprinted
 pub alike-printed : AlikePrinted
 alike-printed = printing.alike-printed
 
--- ---- typed text
-
-pub types-do : TypesDo
-types-do = typing.types-do
-
-pub type-answers : TypeAnswers
-type-answers = typed.type-answers
-
 -- ---- a text read
 
 pub reads-back : ReadsBack
@@ -120,6 +112,14 @@ writes-back = reading.writes-back
 
 pub stops-leftmost : StopsLeftmost
 stops-leftmost = reading.stops-leftmost
+
+-- ---- typed text
+
+pub types-do : TypesDo
+types-do = typing.types-do
+
+pub type-answers : TypeAnswers
+type-answers = typed.type-answers
 
 -- ---- the program
 
@@ -164,11 +164,11 @@ one-batch = once.one-batch
 pub one-print : OnePrint
 one-print = printing.one-print
 
-pub one-type : OneType
-one-type = typed.one-type
-
 pub one-refusal : OneRefusal
 one-refusal = reading.one-refusal
+
+pub one-type : OneType
+one-type = typed.one-type
 
 pub one-program : OneProgram
 one-program = program.one-program

@@ -4,12 +4,12 @@
 --   Collecting  demand 2: what a collection keeps, and where
 --   OwnWords    demand 2: statuses 10 to 13
 --   Cells       demand 2: what a call leaves in the cells
---   Typing      demands 1 and 2: a text typed into a register
 --   Calls       demand 2: what each call does, and a batch call by call
 --   Outright    demand 2: what each of the twelve does
 --   Alike       demand 3: collections never show
 --   Printing    demands 1 and 2: a register printed
 --   Reading     demand 2: a text read, and where it is refused
+--   Typing      demands 1 and 2: a text typed into a register
 --   Program     what the program writes for what it reads;  ProgramRows  byte for byte
 --   Unique      no claim leaves a second outcome
 -- Everything is over the first heap cell F, which is more than 0.
@@ -19,12 +19,12 @@ pub mod Requests
 pub mod Collecting
 pub mod OwnWords
 pub mod Cells
-pub mod Typing
 pub mod Calls
 pub mod Outright
 pub mod Alike
 pub mod Printing
 pub mod Reading
+pub mod Typing
 pub mod Program
 pub mod ProgramRows
 pub mod Unique

@@ -21,10 +21,11 @@ use Rattle.meaning.specs.Verdicts.{Verdict, only, Done}
 use Rattle.meaning.specs.Lay.{allTerms, lastBelow, laid}
 use Rattle.meaning.specs.Call.{sought}
 use Rattle.meaning.specs.Effect.{typing, after}
-use Rattle.meaning.specs.Reader.{reads, blank, isWhole, stopVerdict, expression}
+use Rattle.meaning.specs.Reader.{reads, blank, isWhole, expression}
 use Rattle.meaning.specs.Typed.{typeIn}
 use Rattle.promises.specs.Table.{OneOf, Not, Judged}
 use Rattle.promises.specs.Cells.{OnlyThere, laidOn, laidFrom}
+use Rattle.promises.specs.Reading.{RefusedText}
 
 -- ---- the text
 
@@ -36,11 +37,11 @@ Whole bs = isWhole (reads blank bs .place) ≡ true
 
 -- ---- the status and value in a sound store
 
--- 20, then the text's refusal with the offset of the byte, then 16 exactly when F + live + a cell for each term on all
+-- 20, then the text's refusal with the offset of its byte (Reading), then 16 exactly when F + live + a cell for each term on all
 -- levels exceeds the capacity, where live counts d's old expression too; else 0
 pub data TypedAs (F : ℕ) (ws : List ℕ) (top d : ℕ) (bs : List ℕ) : Verdict → Type 0 where
   noRegister : F ≤ d → TypedAs F ws top d bs (only 20)
-  noText : d < F → Not (Whole bs) → TypedAs F ws top d bs (stopVerdict (reads blank bs .place))
+  noText : (v : Verdict) → d < F → Not (Whole bs) → RefusedText bs v → TypedAs F ws top d bs v
   noRoom : d < F → Whole bs → capacity ws < F + live F (sought false d ws) top + allTerms (said bs)
       → TypedAs F ws top d bs (only 16)
   hasRoom : d < F → Whole bs → F + live F (sought false d ws) top + allTerms (said bs) ≤ capacity ws

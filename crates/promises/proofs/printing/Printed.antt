@@ -80,15 +80,8 @@ module _ (F : ℕ) (ws : List ℕ) (top i n : ℕ) where
   unsound-table z =
       let j = judged F ws top in
       rw (print-unsound F ws top i n z)
-      (refusal (check F ws top) (wider (judged-number F ws top (check F ws top) j))
+      (refusal (check F ws top) (judged-number F ws top (20 ∷ 21 ∷ 22 ∷ []) (check F ws top) j)
       (judged-value F ws top (check F ws top) j) z (unsound (check F ws top) j z))
-    where
-      wider : {s : ℕ} → OneOf s (0 ∷ 1 ∷ 2 ∷ 3 ∷ []) → OneOf s (0 ∷ 1 ∷ 2 ∷ 3 ∷ 20 ∷ 21 ∷ 22 ∷ [])
-      wider (inl e) = inl e
-      wider (inr (inl e)) = inr (inl e)
-      wider (inr (inr (inl e))) = inr (inr (inl e))
-      wider (inr (inr (inr (inl e)))) = inr (inr (inr (inl e)))
-      wider (inr (inr (inr (inr e)))) = absurd e
 
 pub print-answers : PrintAnswers
 print-answers F ws top i n = go (check F ws top .status) refl

@@ -2,7 +2,7 @@
 use mathlib.Core.Path.{_≡_, refl, sym, _∙_}
 use mathlib.Core.Logic.{inl, inr, _≢_}
 use mathlib.Core.Bool.{Bool, true, false, false≢true}
-use mathlib.Core.List.{List, [], _∷_}
+use mathlib.Core.List.{List, _∷_}
 use Prim.Native.Nat.{ℕ}
 use lib.ListN.{length}
 use Rattle.words.specs.Cell.{firstWord, secondWord}
@@ -32,11 +32,12 @@ module _ (F : ℕ) (ws : List ℕ) (top : ℕ) where
   pub judged : Judged F ws top (check F ws top)
   judged = judge F ws top (check F ws top) (check-cases F ws top)
 
-  pub judged-number : (v : Verdict) → Judged F ws top v → OneOf (v .status) (0 ∷ 1 ∷ 2 ∷ 3 ∷ [])
-  judged-number v (badLength n) = inr (inl refl)
-  judged-number v (badTop l n) = inr (inr (inl refl))
-  judged-number v (badCell c l t m n b) = inr (inr (inr (inl refl)))
-  judged-number v (isSound s) = inl refl
+  -- whatever else is in a table
+  pub judged-number : (more : List ℕ) (v : Verdict) → Judged F ws top v → OneOf (v .status) (0 ∷ 1 ∷ 2 ∷ 3 ∷ more)
+  judged-number more v (badLength n) = inr (inl refl)
+  judged-number more v (badTop l n) = inr (inr (inl refl))
+  judged-number more v (badCell c l t m n b) = inr (inr (inr (inl refl)))
+  judged-number more v (isSound s) = inl refl
 
   pub judged-value : (v : Verdict) → Judged F ws top v → v .status ≢ 3 → v .value ≡ 0
   judged-value v (badLength n) h = refl

@@ -45,7 +45,7 @@ check-answers F ws top =
     let v = check F ws top in
     let j = judged F ws top in
     record {
-      number = judged-number F ws top v j;
+      number = judged-number F ws top [] v j;
       value = judged-value F ws top v j;
       sound = (check-sound F ws top, λ s. ap (λ (w : Verdict). w .status) (sound-check F ws top s));
       judged = j;
@@ -96,7 +96,7 @@ collect-answers F ws top = go (check F ws top .status) refl
           refused = λ n. absurd (n (check-sound F ws top e));
         }
     go (suc n) e = record {
-      number = judged-number F ws top (check F ws top) (judged F ws top);
+      number = judged-number F ws top [] (check F ws top) (judged F ws top);
       collects = λ s. absurd
           (let z : check F ws top .status ≡ 0 = ap (λ (v : Verdict). v .status) (sound-check F ws top s) in omega
           arith);
@@ -141,14 +141,7 @@ module _ (F : ℕ) (ws : List ℕ) (top : ℕ) (calls out : List ℕ) where
 
   batched-number : (r : Outcome) → Batched F ws top calls out r
       → OneOf (r .verdict .status) (0 ∷ 1 ∷ 2 ∷ 3 ∷ 4 ∷ 5 ∷ [])
-  batched-number r (table.unsound v j n) = wider (v .status) (judged-number F ws top v j)
-    where
-      wider : (n : ℕ) → OneOf n (0 ∷ 1 ∷ 2 ∷ 3 ∷ []) → OneOf n (0 ∷ 1 ∷ 2 ∷ 3 ∷ 4 ∷ 5 ∷ [])
-      wider n (inl e) = inl e
-      wider n (inr (inl e)) = inr (inl e)
-      wider n (inr (inr (inl e))) = inr (inr (inl e))
-      wider n (inr (inr (inr (inl e)))) = inr (inr (inr (inl e)))
-      wider n (inr (inr (inr (inr e)))) = absurd e
+  batched-number r (table.unsound v j n) = judged-number F ws top (4 ∷ 5 ∷ []) v j
   batched-number r (table.badCalls s n) = inr (inr (inr (inr (inl refl))))
   batched-number r (badSpace s c n) = inr (inr (inr (inr (inr (inl refl)))))
   batched-number r (runs q s c l e) = inl (ap (λ (v : Verdict). v .status) e)

@@ -12,13 +12,12 @@ use Rattle.meaning.specs.Verdicts.{Verdict}
 use Rattle.meaning.specs.Check.{check}
 use Rattle.meaning.specs.Typed.{typeIn}
 use Rattle.meaning.proofs.check.Checking.{check-sound}
-use Rattle.meaning.proofs.typed.Stops.{stop-number}
 use Rattle.meaning.proofs.typed.Cases.{type-unsound}
 use Rattle.promises.specs.Table.{OneOf}
 use Rattle.promises.specs.Typing.{TypedAs, noRegister, noText, noRoom, hasRoom, TypeTable, TypeAnswers}
 use Rattle.promises.specs.Unique.{OneType}
 use Rattle.promises.proofs.table.Rules.{judged, judged-number, judged-value}
-use Rattle.promises.proofs.typing.Typing.{types-do}
+use Rattle.promises.proofs.typing.Typing.{StopNumber, refused-number, types-do}
 use Rattle.promises.proofs.unique.Texts.{typed-once}
 use Rattle.promises.proofs.unique.Outcomes.{judged-once, done-parts, unsound-check}
 
@@ -31,21 +30,11 @@ Numbers s = OneOf s (0 ∷ 1 ∷ 2 ∷ 3 ∷ 13 ∷ 16 ∷ 20 ∷ 21 ∷ 23 ∷ 
 abbrev Plain : ℕ → Type 0
 Plain s = OneOf s (0 ∷ 1 ∷ 2 ∷ 16 ∷ 20 ∷ [])
 
-abbrev Stop : ℕ → Type 0
-Stop s = (s ≡ 13) ⊎ ((s ≡ 21) ⊎ (s ≡ 23))
-
 module _ (s : ℕ) where
-  stop-number-listed : Stop s → Numbers s
+  stop-number-listed : StopNumber s → Numbers s
   stop-number-listed (inl e) = inr (inr (inr (inr (inl e))))
   stop-number-listed (inr (inl e)) = inr (inr (inr (inr (inr (inr (inr (inl e)))))))
   stop-number-listed (inr (inr e)) = inr (inr (inr (inr (inr (inr (inr (inr (inl e))))))))
-
-  check-number-listed : OneOf s (0 ∷ 1 ∷ 2 ∷ 3 ∷ []) → Numbers s
-  check-number-listed (inl e) = inl e
-  check-number-listed (inr (inl e)) = inr (inl e)
-  check-number-listed (inr (inr (inl e))) = inr (inr (inl e))
-  check-number-listed (inr (inr (inr (inl e)))) = inr (inr (inr (inl e)))
-  check-number-listed (inr (inr (inr (inr e)))) = absurd e
 
   plain-away : Plain s → (s ≢ 3) × (s ≢ 13) × (s ≢ 21) × (s ≢ 23)
   plain-away (inl e) = (omega arith, omega arith, omega arith, omega arith)
@@ -55,7 +44,7 @@ module _ (s : ℕ) where
   plain-away (inr (inr (inr (inr (inl e))))) = (omega arith, omega arith, omega arith, omega arith)
   plain-away (inr (inr (inr (inr (inr e))))) = absurd e
 
-  plain-stop : Plain s → Stop s → ⊥
+  plain-stop : Plain s → StopNumber s → ⊥
   plain-stop o (inl e) = plain-away o .1 e
   plain-stop o (inr (inl e)) = plain-away o .2 e
   plain-stop o (inr (inr e)) = plain-away o .3 e
@@ -63,13 +52,13 @@ module _ (s : ℕ) where
 module _ (F : ℕ) (ws : List ℕ) (top d : ℕ) (bs : List ℕ) where
   says-number : (v : Verdict) → TypedAs F ws top d bs v → Numbers (v .status)
   says-number v (noRegister h) = inr (inr (inr (inr (inr (inr (inl refl))))))
-  says-number v (noText h n) = stop-number-listed (v .status) (stop-number bs)
+  says-number v (noText _ h n t) = stop-number-listed (v .status) (refused-number bs v t)
   says-number v (noRoom h n l) = inr (inr (inr (inr (inr (inl refl)))))
   says-number v (hasRoom h n l) = inl refl
 
   says-value : (v : Verdict) → TypedAs F ws top d bs v → Plain (v .status) → v .value ≡ 0
   says-value v (noRegister h) o = refl
-  says-value v (noText h n) o = absurd (plain-stop (v .status) o (stop-number bs))
+  says-value v (noText _ h n t) o = absurd (plain-stop (v .status) o (refused-number bs v t))
   says-value v (noRoom h n l) o = refl
   says-value v (hasRoom h n l) o = refl
 
@@ -90,7 +79,7 @@ module _ (F : ℕ) (ws : List ℕ) (top d : ℕ) (bs : List ℕ) where
       let z : v .status ≢ 0 = (λ f. omega arith) in
       rw (type-unsound F ws top d bs z)
       (record {
-        number = check-number-listed (v .status) (judged-number F ws top v j);
+        number = judged-number F ws top (13 ∷ 16 ∷ 20 ∷ 21 ∷ 23 ∷ []) v j;
         value = λ o. judged-value F ws top v j (plain-away (v .status) o .0);
         types = λ s. absurd (unsound-check F ws top n e s);
         unsound = λ _. (j, z, refl, refl);

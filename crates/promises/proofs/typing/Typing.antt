@@ -1,8 +1,9 @@
 -- Demand 2, a text typed into a register of a sound store: what `meaning` shows of it through its plan, in the words of
 -- SCOPE 5.8. In order:
---   text-leaves   what it leaves in the cells, where it is laid
---   refusal       a refusal but 16
---   types-do      the claim
+--   text-leaves                  what it leaves in the cells, where it is laid
+--   StopNumber, refused-number   the status of a text's refusal
+--   refusal, whole-does          a refusal but 16;  a whole text
+--   types-do                     the claim
 -- Assumes nothing.
 use mathlib.Core.Path.{_≡_, refl, sym, ap, ap₂, subst, _∙_}
 use mathlib.Core.Logic.{_⊎_, inl, inr, _≢_}
@@ -24,7 +25,7 @@ use Rattle.meaning.specs.Check.{check}
 use Rattle.meaning.specs.Lay.{allTerms, lastBelow, laid, puts, newCells}
 use Rattle.meaning.specs.Call.{sought, lacks, carryOut}
 use Rattle.meaning.specs.Effect.{Effect, typing, after, answer}
-use Rattle.meaning.specs.Reader.{reads, blank, stopVerdict}
+use Rattle.meaning.specs.Reader.{reads, blank, isWhole, stopVerdict}
 use Rattle.meaning.specs.Typed.{typePlan, typeIn}
 use Rattle.meaning.proofs.sound.Cells.{term-of-bracket}
 use Rattle.meaning.proofs.check.Checking.{sound-check}
@@ -32,12 +33,13 @@ use Rattle.meaning.proofs.actions.Writing.{at-put, at-put-other}
 use Rattle.meaning.proofs.call.Plans.{sought-length, sought-other, sought-sound, planLacks, planTop, PlanMeets}
 use Rattle.meaning.proofs.lay.Each.{Coded}
 use Rattle.meaning.proofs.lay.Denoting.{laid-more, laid-at, laid-in}
-use Rattle.meaning.proofs.typed.Stops.{stop-number}
 use Rattle.meaning.proofs.typed.Cases.{TypeCases, unsound, none, stopped, whole, type-cases}
 use Rattle.meaning.proofs.typed.Meeting.{coded-read, type-meets}
 use Rattle.promises.specs.Cells.{OnlyThere, laidOn, laidFrom}
+use Rattle.promises.specs.Reading.{large, deep, other, RefusedText, endsTooSoon, stopsAt}
 use Rattle.promises.specs.Typing.{said, Whole, TypedAs, noRegister, noText, noRoom, hasRoom, LeavesText, typedOn}
 use Rattle.promises.specs.Typing.{typedFrom, TypedIn, TypesDo}
+use Rattle.promises.proofs.reading.Refusing.{stops-leftmost}
 use Rattle.promises.proofs.calls.Touching.{only-trans, text-only}
 use Rattle.promises.proofs.calls.Rooms.{as-was, stays, room-top, room-leaves}
 
@@ -64,6 +66,21 @@ after-refused : (s : ℕ) → s ≢ 0 → (x : Effect) (e : ℕ → Expr) (i : �
 after-refused zero n x e i = absurd (n refl)
 after-refused (suc s) n x e i = refl
 
+-- a text's refusal is 13, 21 or 23
+abbrev pub StopNumber : ℕ → Type 0
+StopNumber s = (s ≡ 13) ⊎ ((s ≡ 21) ⊎ (s ≡ 23))
+
+pub refused-number : (bs : List ℕ) (v : Verdict) → RefusedText bs v → StopNumber (v .status)
+refused-number bs v (endsTooSoon b n) = inr (inr refl)
+refused-number bs v (stopsAt k s l b n (large c)) = inl refl
+refused-number bs v (stopsAt k s l b n (deep c)) = inr (inl refl)
+refused-number bs v (stopsAt k s l b n (other c m)) = inr (inr refl)
+
+stop-away : (x : ℕ) → StopNumber x → (x ≢ 0) × (x ≢ 16)
+stop-away x (inl e) = (omega arith, omega arith)
+stop-away x (inr (inl e)) = (omega arith, omega arith)
+stop-away x (inr (inr e)) = (omega arith, omega arith)
+
 module _ (F : ℕ) (ws : List ℕ) (top : ℕ) (s : Sound F ws top) (d : ℕ) (bs : List ℕ) where
   refusal : (v : Verdict) → TypedAs F ws top d bs v → v .status ≢ 0 → v .status ≢ 16
       → TypedIn F ws top d bs (refused ws top v)
@@ -79,21 +96,13 @@ module _ (F : ℕ) (ws : List ℕ) (top : ℕ) (s : Sound F ws top) (d : ℕ) (b
     len = refl;
   }
 
-  bad-text : d < F → (Whole bs → ⊥) → TypedIn F ws top d bs (refused ws top (stopVerdict (reads blank bs .place)))
-  bad-text h w =
+  bad-text : d < F → isWhole (reads blank bs .place) ≡ false
+      → TypedIn F ws top d bs (refused ws top (stopVerdict (reads blank bs .place)))
+  bad-text h e =
       let v = stopVerdict (reads blank bs .place) in
-      refusal v (noText h w) (λ e. no-zero (v .status) (stop-number bs) e)
-      (λ e. no-sixteen (v .status) (stop-number bs) e)
-    where
-      no-zero : (x : ℕ) → (x ≡ 13) ⊎ ((x ≡ 21) ⊎ (x ≡ 23)) → x ≢ 0
-      no-zero x (inl e) = omega arith
-      no-zero x (inr (inl e)) = omega arith
-      no-zero x (inr (inr e)) = omega arith
-
-      no-sixteen : (x : ℕ) → (x ≡ 13) ⊎ ((x ≡ 21) ⊎ (x ≡ 23)) → x ≢ 16
-      no-sixteen x (inl e) = omega arith
-      no-sixteen x (inr (inl e)) = omega arith
-      no-sixteen x (inr (inr e)) = omega arith
+      let t = stops-leftmost bs e in
+      let x = stop-away (v .status) (refused-number bs v t) in
+      refusal v (noText v h (λ w. false≢true (sym e ∙ w)) t) (x .0) (x .1)
 
   -- where no cell is laid
   none-laid : (n : ℕ) → n ≡ 0 → (v u : List ℕ) (t : ℕ) → t ≡ laidFrom F n v ws top + n
@@ -184,7 +193,7 @@ module _ (F : ℕ) (ws : List ℕ) (top : ℕ) (s : Sound F ws top) (d : ℕ) (b
   by-cases : (x : Done) → TypeCases F ws top d bs x → TypedIn F ws top d bs x
   by-cases x (unsound n) = absurd (n (ap (λ (y : Verdict). y .status) (sound-check F ws top s)))
   by-cases x (none _ h) = refusal (only 20) (noRegister h) (λ e. omega arith) (λ e. omega arith)
-  by-cases x (stopped _ h e) = bad-text h (λ w. false≢true (sym e ∙ w))
+  by-cases x (stopped _ h e) = bad-text h e
   by-cases x (whole _ h w) = whole-does h w
 
 pub types-do : TypesDo

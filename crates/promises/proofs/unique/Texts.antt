@@ -14,31 +14,32 @@ use Rattle.meaning.specs.Lay.{allTerms}
 use Rattle.meaning.specs.Call.{sought}
 use Rattle.promises.specs.Typing.{said, Whole, TypedAs, noRegister, noText, noRoom, hasRoom, typedOn, typedFrom}
 use Rattle.promises.specs.Typing.{LeavesText, TypedIn}
+use Rattle.promises.proofs.reading.Refusing.{one-refusal}
 use Rattle.promises.proofs.unique.Words.{laid-once, left-once}
 
 module _ (F : ℕ) (ws : List ℕ) (top d : ℕ) (bs : List ℕ) where
   says-once : (v w : Verdict) → TypedAs F ws top d bs v → TypedAs F ws top d bs w → v ≡ w
   says-once v w (noRegister h) (noRegister k) = refl
-  says-once v w (noRegister h) (noText k n) = absurd (omega arith)
+  says-once v w (noRegister h) (noText _ k n t) = absurd (omega arith)
   says-once v w (noRegister h) (noRoom k n m) = absurd (omega arith)
   says-once v w (noRegister h) (hasRoom k n m) = absurd (omega arith)
-  says-once v w (noText h n) (noRegister k) = absurd (omega arith)
-  says-once v w (noText h n) (noText k m) = refl
-  says-once v w (noText h n) (noRoom k m l) = absurd (n m)
-  says-once v w (noText h n) (hasRoom k m l) = absurd (n m)
+  says-once v w (noText _ h n t) (noRegister k) = absurd (omega arith)
+  says-once v w (noText _ h n t) (noText _ k m u) = one-refusal bs v w t u
+  says-once v w (noText _ h n t) (noRoom k m l) = absurd (n m)
+  says-once v w (noText _ h n t) (hasRoom k m l) = absurd (n m)
   says-once v w (noRoom h n l) (noRegister k) = absurd (omega arith)
-  says-once v w (noRoom h n l) (noText k m) = absurd (m n)
+  says-once v w (noRoom h n l) (noText _ k m u) = absurd (m n)
   says-once v w (noRoom h n l) (noRoom k m i) = refl
   says-once v w (noRoom h n l) (hasRoom k m i) = absurd (omega arith)
   says-once v w (hasRoom h n l) (noRegister k) = absurd (omega arith)
-  says-once v w (hasRoom h n l) (noText k m) = absurd (m n)
+  says-once v w (hasRoom h n l) (noText _ k m u) = absurd (m n)
   says-once v w (hasRoom h n l) (noRoom k m i) = absurd (omega arith)
   says-once v w (hasRoom h n l) (hasRoom k m i) = refl
 
   -- a text that is done is typed into a register
   done-register : (v : Verdict) → TypedAs F ws top d bs v → v .status ≡ 0 → d < F
   done-register v (noRegister h) e = absurd (omega arith)
-  done-register v (noText h n) e = h
+  done-register v (noText _ h n t) e = h
   done-register v (noRoom h n l) e = h
   done-register v (hasRoom h n l) e = h
 
