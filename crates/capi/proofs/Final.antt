@@ -7,8 +7,9 @@ use Rattle.meaning.specs.Verdicts.{Done}
 use Rattle.meaning.specs.Batch.{Outcome}
 use Rattle.meaning.specs.Text.{Printed}
 use Rattle.store.proofs.Final as store
-use Rattle.capi.specs.Answers.{reply, verdictIs, doneIs, outcomeIs, printedIs}
-use Rattle.capi.specs.Unique.{OneCheck, OneFresh, OneCollect, OneRun, OneLook, OnePrint}
+use Rattle.capi.specs.Answers.{reply, verdictIs, doneIs, outcomeIs, printedIs, typedIs}
+use Rattle.capi.specs.Unique.{OneCheck, OneFresh, OneCollect, OneRun, OneLook, OnePrint, OneType}
+use Rattle.capi.specs.declared.Entry.{Entry}
 use Rattle.capi.specs.declared.Reply.{Reply}
 use Rattle.capi.specs.declared.Text.{Text}
 
@@ -50,4 +51,15 @@ one-print ws top i out vs vs′ r r′ p q =
         length = x .size;
       }) e,
       ap (λ (x : Printed). x .space) e,
+    )
+
+pub one-type : OneType
+one-type ws top d bs vs vs′ r r′ p q =
+    let e : typedIs r vs ≡ typedIs r′ vs′ = p ∙ sym q in (
+      ap {B = Entry} (λ (x : Done). record {
+        status = x .verdict .status;
+        value = x .verdict .value;
+        top = x .top;
+      }) e,
+      ap (λ (x : Done). x .words) e,
     )

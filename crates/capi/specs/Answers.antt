@@ -10,8 +10,10 @@ use Rattle.meaning.specs.Check.{check, collectIn}
 use Rattle.meaning.specs.Fresh.{freshIn}
 use Rattle.meaning.specs.Batch.{Outcome, batch}
 use Rattle.meaning.specs.Text as text
+use Rattle.meaning.specs.Typed.{typeIn}
 use Rattle.store.specs.Answers.{Placed}
 use Rattle.store.specs.declared.Span as span
+use Rattle.capi.specs.declared.Entry.{Entry}
 use Rattle.capi.specs.declared.Numbers.{Numbers}
 use Rattle.capi.specs.declared.Reply.{Reply}
 use Rattle.capi.specs.declared.Text.{Text}
@@ -40,6 +42,10 @@ outcomeIs r ws out = record { verdict = verdictIs r; words = ws; top = r .top; a
 abbrev pub printedIs : Text → List ℕ → text.Printed
 printedIs r out = record { verdict = record { status = r .status; value = r .value }; size = r .length; space = out }
 
+-- what typing gives, with the words of the store
+abbrev pub typedIs : Entry → List ℕ → Done
+typedIs r ws = record { verdict = record { status = r .status; value = r .value }; words = ws; top = r .top }
+
 -- ---- what the exported functions promise: the contracts cite these, and so does every claim about them
 
 -- `zelmotar_check` gives `top` back as it came
@@ -63,3 +69,7 @@ Places ws top i r = Placed firstHeapCell ws top i r
 -- `zelmotar_print` leaves the bytes vs of the text space `out`
 abbrev pub Prints : List ℕ → ℕ → ℕ → List ℕ → Text → List ℕ → Type 0
 Prints ws top i out r vs = printedIs r vs ≡ text.printIn firstHeapCell ws top i (length out)
+
+-- `zelmotar_type` leaves the words vs
+abbrev pub Types : List ℕ → ℕ → ℕ → List ℕ → Entry → List ℕ → Type 0
+Types ws top d bs r vs = typedIs r vs ≡ typeIn firstHeapCell ws top d bs

@@ -5,7 +5,8 @@ use mathlib.Core.Path.{_≡_}
 use mathlib.Core.List.{List}
 use Prim.Native.Nat.{ℕ}
 use Rattle.store.specs.declared.Span as span
-use Rattle.capi.specs.Answers.{Checks, Makes, Collects, Runs, Places, Prints}
+use Rattle.capi.specs.Answers.{Checks, Makes, Collects, Runs, Places, Prints, Types}
+use Rattle.capi.specs.declared.Entry.{Entry}
 use Rattle.capi.specs.declared.Reply.{Reply}
 use Rattle.capi.specs.declared.Text.{Text}
 
@@ -32,3 +33,8 @@ abbrev pub OnePrint : Type 0
 OnePrint =
     (ws : List ℕ) (top i : ℕ) (out vs vs′ : List ℕ) (r r′ : Text)
     → Prints ws top i out r vs → Prints ws top i out r′ vs′ → (r ≡ r′) × (vs ≡ vs′)
+
+abbrev pub OneType : Type 0
+OneType =
+    (ws : List ℕ) (top d : ℕ) (bs vs vs′ : List ℕ) (r r′ : Entry)
+    → Types ws top d bs r vs → Types ws top d bs r′ vs′ → (r ≡ r′) × (vs ≡ vs′)

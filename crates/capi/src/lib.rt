@@ -1,18 +1,21 @@
 // The store for C and Rust. A slice crosses as a pointer and a count of words or bytes. No enum and no slice can come
-// back: a reply is a struct of SCOPE's numbers (5), so is what printing gives, and a look is a place. Each exported
-// function is one call of a proved one, and takes whatever it is handed.
+// back: a reply is a struct of SCOPE's numbers (5), so is what printing and typing give, and a look is a place. Each
+// exported function is one call of a proved one, and takes whatever it is handed.
 use calls::Ran;
 use collect::Collected;
+use reader::judging::Fault;
 use store::Checked;
 use store::Made;
 use store::Span;
 use store::Unsound;
 use text::Printed;
+use typing::Typed;
 ghost use mathlib.Core.Path.{_≡_};
 ghost use Prim.Native.Nat.{_≤_};
 ghost use Rattle.meaning.specs.Limits.{limit};
 ghost use Rattle.store.specs.Answers.{refusalOf};
-ghost use Rattle.capi.specs.Answers.{refusalIs, reply, Checks, Makes, Collects, Runs, Places, Prints};
+ghost use Rattle.reader.specs.Readers.{faultOf};
+ghost use Rattle.capi.specs.Answers.{refusalIs, reply, Checks, Makes, Collects, Runs, Places, Prints, Types};
 
 // A status, the value that goes with it, and `top` afterwards.
 #[repr(C)]
@@ -158,6 +161,48 @@ pub extern "C" fn zelmotar_print(words: &[u32], top: usize, reg: usize, space: &
         Printed::NoRegister => no_text(20, 0),
         Printed::TooDeep => no_text(21, 0),
         Printed::ShortSpace => no_text(22, 0),
+    }
+}
+
+// What typing gives: a status, the value that goes with it, which may be an offset into the text, and `top` afterwards.
+#[repr(C)]
+pub struct Entry {
+    pub status: u32,
+    pub value: usize,
+    pub top: usize,
+}
+
+fn entry_with(status: u32, value: usize, top: usize) -> Entry
+    ensures { λ r. ⌜ r ≡ record { status = status; value = value; top = top } ⌝ }
+{
+    Entry { status, value, top }
+}
+
+// Why a text is refused, as a number.
+fn fault_number(fault: Fault) -> u32
+    ensures { λ r. ⌜ r ≡ faultOf fault ⌝ }
+{
+    match fault {
+        Fault::LargeCode => 13,
+        Fault::TooDeep => 21,
+        Fault::NotText => 23,
+    }
+}
+
+// A text typed into a register. The text is only read.
+#[no_mangle]
+pub extern "C" fn zelmotar_type(words: &mut [u32], top: usize, reg: usize, text: &[u8]) -> Entry
+    ensures { λ r. ⌜ Types (now (words .entry)) top reg (now (text .entry)) r (now (words .exit)) ⌝ }
+{
+    match typing::type_in(words, top, reg, text) {
+        Typed::Done(end) => entry_with(0, 0, end),
+        Typed::Refused(why) => {
+            let n = refusal(why);
+            entry_with(n.status, n.value, top)
+        }
+        Typed::NoRegister => entry_with(20, 0, top),
+        Typed::BadText(fault, at) => entry_with(fault_number(fault), at, top),
+        Typed::NoRoom(low) => entry_with(16, 0, low),
     }
 }
 
