@@ -1,19 +1,22 @@
 -- What stays in range as a text is read, a byte a turn. In order:
 --   judge-shuts                  a bracket closes only where one is open
 --   Reading                      the first i bytes are read, and what is left of the definition equals the whole
---   begin, can-read, onward, finish   before the first byte;  a further byte may be counted, and is read;  after the last
+--   begin, can-read, onward      before the first byte;  a further byte may be counted, and is read
+--   halted, finish               a byte has stopped the reader;  after the last byte
 -- Assumes nothing.
 use mathlib.Core.Path.{_≡_, refl, sym, ap, _∙_, subst}
+use mathlib.Core.Bool.{true, false≢true}
 use mathlib.Core.List.{List}
 use Prim.Native.Nat.{ℕ, suc, _+_, _*_, _^_, _≤_, _<_}
 use native.Mathlib.Omega.{arith}
 use lib.ListN.{length, drop, getD, drop-of-length-le}
 use lib.Seq.{drop-cons}
-use Rattle.meaning.specs.Judge.{Stand, begun, Move, judge}
+use Rattle.meaning.specs.Judge.{Stand, begun, spaced, number, closed, stopped, Move, judge}
 use Rattle.meaning.specs.Reader.{Reader, reader, moved, advance, advances, atStart}
 use Rattle.meaning.proofs.sound.Cells.{code-fits}
 use Rattle.meaning.proofs.reader.Moves.{judge-cases}
-use Rattle.reader.specs.Readers.{CodeIn, CanRead, Shuts}
+use Rattle.meaning.proofs.reader.Standing as standing
+use Rattle.reader.specs.Readers.{isStopped, CodeIn, CanRead, Shuts}
 
 pub judge-shuts : (s : Stand) (depth b : ℕ) → Shuts (judge s depth b) depth
 judge-shuts s depth b =
@@ -51,6 +54,18 @@ advance-range b r i k =
 
 -- ---- a byte a turn
 
+keeps : (r : Reader) (bs : List ℕ) → isStopped (r .stand) ≡ true → advances r bs ≡ r
+keeps r bs e = go (r .stand) refl e
+  where
+    go : (s : Stand) → r .stand ≡ s → isStopped s ≡ true → advances r bs ≡ r
+    go begun f g = absurd (false≢true g)
+    go spaced f g = absurd (false≢true g)
+    go (number a) f g = absurd (false≢true g)
+    go closed f g = absurd (false≢true g)
+    go (stopped s) f g =
+        subst (λ (x : Stand). advances (reader x (r .offset) (r .depth) (r .total)) bs
+        ≡ reader x (r .offset) (r .depth) (r .total)) (sym f) (standing.stays bs s (r .offset) (r .depth) (r .total))
+
 pub record Reading (bs : List ℕ) (r : Reader) (i : ℕ) : Type 0 where
   pub most : i ≤ length bs
   pub left : advances r (drop i bs) ≡ advances atStart bs
@@ -82,6 +97,10 @@ module _ (bs : List ℕ) (r : Reader) (i : ℕ) (k : Reading bs r i) where
         left = rw n (sym (ap (advances r) (drop-cons bs i 0 h)) ∙ k .left);
         range = rw n (advance-range (getD bs i 0) r i (k .range));
       })
+
+  -- a reader that is stopped stays as it is
+  pub halted : isStopped (r .stand) ≡ true → r ≡ advances atStart bs
+  halted e = sym (keeps r (drop i bs) e) ∙ k .left
 
   pub finish : length bs ≤ i → r ≡ advances atStart bs
   finish h = sym (ap (advances r) (drop-of-length-le bs h)) ∙ k .left

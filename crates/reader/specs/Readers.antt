@@ -1,6 +1,6 @@
 -- The reader of the code as the definitions have it, and what a text is found to be. Assumes nothing.
 use mathlib.Core.Path.{_≡_}
-use mathlib.Core.Bool.{true, false}
+use mathlib.Core.Bool.{Bool, true, false}
 use Prim.Native.Nat.{ℕ, suc, _^_, _≤_, _<_}
 use Rattle.meaning.specs.Verdicts.{Verdict}
 use Rattle.meaning.specs.Judge as said
@@ -40,6 +40,14 @@ moveOf move.Parts = parts
 
 abbrev pub readerOf : Reader → said-reader.Reader
 readerOf r = reader (standOf (r .stand)) (r .offset) (r .depth) (r .total)
+
+-- a byte has stopped the reader
+abbrev pub isStopped : said.Stand → Bool
+isStopped begun = false
+isStopped spaced = false
+isStopped (number a) = false
+isStopped closed = false
+isStopped (stopped s) = true
 
 -- a code that has been read is one
 abbrev pub CodeIn : said.Stand → Type 0

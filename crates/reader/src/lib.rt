@@ -5,7 +5,7 @@ ghost use mathlib.Core.Path.{_≡_};
 ghost use mathlib.Core.Bool.{_&&_};
 ghost use lib.Dec.{eqb};
 ghost use Rattle.meaning.specs.Reader.{moved, advance, advances, atStart, mayEnd, stopStatus};
-ghost use Rattle.reader.specs.Readers.{faultOf, standOf, moveOf, readerOf, CanGo, CanRead, Finds};
+ghost use Rattle.reader.specs.Readers.{faultOf, standOf, moveOf, readerOf, isStopped, CanGo, CanRead, Finds};
 use crate::judging::Fault;
 use crate::judging::Move;
 use crate::judging::Stand;
@@ -114,6 +114,19 @@ fn stop_fault(stand: Stand) -> Fault
     }
 }
 
+// Whether a byte has stopped the reader: no further one changes anything.
+fn is_stopped(stand: Stand) -> bool
+    ensures { λ r. ⌜ r ≡ isStopped (standOf stand) ⌝ }
+{
+    match stand {
+        Stand::Begun => false,
+        Stand::Spaced => false,
+        Stand::Number(_) => false,
+        Stand::Closed => false,
+        Stand::Stopped(_) => true,
+    }
+}
+
 // What reading a text finds: the number of its terms on all levels; or its refusal, with the offset.
 pub enum Found {
     Whole(usize),
@@ -131,7 +144,7 @@ fn finish(r: Reader) -> Found
     Found::Bad(stop_fault(stand), r.offset)
 }
 
-// A whole text read.
+// A whole text read, up to the byte that stops it.
 pub fn read(text: &[u8]) -> Found
     ensures { λ f. ⌜ Finds (advances atStart (now (text .entry))) f ⌝ }
 {
@@ -144,6 +157,10 @@ pub fn read(text: &[u8]) -> Found
     let mut i: usize = 0;
     while i < text.len() {
         r = read_byte(r, text[i]);
+        let stand = r.stand;
+        if is_stopped(stand) {
+            return finish(r);
+        }
         i += 1;
     }
     finish(r)
