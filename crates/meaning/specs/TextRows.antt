@@ -96,8 +96,11 @@ textRows F =
     -- T10: T1's text read back, the capacity exactly right; and once more, where there is no room
     types (fresh F (5 + F)) F 1 t1 0 0 (t1Store F) (5 + F) ∷
     types (t1Store F) (5 + F) 0 t1 16 0 (t1Store F) (5 + F) ∷
-    -- T11: the order of laying
+    -- T11: the order of laying; and `(1) (1)`, of which nothing is shared
     types (fresh F (8 + F)) F 0 t11 0 0 (t11Store F) (8 + F) ∷
+    types (fresh F (4 + F)) F 0 (40 ∷ 49 ∷ 41 ∷ 32 ∷ 40 ∷ 49 ∷ 41 ∷ []) 0 0
+    (((2 + F) ∷ bracketTo (3 + F) ∷ emptyRegisters (F - 1)) ++
+    (1 ∷ 0 ∷ 1 ∷ 0 ∷ F ∷ bracketTo F ∷ (1 + F) ∷ bracketTo (1 + F) ∷ [])) (4 + F) ∷
     -- T12: the texts of T3, T4 and T5 read back
     types (fresh F (1 + F)) F 0 (40 ∷ 41 ∷ []) 0 0 (nest F 0) (1 + F) ∷
     types (fresh F (1 + F)) F 0 (50 ∷ 54 ∷ 56 ∷ 52 ∷ 51 ∷ 53 ∷ 52 ∷ 53 ∷ 53 ∷ []) 0 0 (lone F 268435455) (1 + F) ∷
@@ -110,10 +113,11 @@ textRows F =
     types (dead F 7) (1 + F) 0 (49 ∷ 32 ∷ 49 ∷ []) 16 0 (fresh F (1 + F)) F ∷
     types (dead F 7) (1 + F) 0 (57 ∷ []) 0 0 (lone F 9) (1 + F) ∷
     refuses F (49 ∷ []) 16 0 ∷
-    -- T15: the first byte: ` `, `)`, `x`
+    -- T15: the first byte: ` `, `)`, `x`; and `x` where one dead symbol fills the heap, which stays
     refuses F (32 ∷ []) 23 0 ∷
     refuses F (41 ∷ []) 23 0 ∷
     refuses F (120 ∷ []) 23 0 ∷
+    types (dead F 7) (1 + F) 0 (120 ∷ []) 23 0 (dead F 7) (1 + F) ∷
     -- T16: a later one: `01`, `1)`, `1(`, `1  2`, `( )`, `(1 )`, `()1`, `)` behind `()`
     refuses F (48 ∷ 49 ∷ []) 23 1 ∷
     refuses F (49 ∷ 41 ∷ []) 23 1 ∷
