@@ -10,7 +10,7 @@ use mathlib.Core.Path.{_≡_, refl, sym, subst, _∙_}
 use mathlib.Core.Logic.{_≢_}
 use mathlib.Core.Bool.{cond}
 use mathlib.Core.List.{List, [], _∷_, _++_, append-assoc, append-nil}
-use Prim.Native.Nat.{ℕ, zero, suc, _+_, _-_, _≤_, _<_}
+use Prim.Native.Nat.{ℕ, zero, suc, _+_, _-_, _≤_}
 use native.Mathlib.Nat.{zero-add, suc-add, add-assoc}
 use native.Mathlib.Omega.{arith}
 use lib.Dec.{eqb}
@@ -106,7 +106,8 @@ text-passes : (left : ℕ) (e : Expr) → Readable left e → Passes left (text 
 text-passes left nothing q = none-passes left
 text-passes left (symbol a r) q =
     append-passes left left left (decimal a) (tail r) (plain-passes left (decimal a) (decimal-plain a))
-    (append-passes left left left (gap r) (text r) (plain-passes left (gap r) (gap-plain r)) (text-passes left r (q .1)))
+    (append-passes left left left (gap r) (text r) (plain-passes left (gap r) (gap-plain r))
+    (text-passes left r (q .1)))
 text-passes zero (parens i r) q = absurd q
 text-passes (suc left) (parens i r) q =
     byte-passes (suc left) left (suc left) 40 (text i ++ (41 ∷ tail r)) (open-next left)

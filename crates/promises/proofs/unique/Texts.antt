@@ -15,8 +15,8 @@ use Rattle.meaning.specs.Collected.{collected}
 use Rattle.meaning.specs.Verdicts.{Verdict, Done}
 use Rattle.meaning.specs.Lay.{allTerms}
 use Rattle.meaning.specs.Call.{sought}
-use Rattle.promises.specs.Typing.{said, Whole, TypedAs, noRegister, noText, noRoom, hasRoom, typedOn, typedFrom}
-use Rattle.promises.specs.Typing.{LeavesText, TypedIn}
+use Rattle.promises.specs.Typing.{said, TypedAs, noRegister, noText, noRoom, hasRoom, typedOn, typedFrom}
+use Rattle.promises.specs.Typing.{TypedIn}
 use Rattle.promises.proofs.reading.Refusing.{one-refusal}
 use Rattle.promises.proofs.unique.Words.{laid-once, left-once}
 
