@@ -10,6 +10,7 @@ use Rattle.promises.specs.Printing.{TextInWords, OneText, PrintAnswers, 
 use Rattle.promises.specs.Printing.{AlikePrinted}
 use Rattle.promises.specs.Reading.{ReadsBack, WritesBack, StopsLeftmost, OneRefusal}
 use Rattle.promises.specs.Typing.{TypesDo, TypeAnswers}
+use Rattle.promises.specs.Again.{PrintedTyped, TypedPrinted}
 use Rattle.promises.specs.Program.{ProgramWrites, ProgramReads}
 use Rattle.promises.specs.ProgramRows.{ProgramRows}
 use Rattle.promises.specs.Unique.{OneAnswer, OneCheck, OneFresh, OneCollected, OneLook, OneCollect, OneBatch}
@@ -26,6 +27,7 @@ use Rattle.promises.proofs.printing.Printed as printing
 use Rattle.promises.proofs.reading.Refusing as reading
 use Rattle.promises.proofs.typing.Typing as typing
 use Rattle.promises.proofs.typing.Answers as typed
+use Rattle.promises.proofs.typing.Again as again
 use Rattle.promises.proofs.program.Written as program
 use Rattle.promises.proofs.ownwords.Faults as faults
 use Rattle.promises.proofs.unique.Calls as calls-once
@@ -120,6 +122,12 @@ types-do = typing.types-do
 
 pub type-answers : TypeAnswers
 type-answers = typed.type-answers
+
+pub printed-typed : PrintedTyped
+printed-typed = again.printed-typed
+
+pub typed-printed : TypedPrinted
+typed-printed = again.typed-printed
 
 -- ---- the program
 

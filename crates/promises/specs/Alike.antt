@@ -1,7 +1,7 @@
--- Demand 3: collections never show (SCOPE 8.3, 8.4). Two sound stores of equal capacity that are
--- alike, given lists of calls and typed texts that are equal once COLLECT is struck out, each list cut into batches in its
--- own way, none of them refused: all other answers are equal, and one more collection of each makes the stores equal word for
--- word. Assumes nothing.
+-- Demand 3: collections never show (SCOPE 8.3, 8.4). Two sound stores of equal capacity that are alike, given lists of
+-- calls and typed texts that are equal once COLLECT is struck out, each list cut into batches in its own way, none of
+-- them refused: all other answers are equal, and one more collection of each makes the stores equal word for word.
+-- Assumes nothing.
 use mathlib.Core.Path.{_≡_}
 use mathlib.Core.Bool.{Bool, false, cond}
 use mathlib.Core.List.{List, [], _∷_, _++_}

@@ -10,6 +10,7 @@
 --   Printing    demands 1 and 2: a register printed
 --   Reading     demand 2: a text read, and where it is refused
 --   Typing      demands 1 and 2: a text typed into a register
+--   Again       demand 2: printed and typed in again, typed in and printed again
 --   Program     what the program writes for what it reads;  ProgramRows  byte for byte
 --   Unique      no claim leaves a second outcome
 -- Everything is over the first heap cell F, which is more than 0.
@@ -25,6 +26,7 @@ pub mod Alike
 pub mod Printing
 pub mod Reading
 pub mod Typing
+pub mod Again
 pub mod Program
 pub mod ProgramRows
 pub mod Unique

@@ -29,6 +29,7 @@ use Rattle.promises.specs.Reading.{RefusedText}
 
 -- ---- the text
 
+-- what it says, where it is whole: then bs is the text of that expression (`WritesBack` of Reading)
 abbrev pub said : List ℕ → Expr
 said bs = expression (reads blank bs)
 
@@ -37,8 +38,8 @@ Whole bs = isWhole (reads blank bs .place) ≡ true
 
 -- ---- the status and value in a sound store
 
--- 20, then the text's refusal with the offset of its byte (Reading), then 16 exactly when F + live + a cell for each term on all
--- levels exceeds the capacity, where live counts d's old expression too; else 0
+-- 20, then the text's refusal with the offset of its byte (Reading), then 16 exactly when F + live + a cell for each
+-- term on all levels exceeds the capacity, where live counts d's old expression too; else 0
 pub data TypedAs (F : ℕ) (ws : List ℕ) (top d : ℕ) (bs : List ℕ) : Verdict → Type 0 where
   noRegister : F ≤ d → TypedAs F ws top d bs (only 20)
   noText : (v : Verdict) → d < F → Not (Whole bs) → RefusedText bs v → TypedAs F ws top d bs v
@@ -70,7 +71,7 @@ pub record TypedIn (F : ℕ) (ws : List ℕ) (top d : ℕ) (bs : List ℕ) (r : 
   -- done: d denotes what the text says; no other register changes, and none where the text is refused
   pub registers : (i : ℕ) → i < F
       → meaning (r .words) i ≡ after (r .verdict .status) (typing (meaning ws) d (said bs)) (meaning ws) i
-  -- done: d's cell and the new cells, laid from the `top` of the store in which room is found, and no other cell changes
+  -- done: d's cell and the new cells change, laid from the `top` of the store in which room is found, and no other cell
   pub doneTop : r .verdict .status ≡ 0 → r .top ≡ typedFrom F ws top d bs + allTerms (said bs)
   pub doneWords : r .verdict .status ≡ 0
       → LeavesText d (said bs) (typedOn F ws top d bs) (typedFrom F ws top d bs) (r .words)

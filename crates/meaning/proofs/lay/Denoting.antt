@@ -6,7 +6,7 @@
 --   laid-put, laid-in          the cells of an expression put from `top` on;  the bracket around its own terms
 --   laid-denotes, text-acts    what that denotes;  a register set to it
 -- Assumes nothing.
-use mathlib.Core.Path.{_≡_, refl, sym, ap, ap₂, _∙_}
+use mathlib.Core.Path.{_≡_, refl, ap, ap₂, _∙_}
 use mathlib.Core.List.{List, [], _∷_, _++_}
 use Prim.Native.Nat.{ℕ, zero, suc, _+_, _-_, _*_, _≤_, _<_}
 use native.Mathlib.Nat.{not-suc-le-zero, le-of-suc-le-suc, add-zero, add-suc, suc-add}
@@ -29,12 +29,12 @@ use Rattle.meaning.proofs.lay.Each.{Coded, Each, laid-each, terms-le}
 -- ---- a row of cells
 
 -- the cells xs lie at c, c + 1 and so on
-abbrev pub LieAs : (ℕ → Cell) → ℕ → List Cell → Type 0
+abbrev LieAs : (ℕ → Cell) → ℕ → List Cell → Type 0
 LieAs k c [] = Unit {0}
 LieAs k c (x ∷ xs) = (k c ≡ x) × LieAs k (suc c) xs
 
 module _ (k : ℕ → Cell) where
-  pub lie-at : (c : ℕ) (xs : List Cell) → LieAs k c xs → (j : ℕ) → j < length xs → k (c + j) ≡ getD xs j empty
+  lie-at : (c : ℕ) (xs : List Cell) → LieAs k c xs → (j : ℕ) → j < length xs → k (c + j) ≡ getD xs j empty
   lie-at c [] h j l = absurd (not-suc-le-zero l)
   lie-at c (x ∷ xs) h zero l = rw (add-zero c) (h .0)
   lie-at c (x ∷ xs) h (suc j) l =
@@ -59,7 +59,7 @@ each-at R c (x ∷ xs) (y ∷ ys) h (suc j) l =
 
 -- ---- a bracket around the last n cells below c
 
-pub last-in : (F lim c n : ℕ) → F + n ≤ c → c ≤ lim → BracketIn F lim (lastBelow c n)
+last-in : (F lim c n : ℕ) → F + n ≤ c → c ≤ lim → BracketIn F lim (lastBelow c n)
 last-in F lim c zero h l = tt
 last-in F lim c (suc n) h l = (omega arith, omega arith, omega arith)
 
@@ -95,9 +95,9 @@ module _ (k : ℕ → Cell) (t : ℕ → Expr) (lo hi : ℕ) (law : (c : ℕ) �
 
 -- ---- a row of cells put from `top` on
 
-pub record Put (F : ℕ) (ws : List ℕ) (top : ℕ) (xs : List Cell) : Type 0 where
-  pub more : Extends F ws top (puts ws top xs) (top + length xs)
-  pub lie : LieAs (at (puts ws top xs)) top xs
+record Put (F : ℕ) (ws : List ℕ) (top : ℕ) (xs : List Cell) : Type 0 where
+  more : Extends F ws top (puts ws top xs) (top + length xs)
+  lie : LieAs (at (puts ws top xs)) top xs
 
 -- each with its ends below it
 abbrev Fit : ℕ → ℕ → List Cell → Type 0

@@ -6,7 +6,7 @@
 --   own-each, deep-each    it holds of the own terms, and of the contents of the brackets
 --   laid-each              of all cells
 -- Assumes nothing.
-use mathlib.Core.Path.{_≡_, refl, sym, ap}
+use mathlib.Core.Path.{_≡_}
 use mathlib.Core.List.{List, [], _∷_, _++_}
 use Prim.Native.Nat.{ℕ, suc, _+_, _≤_, _<_}
 use native.Mathlib.Nat.{add-zero, add-suc, suc-add}
@@ -30,7 +30,7 @@ Each R c [] (y ∷ ys) = ⊥
 Each R c (x ∷ xs) [] = ⊥
 Each R c (x ∷ xs) (y ∷ ys) = R c x y × Each R (suc c) xs ys
 
-pub each-append : (R : ℕ → Cell → Cell → Type 0) (c : ℕ) (xs xs′ ys ys′ : List Cell) → Each R c xs xs′
+each-append : (R : ℕ → Cell → Cell → Type 0) (c : ℕ) (xs xs′ ys ys′ : List Cell) → Each R c xs xs′
     → Each R (c + length xs) ys ys′ → Each R c (xs ++ ys) (xs′ ++ ys′)
 each-append R c [] [] ys ys′ h k = rw (add-zero c) at k
 each-append R c [] (y ∷ xs′) ys ys′ h k = absurd h

@@ -254,7 +254,7 @@ module _ (F : ℕ) (ws : List ℕ) (top : ℕ) (p : 0 < F) (s : Sound F ws top) 
           → canon F (put v d (ends top (top + n - 1))) (top + n)
           ≡ canon F (put v′ d (ends top′ (top′ + n - 1))) (top′ + n)
       new-both d l h =
-          let y = new-along top (top + n - 1) top′ (top′ + n - 1) (le-refl top) (omega arith) (omega arith) (omega arith)
-          (omega arith) in
+          let y = new-along top (top + n - 1) top′ (top′ + n - 1) (le-refl top) (omega arith) (omega arith)
+          (omega arith) (omega arith) in
           new-register d l (ends top (top + n - 1)) (ends top′ (top′ + n - 1)) (s .low, omega arith, omega arith)
           (sound′ .low, omega arith, omega arith) (y .0) (y .1)

@@ -1,6 +1,6 @@
 -- An expression laid in new cells, where there is room: what that does in a store, it does in that store collected. New
 -- cells refer to new cells only, so that they lie in the one as in the other, further down. Assumes nothing.
-use mathlib.Core.Path.{_≡_, refl, sym}
+use mathlib.Core.Path.{_≡_, refl}
 use mathlib.Core.List.{List}
 use Prim.Native.Nat.{ℕ, zero, suc, _+_, _-_, _*_, _≤_, _<_}
 use native.Mathlib.Nat.{le-refl}

@@ -3,7 +3,7 @@
 -- Assumes nothing.
 use mathlib.Core.Path.{_≡_, refl, sym, ap, ap₂, _∙_}
 use mathlib.Core.Logic.{_≢_}
-use mathlib.Core.Bool.{Bool, true, false, cond}
+use mathlib.Core.Bool.{Bool, true, cond}
 use mathlib.Core.List.{List}
 use Prim.Native.Nat.{ℕ, zero, suc, _+_, _-_, _*_, _≤_, _<_}
 use native.Mathlib.Nat.{add-zero}
@@ -249,4 +249,5 @@ module _ (F : ℕ) (ws : List ℕ) (top : ℕ) (p : 0 < F) (s : Sound F ws top) 
     asked-words =
         asking (λ o. perform o F ws top d a b .words ≡ cond (x o .collects) (collected F ws top)
         (cond (ltb (capacity ws) (top + x o .need)) (collected F (v o) top) ws))
-        (rw (stays F ws top s) refl) (rw (stays F ws top s) (first-words ws top (at ws a))) (rw (stays F ws top s) refl) refl
+        (rw (stays F ws top s) refl) (rw (stays F ws top s) (first-words ws top (at ws a)))
+        (rw (stays F ws top s) refl) refl

@@ -65,4 +65,5 @@ module _ (F n : ℕ) (v ws : List ℕ) (top : ℕ) (p : 0 < F) (w : Sound F v to
           let u = roomWords F n v top in
           let t = roomTop F n v top in
           rw (← room-top) (there (ltb (capacity ws) (top + n)) t (act u t .words)
-          (rw (← room-words) (h u t (room-sound F n v top p w) (room-denote F n v top p w) (room-fits F n v top p w r))))
+          (rw (← room-words)
+          (h u t (room-sound F n v top p w) (room-denote F n v top p w) (room-fits F n v top p w r))))

@@ -71,7 +71,8 @@ module _ (d t n : ℕ) where
   only-puts : (ws : List ℕ) (y : ℕ) (xs : List Cell) → t ≤ y → y + length xs ≤ t + n → OnlyThere d t n ws (puts ws y xs)
   only-puts ws y [] l k = only-same ws
   only-puts ws y (x ∷ xs) l k =
-      only-trans ws (put ws y x) (puts (put ws y x) (suc y) xs) (λ c h g. put-other ws y x c (new-away y l (omega arith) c g))
+      only-trans ws (put ws y x) (puts (put ws y x) (suc y) xs)
+      (λ c h g. put-other ws y x c (new-away y l (omega arith) c g))
       (only-puts (put ws y x) (suc y) xs (omega arith) (omega arith))
 
 -- ---- the actions, in any store

@@ -21,7 +21,6 @@ use Rattle.meaning.specs.Meaning.{meaning}
 use Rattle.meaning.specs.Reach.{live}
 use Rattle.meaning.specs.Collected.{collected}
 use Rattle.meaning.specs.Verdicts.{Verdict, Done, refused, only}
-use Rattle.meaning.specs.Check.{check}
 use Rattle.meaning.specs.Lay.{allTerms, lastBelow, laid, puts, newCells}
 use Rattle.meaning.specs.Call.{sought, lacks, carryOut}
 use Rattle.meaning.specs.Effect.{Effect, typing, after, answer}

@@ -1,5 +1,8 @@
 -- One outcome of a text typed into a sound store: what is said of its status, its value, `top` and its cells leaves no
--- second one. Assumes nothing.
+-- second one. In order:
+--   says-once    one status and value
+--   typed-once   one outcome
+-- Assumes nothing.
 use mathlib.Core.Path.{_≡_, refl, sym, ap, _∙_}
 use mathlib.Core.Bool.{Bool, true, false, cond}
 use mathlib.Core.List.{List}
@@ -12,13 +15,13 @@ use Rattle.meaning.specs.Collected.{collected}
 use Rattle.meaning.specs.Verdicts.{Verdict, Done}
 use Rattle.meaning.specs.Lay.{allTerms}
 use Rattle.meaning.specs.Call.{sought}
-use Rattle.promises.specs.Typing.{said, Whole, TypedAs, noRegister, noText, noRoom, hasRoom, typedOn, typedFrom}
-use Rattle.promises.specs.Typing.{LeavesText, TypedIn}
+use Rattle.promises.specs.Typing.{said, TypedAs, noRegister, noText, noRoom, hasRoom, typedOn, typedFrom}
+use Rattle.promises.specs.Typing.{TypedIn}
 use Rattle.promises.proofs.reading.Refusing.{one-refusal}
 use Rattle.promises.proofs.unique.Words.{laid-once, left-once}
 
 module _ (F : ℕ) (ws : List ℕ) (top d : ℕ) (bs : List ℕ) where
-  says-once : (v w : Verdict) → TypedAs F ws top d bs v → TypedAs F ws top d bs w → v ≡ w
+  pub says-once : (v w : Verdict) → TypedAs F ws top d bs v → TypedAs F ws top d bs w → v ≡ w
   says-once v w (noRegister h) (noRegister k) = refl
   says-once v w (noRegister h) (noText _ k n t) = absurd (omega arith)
   says-once v w (noRegister h) (noRoom k n m) = absurd (omega arith)

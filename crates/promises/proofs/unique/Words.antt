@@ -1,5 +1,5 @@
--- A sound store's words, cell by cell: those of a cell follow from what the cell is; and two outcomes of one request. In
--- order:
+-- A sound store's words, cell by cell: those of a cell follow from what the cell is; and two outcomes of one request.
+-- In order:
 --   Holds, register-words, heap-words   the words of a cell of a sound store, by the cell
 --   same-register, same-heap            a cell that is the same in two sound stores has the same words
 --   laid-once                           two stores in which d's cell and the new cells are the same, and the others too
