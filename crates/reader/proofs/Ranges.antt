@@ -1,6 +1,6 @@
 -- What stays in range as a text is read, a byte a turn. In order:
---   judge-shuts                  a bracket closes only where one is open
---   Reading                      the first i bytes are read, and what is left of the definition equals the whole
+--   judge-suits                  the byte is what its move says
+--   Reading, Read                the first i bytes are read, and what is left of the definition equals the whole
 --   begin, can-read, onward      before the first byte;  a further byte may be counted, and is read
 --   halted, finish               a byte has stopped the reader;  after the last byte
 -- Assumes nothing.
@@ -16,40 +16,35 @@ use Rattle.meaning.specs.Reader.{Reader, reader, moved, advance, advances, atSt
 use Rattle.meaning.proofs.sound.Cells.{code-fits}
 use Rattle.meaning.proofs.reader.Moves.{judge-cases}
 use Rattle.meaning.proofs.reader.Standing as standing
-use Rattle.reader.specs.Readers.{isStopped, CodeIn, CanRead, Shuts}
+use Rattle.reader.specs.Readers.{readerOf, isStopped, CanRead, Suits}
+use Rattle.reader.specs.declared.Reader as code
 
-pub judge-shuts : (s : Stand) (depth b : ℕ) → Shuts (judge s depth b) depth
-judge-shuts s depth b =
-    judge-cases (λ (m : Move). Shuts m depth) b depth (λ s. tt) (λ d e h k. tt) (λ e h. tt) (λ a d e h k l. tt)
-    (λ e h. h) (λ e. tt) s
+pub judge-suits : (s : Stand) (depth b : ℕ) → Suits (judge s depth b) b depth
+judge-suits s depth b =
+    judge-cases (λ (m : Move). Suits m b depth) b depth (λ s. tt)
+    (λ d e h k. (omega arith, omega arith, code-fits d k)) (λ e h. tt)
+    (λ a d e h k l. (omega arith, omega arith, code-fits (10 * a + d) l)) (λ e h. h) (λ e. tt) s
 
 -- ---- one byte
 
 record InRange (r : Reader) (i : ℕ) : Type 0 where
-  code : CodeIn (r .stand)
   far : r .offset ≤ i
   deep : r .depth ≤ r .offset
   many : r .total ≤ r .offset
 
--- the next byte, wherever it leads: to a stand with its code, and numbers that grow by one at most
-stays : (r q : Reader) (i : ℕ) → InRange r i → CodeIn (q .stand) → q .offset ≡ suc (r .offset)
-    → q .depth ≤ suc (r .depth) → q .total ≤ suc (r .total) → InRange q (suc i)
-stays r q i k c o d t = record {
-  code = c;
-  far = omega (arith, k .far);
-  deep = omega (arith, k .deep);
-  many = omega (arith, k .many);
-}
+-- the next byte, wherever it leads: to numbers that grow by one at most
+stays : (r q : Reader) (i : ℕ) → InRange r i → q .offset ≡ suc (r .offset) → q .depth ≤ suc (r .depth)
+    → q .total ≤ suc (r .total) → InRange q (suc i)
+stays r q i k o d t = record { far = omega (arith, k .far); deep = omega (arith, k .deep); many = omega (arith, k .many) }
 
 advance-range : (b : ℕ) (r : Reader) (i : ℕ) → InRange r i → InRange (advance b r) (suc i)
 unfolding advance
 advance-range b r i k =
     judge-cases (λ (m : Move). InRange (moved m r) (suc i)) b (r .depth)
-    (λ s. record { code = tt; far = omega (arith, k .far); deep = k .deep; many = k .many })
-    (λ d e h l. stays r _ i k (omega (arith, code-fits d l)) refl (omega arith) (omega arith))
-    (λ e h. stays r _ i k tt refl (omega arith) (omega arith))
-    (λ a d e h l m. stays r _ i k (omega (arith, code-fits (10 * a + d) m)) refl (omega arith) (omega arith))
-    (λ e h. stays r _ i k tt refl (omega arith) (omega arith)) (λ e. stays r _ i k tt refl (omega arith) (omega arith))
+    (λ s. record { far = omega (arith, k .far); deep = k .deep; many = k .many })
+    (λ d e h l. stays r _ i k refl (omega arith) (omega arith)) (λ e h. stays r _ i k refl (omega arith) (omega arith))
+    (λ a d e h l m. stays r _ i k refl (omega arith) (omega arith))
+    (λ e h. stays r _ i k refl (omega arith) (omega arith)) (λ e. stays r _ i k refl (omega arith) (omega arith))
     (r .stand)
 
 -- ---- a byte a turn
@@ -71,23 +66,27 @@ pub record Reading (bs : List ℕ) (r : Reader) (i : ℕ) : Type 0 where
   pub left : advances r (drop i bs) ≡ advances atStart bs
   range : InRange r i
 
+-- by the code's reader
+abbrev pub Read : List ℕ → code.Reader → ℕ → Type 0
+Read bs r i = Reading bs (readerOf r) i × (r .code < 2 ^ 28)
+
 pub begin : (bs : List ℕ) → Reading bs (reader begun 0 0 0) 0
 unfolding atStart
 begin bs = record {
   most = omega arith;
   left = refl;
-  range = record { code = tt; far = omega arith; deep = omega arith; many = omega arith };
+  range = record { far = omega arith; deep = omega arith; many = omega arith };
+}
+
+pub can-read : (bs : List ℕ) (r : code.Reader) (i : ℕ) → Read bs r i → i < length bs → length bs < 2 ^ 64 → CanRead r
+can-read bs r i k h l = record {
+  small = k .1;
+  before = omega (arith, k .0 .range .far);
+  deep = k .0 .range .deep;
+  many = k .0 .range .many;
 }
 
 module _ (bs : List ℕ) (r : Reader) (i : ℕ) (k : Reading bs r i) where
-  pub can-read : i < length bs → length bs < 2 ^ 64 → CanRead r
-  can-read h l = record {
-    code = k .range .code;
-    before = omega (arith, k .range .far);
-    deep = k .range .deep;
-    many = k .range .many;
-  }
-
   pub onward : {q : Reader} → i < length bs → q ≡ advance (getD bs i 0) r → Reading bs q (i + 1)
   onward {q} h e =
       let n : i + 1 ≡ suc i = omega arith in

@@ -1,9 +1,10 @@
 // The judgement of a byte of a text that is read (SCOPE 5.8): where the reader stands, how many brackets are open and the
-// code so far decide what a byte does. A text is read by one judgement after the other.
+// code so far decide what a byte does. A text is read by one judgement after the other. No case of a stand or a move has
+// a number of its own beside it: the compiler can then go from a judgement right to what it leads to.
 ghost use mathlib.Core.Path.{_≡_};
 ghost use Prim.Native.Nat.{_≤_, _<_, _^_};
 ghost use Rattle.meaning.specs.Judge.{isDigit, withDigit, firstMove, laterMove, moreMove, judge};
-ghost use Rattle.reader.specs.Readers.{standOf, moveOf, CodeIn};
+ghost use Rattle.reader.specs.Readers.{standOf, moveOf, IsMove};
 use store::cells::is_code;
 
 // Why a text is refused: a code over the limit, a bracket that is one too many, or a byte that cannot continue a text.
@@ -19,19 +20,20 @@ pub enum Stand {
     Begun,
     // after a space, a term must come
     Spaced,
-    // in a number, by the code so far
-    Number(u32),
+    // in a number, of which the code so far is kept
+    Number,
     // after a closing bracket
     Closed,
     // stopped for good
     Stopped(Fault),
 }
 
-// What a byte does.
+// What a byte does: it stops the reading, begins a code, is a further digit of one, opens or closes a bracket, or parts
+// two terms.
 pub enum Move {
     Stops(Fault),
-    Begins(u32),
-    Grows(u32),
+    Begins,
+    Grows,
     Opens,
     Closes,
     Parts,
@@ -53,12 +55,11 @@ pub fn with_digit(code: u32, b: u8) -> u32
 
 // A byte where a term may begin.
 fn first_move(depth: usize, b: u8) -> Move
-    ensures { λ r. ⌜ moveOf r ≡ firstMove depth b ⌝ }
+    ensures { λ r. ⌜ IsMove r b (firstMove depth b) ⌝ }
 {
     if is_digit(b) {
-        let code = with_digit(0, b);
-        if is_code(code) {
-            return Move::Begins(code);
+        if is_code(with_digit(0, b)) {
+            return Move::Begins;
         }
         return Move::Stops(Fault::LargeCode);
     }
@@ -73,7 +74,7 @@ fn first_move(depth: usize, b: u8) -> Move
 
 // A byte after a whole term, or at the end of a level.
 fn later_move(depth: usize, b: u8) -> Move
-    ensures { λ r. ⌜ moveOf r ≡ laterMove depth b ⌝ }
+    ensures { λ r. ⌜ IsMove r b (laterMove depth b) ⌝ }
 {
     if b == b' ' {
         return Move::Parts;
@@ -90,15 +91,14 @@ fn later_move(depth: usize, b: u8) -> Move
 // A byte after a digit.
 fn more_move(code: u32, depth: usize, b: u8) -> Move
     requires { ⌜ code < 2 ^ 28 ⌝ }
-    ensures { λ r. ⌜ moveOf r ≡ moreMove code depth b ⌝ }
+    ensures { λ r. ⌜ moveOf r code b ≡ moreMove code depth b ⌝ }
 {
     if is_digit(b) {
         if code == 0 {
             return Move::Stops(Fault::NotText);
         }
-        let more = with_digit(code, b);
-        if is_code(more) {
-            return Move::Grows(more);
+        if is_code(with_digit(code, b)) {
+            return Move::Grows;
         }
         return Move::Stops(Fault::LargeCode);
     }
@@ -106,9 +106,9 @@ fn more_move(code: u32, depth: usize, b: u8) -> Move
 }
 
 // The judgement.
-pub fn judge(stand: Stand, depth: usize, b: u8) -> Move
-    requires { ⌜ CodeIn (standOf stand) ⌝ }
-    ensures { λ r. ⌜ moveOf r ≡ judge (standOf stand) depth b ⌝ }
+pub fn judge(stand: Stand, code: u32, depth: usize, b: u8) -> Move
+    requires { ⌜ code < 2 ^ 28 ⌝ }
+    ensures { λ r. ⌜ moveOf r code b ≡ judge (standOf stand code) depth b ⌝ }
 {
     match stand {
         Stand::Begun => {
@@ -119,7 +119,7 @@ pub fn judge(stand: Stand, depth: usize, b: u8) -> Move
             }
         }
         Stand::Spaced => first_move(depth, b),
-        Stand::Number(code) => more_move(code, depth, b),
+        Stand::Number => more_move(code, depth, b),
         Stand::Closed => later_move(depth, b),
         Stand::Stopped(fault) => Move::Stops(fault),
     }

@@ -1,68 +1,75 @@
 // A text read byte by byte, in one pass (SCOPE 5.8): where the reader stands decides what a byte does, and a byte that
 // cannot go on stops it for good. The state is a struct by value. Nothing is laid here: reading tells how many terms a
 // text has, or why it is none.
-ghost use mathlib.Core.Path.{_≡_};
-ghost use mathlib.Core.Bool.{_&&_};
-ghost use lib.Dec.{eqb};
-ghost use Rattle.meaning.specs.Reader.{moved, advance, advances, atStart, mayEnd, stopStatus};
-ghost use Rattle.reader.specs.Readers.{faultOf, standOf, moveOf, readerOf, isStopped, CanGo, CanRead, Finds};
+ghost use Rattle.meaning.specs.Reader.{moved, advance, advances, atStart};
+ghost use Rattle.reader.specs.Readers.{moveOf, readerOf, CanGo, CanRead, Reads, MayEnd, IsWhole, StopsFor};
+ghost use Rattle.reader.specs.Readers.{IsStopped, Finds};
 use crate::judging::Fault;
 use crate::judging::Move;
 use crate::judging::Stand;
 use crate::judging::judge;
+use crate::judging::with_digit;
 
 pub mod judging;
 
-// Where the reader stands, the offset of the next byte or of the one that stopped it, the brackets that are open, and
-// the terms begun on all levels.
+// Where the reader stands, the last code as far as it is read, the offset of the next byte or of the one that stopped it,
+// the brackets that are open, and the terms begun on all levels.
 pub struct Reader {
     pub stand: Stand,
+    pub code: u32,
     pub offset: usize,
     pub depth: usize,
     pub total: usize,
 }
 
-// What a byte leaves.
-fn go(m: Move, r: Reader) -> Reader
-    requires { ⌜ CanGo (moveOf m) (readerOf r) ⌝ }
-    ensures { λ q. ⌜ readerOf q ≡ moved (moveOf m) (readerOf r) ⌝ }
+// What the byte b leaves.
+fn go(m: Move, b: u8, r: Reader) -> Reader
+    requires { ⌜ CanGo (moveOf m (r .code) b) b r ⌝ }
+    ensures { λ q. ⌜ Reads q (moved (moveOf m (r .code) b) (readerOf r)) ⌝ }
 {
+    let code = r.code;
     let offset = r.offset;
     let depth = r.depth;
     let total = r.total;
     match m {
         Move::Stops(fault) => Reader {
             stand: Stand::Stopped(fault),
+            code,
             offset,
             depth,
             total,
         },
-        Move::Begins(code) => Reader {
-            stand: Stand::Number(code),
+        Move::Begins => Reader {
+            stand: Stand::Number,
+            code: with_digit(0, b),
             offset: offset + 1,
             depth,
             total: total + 1,
         },
-        Move::Grows(code) => Reader {
-            stand: Stand::Number(code),
+        Move::Grows => Reader {
+            stand: Stand::Number,
+            code: with_digit(code, b),
             offset: offset + 1,
             depth,
             total,
         },
         Move::Opens => Reader {
             stand: Stand::Begun,
+            code,
             offset: offset + 1,
             depth: depth + 1,
             total: total + 1,
         },
         Move::Closes => Reader {
             stand: Stand::Closed,
+            code,
             offset: offset + 1,
             depth: depth - 1,
             total,
         },
         Move::Parts => Reader {
             stand: Stand::Spaced,
+            code,
             offset: offset + 1,
             depth,
             total,
@@ -72,28 +79,28 @@ fn go(m: Move, r: Reader) -> Reader
 
 // One byte read.
 pub fn read_byte(r: Reader, b: u8) -> Reader
-    requires { ⌜ CanRead (readerOf r) ⌝ }
-    ensures { λ q. ⌜ readerOf q ≡ advance b (readerOf r) ⌝ }
+    requires { ⌜ CanRead r ⌝ }
+    ensures { λ q. ⌜ Reads q (advance b (readerOf r)) ⌝ }
 {
     let stand = r.stand;
-    go(judge(stand, r.depth, b), r)
+    go(judge(stand, r.code, r.depth, b), b, r)
 }
 
 // Whether a text may end where the reader stands; and with no bracket open.
 fn may_end(stand: Stand) -> bool
-    ensures { λ r. ⌜ r ≡ mayEnd (standOf stand) ⌝ }
+    ensures { λ r. ⌜ MayEnd stand r ⌝ }
 {
     match stand {
         Stand::Begun => true,
         Stand::Spaced => false,
-        Stand::Number(_) => true,
+        Stand::Number => true,
         Stand::Closed => true,
         Stand::Stopped(_) => false,
     }
 }
 
 fn is_whole(stand: Stand, depth: usize) -> bool
-    ensures { λ r. ⌜ r ≡ (mayEnd (standOf stand) && eqb depth 0) ⌝ }
+    ensures { λ r. ⌜ IsWhole stand depth r ⌝ }
 {
     if may_end(stand) {
         return depth == 0;
@@ -103,12 +110,12 @@ fn is_whole(stand: Stand, depth: usize) -> bool
 
 // Why a text may not end where the reader stands.
 fn stop_fault(stand: Stand) -> Fault
-    ensures { λ r. ⌜ faultOf r ≡ stopStatus (standOf stand) ⌝ }
+    ensures { λ r. ⌜ StopsFor stand r ⌝ }
 {
     match stand {
         Stand::Begun => Fault::NotText,
         Stand::Spaced => Fault::NotText,
-        Stand::Number(_) => Fault::NotText,
+        Stand::Number => Fault::NotText,
         Stand::Closed => Fault::NotText,
         Stand::Stopped(fault) => fault,
     }
@@ -116,12 +123,12 @@ fn stop_fault(stand: Stand) -> Fault
 
 // Whether a byte has stopped the reader: no further one changes anything.
 fn is_stopped(stand: Stand) -> bool
-    ensures { λ r. ⌜ r ≡ isStopped (standOf stand) ⌝ }
+    ensures { λ r. ⌜ IsStopped stand r ⌝ }
 {
     match stand {
         Stand::Begun => false,
         Stand::Spaced => false,
-        Stand::Number(_) => false,
+        Stand::Number => false,
         Stand::Closed => false,
         Stand::Stopped(_) => true,
     }
@@ -150,6 +157,7 @@ pub fn read(text: &[u8]) -> Found
 {
     let mut r = Reader {
         stand: Stand::Begun,
+        code: 0,
         offset: 0,
         depth: 0,
         total: 0,

@@ -1,9 +1,9 @@
 -- `reader::judging::first_move` meets its contract. Assumes nothing.
-use mathlib.Core.Path.{refl, sym, _∙_}
+use mathlib.Core.Path.{refl, sym, ap, _∙_}
 use native.Mathlib.Omega.{arith}
 use borrow.Author.Tests.{lt-ltb, le-ltb, eq-eqb, ne-eqb}
 use borrow.Author.Needs.{needs}
-use Rattle.meaning.specs.Limits.{depthLimit}
+use Rattle.meaning.specs.Limits.{codeTest, depthLimit}
 use Rattle.meaning.specs.Judge.{firstMove}
 use Rattle.meaning.proofs.reader.Moves.{digit-range}
 use Rattle.reader.proofs.judging.first_move.Statement.{statement}
@@ -15,27 +15,25 @@ with-digit-requires c κs =
 
 returns : tie.Need-returns
 unfolding firstMove
-returns c =
+returns c a =
     let if1 = c .before .before .before in
     rw (
       sym (if1 .before .is-digit .ensures) ∙ if1 .if1 .taken,
-      sym (c .before .before .with-digit .ensures),
-      sym (c .before .is-code .ensures) ∙ c .if2 .taken,
+      sym (ap codeTest (c .before .before .with-digit .ensures)) ∙ (sym (c .before .is-code .ensures) ∙ c .if2 .taken),
     ) refl
 
 returns-2 : tie.Need-returns-2
 unfolding firstMove
-returns-2 c =
+returns-2 c a =
     let if1 = c .before .before .before in
     rw (
       sym (if1 .before .is-digit .ensures) ∙ if1 .if1 .taken,
-      sym (c .before .before .with-digit .ensures),
-      sym (c .before .is-code .ensures) ∙ c .if2 .left,
+      sym (ap codeTest (c .before .before .with-digit .ensures)) ∙ (sym (c .before .is-code .ensures) ∙ c .if2 .left),
     ) refl
 
 returns-3 : tie.Need-returns-3
 unfolding firstMove depthLimit
-returns-3 c =
+returns-3 c a =
     rw (
       sym (c .before .before .before .is-digit .ensures) ∙ c .before .before .if1 .left,
       eq-eqb _ _ (c .before .if3 .taken),
@@ -44,7 +42,7 @@ returns-3 c =
 
 returns-4 : tie.Need-returns-4
 unfolding firstMove depthLimit
-returns-4 c =
+returns-4 c a =
     rw (
       sym (c .before .before .before .is-digit .ensures) ∙ c .before .before .if1 .left,
       eq-eqb _ _ (c .before .if3 .taken),
@@ -53,7 +51,7 @@ returns-4 c =
 
 returns-5 : tie.Need-returns-5
 unfolding firstMove
-returns-5 c =
+returns-5 c a =
     rw (sym (c .before .before .is-digit .ensures) ∙ c .before .if1 .left, ne-eqb _ _ (c .if3 .left)) refl
 
 pub first-move-spec : {M : Type 1} → statement M

@@ -1,7 +1,8 @@
 -- `reader::judging::more_move` meets its contract. Assumes nothing.
-use mathlib.Core.Path.{refl, sym, _∙_}
+use mathlib.Core.Path.{refl, sym, ap, _∙_}
 use borrow.Author.Tests.{eq-eqb, ne-eqb}
 use borrow.Author.Needs.{needs}
+use Rattle.meaning.specs.Limits.{codeTest}
 use Rattle.meaning.specs.Judge.{moreMove}
 use Rattle.meaning.proofs.reader.Moves.{digit-range}
 use Rattle.reader.proofs.judging.more_move.Statement.{statement}
@@ -24,8 +25,7 @@ returns-2 c =
     rw (
       sym (if2 .before .before .is-digit .ensures) ∙ if2 .before .if1 .taken,
       ne-eqb _ _ (if2 .if2 .left),
-      sym (c .before .before .with-digit .ensures),
-      sym (c .before .is-code .ensures) ∙ c .if3 .taken,
+      sym (ap codeTest (c .before .before .with-digit .ensures)) ∙ (sym (c .before .is-code .ensures) ∙ c .if3 .taken),
     ) refl
 
 returns-3 : tie.Need-returns-3
@@ -35,13 +35,12 @@ returns-3 c =
     rw (
       sym (if2 .before .before .is-digit .ensures) ∙ if2 .before .if1 .taken,
       ne-eqb _ _ (if2 .if2 .left),
-      sym (c .before .before .with-digit .ensures),
-      sym (c .before .is-code .ensures) ∙ c .if3 .left,
+      sym (ap codeTest (c .before .before .with-digit .ensures)) ∙ (sym (c .before .is-code .ensures) ∙ c .if3 .left),
     ) refl
 
 returns-4 : tie.Need-returns-4
 unfolding moreMove
-returns-4 c = rw (sym (c .before .before .is-digit .ensures) ∙ c .before .if1 .left) (c .later-move .ensures)
+returns-4 c = rw (sym (c .before .before .is-digit .ensures) ∙ c .before .if1 .left) (c .later-move .ensures _)
 
 pub more-move-spec : {M : Type 1} → statement M
 more-move-spec =
