@@ -15,10 +15,10 @@
  * Both ends are inclusive. A register's ends lie between 16 and top, those of a bracket in cell c between
  * 16 and c. Cells from top on are zero. A store that keeps all these rules is sound.
  *
- * What holds for all six functions:
+ * What holds for all seven functions:
  *
- *   - They take any words, any top and any register, and refuse by number what is not in order. A store
- *     need not be checked before it is lent; each function checks it.
+ *   - They take any words, any top, any register and any text, and refuse by number what is not in order. A
+ *     store need not be checked before it is lent; each function checks it.
  *   - A pointer must lead to as many words as its count says, aligned as uint32_t is; a pointer to bytes, to
  *     as many bytes, which may begin anywhere. It must not be null, not even where the count is 0; it may then
  *     lead anywhere.
@@ -28,7 +28,8 @@
  *     where neither writes what is lent to the other. zelmotar_check, zelmotar_look and zelmotar_print write no
  *     store.
  *   - Wherever the status is 1 to 5, no word is changed. zelmotar_print never changes a word; the bytes lent to
- *     it are all zero wherever its status is not 0.
+ *     it are all zero wherever its status is not 0. zelmotar_type changes words only where its status is 0 or 16,
+ *     and the bytes lent to it never.
  *   - A collection uses no memory that grows with the store, neither beside it nor on the stack.
  *   - The archive asks the linker for memset and nothing else: the compiler puts it in for loops that write
  *     zeros. Where there is no C library, the caller brings one.
@@ -40,8 +41,9 @@
  *     longer because cells are shared, but for zelmotar_print, which writes a shared cell wherever it is held;
  *     its time keeps within what the text space allows.
  *   - Stack. zelmotar_print uses under 13,312 bytes where 64 brackets are open, and 192 less for each that is not;
- *     zelmotar_run uses under 512, zelmotar_collect under 192, the others under 128, memset's own included: measured on
- *     x86-64 and 64-bit Arm by painting the stack (tests/c/stack.c). It does not grow with the store.
+ *     zelmotar_type uses under 20,000, zelmotar_run under 512, zelmotar_collect under 192, the others under 128,
+ *     memset's own included: measured on x86-64 and 64-bit Arm by painting the stack (tests/c/stack.c). It does not
+ *     grow with the store or with the length of a text.
  */
 #ifndef ZELMOTAR_H
 #define ZELMOTAR_H
@@ -125,6 +127,14 @@ typedef struct {
     size_t length;
 } zelmotar_text;
 
+/* What typing a register in answers: its status; the value that goes with it, which is the offset of a byte where the
+ * text is refused, and so as wide as text_n; and top as in zelmotar_reply. */
+typedef struct {
+    uint32_t status;
+    size_t value;
+    size_t top;
+} zelmotar_typed;
+
 /* Status of a whole request. The first that applies is given. */
 enum {
     ZELMOTAR_DONE = 0,         /* done */
@@ -141,19 +151,25 @@ enum {
     ZELMOTAR_BAD_OPERATION = 10, /* the operation is over 11 */
     ZELMOTAR_BAD_REGISTER = 11,  /* a register word that the call uses is over 15 */
     ZELMOTAR_STRAY_WORD = 12,    /* a word that the call does not use is not 0 */
-    ZELMOTAR_BAD_CODE = 13,      /* SYMBOL with a code over 268,435,455 */
+    ZELMOTAR_BAD_CODE = 13,      /* SYMBOL, or a text, with a code over 268,435,455 */
     ZELMOTAR_EMPTY = 14,         /* HEAD, REST, OPEN or FIRST on an empty register */
     ZELMOTAR_WRONG_KIND = 15,    /* OPEN on a symbol, or FIRST on a bracket */
     ZELMOTAR_NO_ROOM = 16        /* no room for the new cells; the store is left collected */
 };
 
 /* Status of a print: ZELMOTAR_DONE; or one of ZELMOTAR_BAD_LENGTH to ZELMOTAR_DAMAGED, with its value; or one of
- * these, with value 0. The text is written from left to right, so of the last two it is the one of the byte
- * farther left, and ZELMOTAR_TOO_DEEP where both hold at one byte. */
+ * the first three of these, with value 0. The text is written from left to right, so of 21 and 22 it is the one of
+ * the byte farther left, and ZELMOTAR_TOO_DEEP where both hold at one byte.
+ *
+ * Status of a register typed in: the first that applies of ZELMOTAR_BAD_LENGTH to ZELMOTAR_DAMAGED, with its value;
+ * ZELMOTAR_NO_REGISTER with value 0; ZELMOTAR_BAD_CODE, ZELMOTAR_TOO_DEEP or ZELMOTAR_NOT_TEXT, whichever is at the
+ * byte farthest left, with the offset of this byte as value, counted from 0; ZELMOTAR_NO_ROOM with value 0; and
+ * ZELMOTAR_DONE with value 0. ZELMOTAR_BAD_CODE is at the digit that takes a code over 268,435,455. */
 enum {
     ZELMOTAR_NO_REGISTER = 20, /* the register is over 15; a store that is not sound is told first */
     ZELMOTAR_TOO_DEEP = 21,    /* the next byte would open a 65th bracket */
-    ZELMOTAR_SHORT_SPACE = 22  /* the next byte does not fit into the text space */
+    ZELMOTAR_SHORT_SPACE = 22, /* the next byte does not fit into the text space */
+    ZELMOTAR_NOT_TEXT = 23     /* no text goes on with this byte, or the text ends too soon, at text_n */
 };
 
 /* Operations. A call is four words: operation, d, a, b. Words that are not named here must be 0. Registers
@@ -195,6 +211,7 @@ static inline const char *zelmotar_status_text(uint32_t status)
     case ZELMOTAR_NO_REGISTER: return "no register has that number";
     case ZELMOTAR_TOO_DEEP: return "brackets are nested too deep";
     case ZELMOTAR_SHORT_SPACE: return "the space is too short";
+    case ZELMOTAR_NOT_TEXT: return "no text of an expression";
     default: return "no such status";
     }
 }
@@ -255,6 +272,27 @@ ZELMOTAR_USE_RESULT zelmotar_span zelmotar_look(const uint32_t *words, size_t n,
  * is 0, and the status is ZELMOTAR_BAD_LENGTH, ZELMOTAR_BAD_TOP or ZELMOTAR_DAMAGED as zelmotar_check has it, with its
  * value, or ZELMOTAR_NO_REGISTER, ZELMOTAR_TOO_DEEP or ZELMOTAR_SHORT_SPACE with value 0. */
 ZELMOTAR_USE_RESULT zelmotar_text zelmotar_print(const uint32_t *words, size_t n, size_t top, size_t reg, uint8_t *text,
+                                                  size_t text_n);
+
+/* Types a register in: it becomes what a text of text_n bytes says. A text is what zelmotar_print writes and nothing
+ * else: no code has leading zeros, one blank stands between neighbours and none elsewhere, and no zero byte or end of
+ * line is part of it. A text of no bytes makes the register empty.
+ *
+ * Reads the n words, and the text as far as it is in order. Writes the words of the new cells and of the register, and
+ * all n where it collects; the text is not written.
+ * Each term takes one new cell, those inside brackets too; none is shared. They are laid from top upward: of an
+ * expression first what its brackets hold, from left to right and each by the same rule, then its own terms side by
+ * side. Only where they would not fit is the store collected, and only if they do not fit then is the text refused
+ * with ZELMOTAR_NO_ROOM. What the register held until then counts as live. A text of no bytes never collects.
+ * After the check it takes time with the bytes that it reads, and goes over the occupied cells as zelmotar_collect does
+ * where it collects.
+ * Answers ZELMOTAR_DONE with value 0 and the new top. Else the register keeps its expression, and so does every other,
+ * and the status is, in this order: ZELMOTAR_BAD_LENGTH, ZELMOTAR_BAD_TOP or ZELMOTAR_DAMAGED as zelmotar_check has it,
+ * with its value; ZELMOTAR_NO_REGISTER with value 0; ZELMOTAR_BAD_CODE, ZELMOTAR_TOO_DEEP or ZELMOTAR_NOT_TEXT, with
+ * the offset of the first byte that is not in order as value, or text_n where the text ends too soon;
+ * ZELMOTAR_NO_ROOM with value 0. That one leaves the store collected, with its top; the others change no word, and
+ * top comes back as it came. */
+ZELMOTAR_USE_RESULT zelmotar_typed zelmotar_type(uint32_t *words, size_t n, size_t top, size_t reg, const uint8_t *text,
                                                   size_t text_n);
 
 #ifdef __cplusplus

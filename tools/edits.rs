@@ -14,12 +14,14 @@
 //     nest N          WRAP 0 0, N times, in a batch of which nothing is said
 //     check, fresh, collect, look R    the other functions of the library
 //     print R N       register R goes as text to a space of N bytes, each of them 7
+//     type R "TEXT"   the text between the quotes, which may have no bytes, is typed into register R;
+//                     a comma with a blank behind it would end the step
 //     bytes N B ..    the program reads N bytes: these, then zeros
 //     word W in N     the four bytes of W go to a space of N bytes, each of them 7, then zeros
 // A batch answers with its status and value, `run`; if it is run, with those of each call; with the
-// words of the answer space after those, `answers`; and with `top`. `check`, `fresh` and `collect`
-// answer with status, value and `top`, a look with its two word numbers, a print with status, value
-// and length, then with the bytes of its space, `space`. The cells come last.
+// words of the answer space after those, `answers`; and with `top`. `check`, `fresh`, `collect` and
+// `type` answer with status, value and `top`, a look with its two word numbers, a print with status,
+// value and length, then with the bytes of its space, `space`. The cells come last.
 #![allow(warnings)]
 mod build;
 mod bytes;
@@ -27,9 +29,11 @@ mod calls;
 mod capi;
 mod collect;
 mod meaning;
+mod reader;
 mod serve;
 mod store;
 mod text;
+mod typing;
 mod words;
 
 // Each call, by its number, with the places of its operands. CALL has any words.
@@ -59,6 +63,12 @@ fn call_words(name: &str, operands: &[u32]) -> Vec<u32> {
     let mut call = vec![number as u32, 0, 0, 0];
     places.iter().zip(operands).for_each(|(&p, &w)| call[p] = w);
     call
+}
+
+// What stands between the first quote of a step and the last, which ends it.
+fn quoted(step: &str) -> &str {
+    let behind = step.split_once('"').and_then(|(_, s)| s.strip_suffix('"'));
+    behind.unwrap_or_else(|| panic!("no text stands between quotes in `{step}`"))
 }
 
 // A list of the definitions.
@@ -94,11 +104,11 @@ impl Lent {
         }
     }
 
-    // An answer to collecting or to a fresh store, by the term for it.
-    fn answered(&mut self, name: &str, a: capi::Reply, done: String) {
+    // An answer to collecting, to a fresh store or to a text that is typed, by the term for it.
+    fn answered(&mut self, name: &str, status: u32, value: u32, top: usize, done: String) {
         let term = format!("{done} .verdict .status ∷ {done} .verdict .value ∷ {done} .top ∷ []");
-        self.say(name, &[a.status, a.value, a.top as u32], term);
-        self.left(a.top, done);
+        self.say(name, &[status, value, top as u32], term);
+        self.left(top, done);
     }
 
     // The store and `top` that a function leaves, by the term for what it does.
@@ -167,11 +177,12 @@ impl Lent {
             }
             ("fresh", []) => {
                 let a = capi::zelmotar_fresh(&mut self.words);
-                self.answered(text, a, format!("(freshIn 16 {ws})"));
+                self.answered(text, a.status, a.value, a.top, format!("(freshIn 16 {ws})"));
             }
             ("collect", []) => {
                 let a = capi::zelmotar_collect(&mut self.words, self.top);
-                self.answered(text, a, format!("(collectIn 16 {ws} {t})"));
+                let done = format!("(collectIn 16 {ws} {t})");
+                self.answered(text, a.status, a.value, a.top, done);
             }
             ("look", &[r]) => {
                 let place = capi::zelmotar_look(&self.words, self.top, r as usize);
@@ -195,6 +206,14 @@ impl Lent {
                 self.say(text, &[a.status, a.value as u32, a.length as u32], term);
                 let space: Vec<u32> = space.iter().map(|&b| b as u32).collect();
                 self.say("space", &space, format!("{p} .space"));
+            }
+            // Words of the text that are numbers are among the numbers too.
+            ("type", &[r, ..]) => {
+                let typed = quoted(text).as_bytes();
+                let a = capi::zelmotar_type(&mut self.words, self.top, r as usize, typed);
+                let typed: Vec<u32> = typed.iter().map(|&b| b as u32).collect();
+                let done = format!("(typeIn 16 {ws} {t} {r} ({}))", list(&typed));
+                self.answered(text, a.status, a.value as u32, a.top, done);
             }
             ("bytes", [n, first @ ..]) => program(*n as usize, first),
             ("word", &[w, n]) => self.word(w, n as usize),

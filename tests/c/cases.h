@@ -1,8 +1,8 @@
-/* cases.h: random stores, call lists, answer and text spaces, good and bad, for the tests at the border.
+/* cases.h: random stores, call lists, answer and text spaces and texts, good and bad, for the tests at the border.
  *
  * A store is made by the library itself, from a fresh one and random calls, then damaged in half of the cases.
  * The numbers are the same in every run. What the answers should be is not known here: the Rust tests hold them
- * against a model. What a text should be is in texts.h. */
+ * against a model. What a text should be is in texts.h, and what comes of one that is typed in typed.h. */
 #ifndef CASES_H
 #define CASES_H
 
@@ -15,16 +15,18 @@
 #define MOST_STORE (ZELMOTAR_MAX_WORDS + 2)
 #define MOST_CALLS (ZELMOTAR_MAX_CALL_WORDS + 4)
 #define MOST_ANSWERS (MOST_CALLS / 2 + 8)
-#define MOST_TEXT 6000 /* more than a page */
+#define MOST_TEXT 6000                  /* more than a page */
+#define MOST_TYPED (2 * MOST_TEXT + 12) /* with a code behind it, and every bracket closed */
 
-/* What goes into the six functions. */
+/* What goes into the seven functions. */
 struct test_case {
     uint32_t words[MOST_STORE], calls[MOST_CALLS];
-    size_t words_n, calls_n, answers_n, text_n, top, reg;
+    uint8_t typed[MOST_TYPED];
+    size_t words_n, calls_n, answers_n, text_n, typed_n, top, reg;
 };
 
-/* How often each status came back, of whole requests, of calls and of prints. */
-static unsigned met[ZELMOTAR_SHORT_SPACE + 1];
+/* How often each status came back, of whole requests, of calls and of prints; and of what was typed in. */
+static unsigned met[ZELMOTAR_SHORT_SPACE + 1], typed_met[ZELMOTAR_NOT_TEXT + 1];
 
 static inline uint32_t random_word(void)
 {
@@ -154,6 +156,64 @@ static inline size_t random_space(void)
     return below(most[below(4)]);
 }
 
+static inline void type_byte(struct test_case *c, char byte) { c->typed[c->typed_n++] = (uint8_t)byte; }
+
+/* Codes have any number of digits; now and then one is about the largest, or over it. */
+static inline void type_code(struct test_case *c)
+{
+    char digits[12];
+    const char *p;
+    uint32_t code = random_word() & ZELMOTAR_MAX_CODE;
+    code = below(4) ? code % 100 : code >> below(28);
+    if (below(300) == 0)
+        code = ZELMOTAR_MAX_CODE - 1 + (uint32_t)below(4);
+    snprintf(digits, sizeof digits, "%lu", (unsigned long)code);
+    for (p = digits; *p != '\0'; p++)
+        type_byte(c, *p);
+}
+
+/* One step on in a text, after what stands there last; gives how many brackets are open then. */
+static inline size_t type_more(struct test_case *c, size_t open)
+{
+    char last = c->typed_n == 0 ? ' ' : (char)c->typed[c->typed_n - 1];
+    int whole = last != ' ' && last != '('; /* a term has just ended */
+    if (last != ' ' && open > 0 && below(3) == 0)
+        return type_byte(c, ')'), open - 1;
+    if (whole)
+        return type_byte(c, ' '), open;
+    if (below(3) == 0)
+        return type_byte(c, '('), open + 1;
+    return type_code(c), open;
+}
+
+/* The text of an expression, but that its codes may be too large and its brackets too deep. Such a walk hardly ever
+ * gets as deep as a text may go, so now and then it begins about there. */
+static inline void make_text(struct test_case *c)
+{
+    size_t most = below(3) ? below(60) : random_space();
+    size_t open = 0, deep = below(6) == 0 ? ZELMOTAR_MAX_DEPTH - 4 + below(8) : 0;
+    c->typed_n = 0;
+    for (; open < deep; open++)
+        type_byte(c, '(');
+    while (c->typed_n < most)
+        open = type_more(c, open);
+    if (c->typed_n > 0 && c->typed[c->typed_n - 1] == ' ')
+        type_code(c);
+    for (; open > 0; open--)
+        type_byte(c, ')');
+}
+
+/* A text with one byte changed, for one that texts have or for any, or with its end cut off. */
+static inline void spoil_text(struct test_case *c)
+{
+    static const char bytes[] = "() 0123456789";
+    size_t at = below(c->typed_n + 1);
+    if (at < c->typed_n && below(2))
+        c->typed[at] = below(3) ? (uint8_t)bytes[below(sizeof bytes - 1)] : (uint8_t)below(256);
+    else
+        c->typed_n = at;
+}
+
 static inline void make_case(struct test_case *c)
 {
     memset(c, 0, sizeof *c);
@@ -162,6 +222,9 @@ static inline void make_case(struct test_case *c)
         damage(c);
     make_lists(c);
     c->text_n = random_space();
+    make_text(c);
+    if (below(2))
+        spoil_text(c);
 }
 
 /* Counts the status of a run and those of its calls. */
@@ -173,7 +236,7 @@ static inline void count(zelmotar_reply answer, const uint32_t *answers, size_t 
         met[answers[2 * i]]++;
 }
 
-/* Every status has been met, and no number that is none. */
+/* Every status has been met, and no number that is none; so have those of typing. */
 static inline void expect_all_met(void)
 {
     unsigned status;
@@ -181,6 +244,10 @@ static inline void expect_all_met(void)
         EXPECT((met[status] > 0) == (status <= ZELMOTAR_SHORT_ANSWERS ||
                                      (status >= ZELMOTAR_BAD_OPERATION && status <= ZELMOTAR_NO_ROOM) ||
                                      status >= ZELMOTAR_NO_REGISTER));
+    for (status = 0; status <= ZELMOTAR_NOT_TEXT; status++)
+        EXPECT((typed_met[status] > 0) == (status <= ZELMOTAR_DAMAGED || status == ZELMOTAR_BAD_CODE ||
+                                           status == ZELMOTAR_NO_ROOM || status == ZELMOTAR_NO_REGISTER ||
+                                           status == ZELMOTAR_TOO_DEEP || status == ZELMOTAR_NOT_TEXT));
 }
 
 #endif

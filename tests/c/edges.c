@@ -3,9 +3,10 @@
  * usage: edges COUNT
  *
  * Each list stands once right after such a page and once right before one, and so does each list of a random
- * case, for all six functions; a list that a function only reads stands in pages that cannot be written. All
- * have to answer and to leave what they do in plain memory. The rows of texts of SCOPE 7.1 are printed there too.
- * That the pages do fault is tried first, in processes of their own. For Linux and its like. */
+ * case, for all seven functions; a list that a function only reads stands in pages that cannot be written. All
+ * have to answer and to leave what they do in plain memory. The rows of texts of SCOPE 7.1 are printed and typed there
+ * too, and every text of up to two bytes is typed. That the pages do fault is tried first, in processes of their own.
+ * For Linux and its like. */
 #define _DEFAULT_SOURCE
 #include <signal.h>
 #include <sys/mman.h>
@@ -15,6 +16,7 @@
 
 #include "cases.h"
 #include "texts.h"
+#include "typed.h"
 
 enum place { LOW, HIGH }; /* right after the lower page that faults, right before the upper one */
 enum { STORE, CALLS, ANSWERS, TEXT, LISTS };
@@ -143,6 +145,18 @@ static void edges_print(void)
     expect_same(STORE, c.words_n), expect_same(TEXT, c.text_n);
 }
 
+static void edges_type(void)
+{
+    uint32_t *words = lend(STORE, c.words, c.words_n, PROT_READ | PROT_WRITE);
+    const uint8_t *text = lend(TEXT, c.typed, c.typed_n, PROT_READ);
+    zelmotar_typed here;
+    doing = "zelmotar_type";
+    here = zelmotar_type(words, c.words_n, c.top, c.reg, text, c.typed_n);
+    EXPECT(same_typed(here, zelmotar_type(plain[STORE], c.words_n, c.top, c.reg, (uint8_t *)plain[TEXT], c.typed_n)));
+    typed_met[here.status]++;
+    expect_same(STORE, c.words_n), expect_same(TEXT, c.typed_n);
+}
+
 static void edges(void)
 {
     for (place = LOW; place <= HIGH; place++) {
@@ -152,6 +166,7 @@ static void edges(void)
         edges_collect();
         edges_run();
         edges_print();
+        edges_type();
     }
 }
 
@@ -170,16 +185,20 @@ static void prints(size_t reg, size_t text_n, uint32_t status, uint32_t value, c
     }
 }
 
-/* A store of 100 cells with register 0 on l to r; empty with both 0. Cells are put from 16 on. */
-static void start(uint32_t l, uint32_t r)
+/* A store with register d on l to r; empty with both 0. Cells are put from 16 on. */
+static void start_with(size_t cells, size_t d, uint32_t l, uint32_t r)
 {
     zelmotar_reply answer;
-    c.words_n = 200;
+    c.words_n = 2 * cells;
     answer = zelmotar_fresh(c.words, c.words_n);
     EXPECT(answer.status == ZELMOTAR_DONE);
     c.top = answer.top;
-    c.words[0] = l, c.words[1] = ZELMOTAR_BRACKET + r;
+    ZELMOTAR_FIRST_WORD(c.words, d) = l;
+    ZELMOTAR_SECOND_WORD(c.words, d) = ZELMOTAR_BRACKET + r;
 }
+
+/* One of 100 cells. */
+static void start(uint32_t l, uint32_t r) { start_with(100, 0, l, r); }
 
 static void put(uint32_t first, uint32_t second)
 {
@@ -235,6 +254,178 @@ static void rows_of_refusals(void)
     prints(16, 3, 1, 0, "");
 }
 
+/* A text typed into a register of the case: the answer that is expected, with the case's `top`, and the case's store as
+ * the one that it leaves. `before` is the one that it is typed into. */
+static void types_from(const struct test_case *before, size_t reg, const char *text, size_t text_n, uint32_t status,
+                       size_t value)
+{
+    const zelmotar_typed expected = {status, value, c.top};
+    EXPECT(before->words_n == c.words_n);
+    for (place = LOW; place <= HIGH; place++) {
+        uint32_t *words = lend(STORE, before->words, before->words_n, PROT_READ | PROT_WRITE);
+        const uint8_t *typed = lend(TEXT, text, text_n, PROT_READ);
+        doing = "zelmotar_type";
+        EXPECT(same_typed(zelmotar_type(words, before->words_n, before->top, reg, typed, text_n), expected));
+        memcpy(plain[STORE], c.words, c.words_n * sizeof *c.words);
+        expect_same(STORE, c.words_n), expect_same(TEXT, text_n);
+    }
+}
+
+static void types(const struct test_case *before, size_t reg, const char *text, uint32_t status, size_t value)
+{
+    types_from(before, reg, text, strlen(text), status, value);
+}
+
+/* A text that changes nothing, typed into the case's own store. */
+static void refuses(size_t reg, const char *text, uint32_t status, size_t value)
+{
+    types(&c, reg, text, status, value);
+}
+
+/* A fresh store to type into. */
+static const struct test_case *fresh_one(size_t cells)
+{
+    static struct test_case one;
+    zelmotar_reply answer;
+    one.words_n = 2 * cells;
+    answer = zelmotar_fresh(one.words, one.words_n);
+    EXPECT(answer.status == ZELMOTAR_DONE);
+    one.top = answer.top;
+    return &one;
+}
+
+static void typed_rows_of_terms(void)
+{
+    start_with(21, 1, 18, 20); /* T10 */
+    put(66, 0), put(67, 0), put(65, 0), put(ZELMOTAR_BRACKET_CELL(16, 17)), put(ZELMOTAR_EMPTY_CELL);
+    types(fresh_one(21), 1, "65 (66 67) ()", 0, 0);
+    refuses(0, "65 (66 67) ()", 16, 0);
+    start_with(24, 0, 20, 23); /* T11 */
+    put(3, 0), put(2, 0), put(ZELMOTAR_BRACKET_CELL(16, 16)), put(4, 0);
+    put(1, 0), put(ZELMOTAR_BRACKET_CELL(17, 19)), put(5, 0), put(ZELMOTAR_EMPTY_CELL);
+    types(fresh_one(24), 0, "1 (2 (3) 4) 5 ()", 0, 0);
+    start_with(17, 0, 16, 16), put(ZELMOTAR_EMPTY_CELL); /* T12 */
+    types(fresh_one(17), 0, "()", 0, 0);
+    start_with(17, 0, 16, 16), put(268435455, 0);
+    types(fresh_one(17), 0, "268435455", 0, 0);
+    start_with(17, 0, 16, 16), put(100000002, 0);
+    types(fresh_one(17), 0, "100000002", 0, 0);
+    start_with(17, 0, 16, 16), put(0, 0);
+    types(fresh_one(17), 0, "0", 0, 0);
+}
+
+/* So many opening brackets, and what stands behind them. */
+static const char *brackets(size_t opened, const char *behind)
+{
+    static char text[200];
+    memset(text, '(', opened);
+    strcpy(text + opened, behind);
+    return text;
+}
+
+static void typed_rows_of_depth(void)
+{
+    char closed[66] = "";
+    memset(closed, ')', 64);
+    start_with(80, 0, 0, 0), nest(&c, 0, 64); /* T12, the text of T5 */
+    types(fresh_one(80), 0, brackets(64, closed), 0, 0);
+    start_with(16, 0, 0, 0); /* T19 */
+    refuses(0, brackets(70, ""), 21, 64);
+    refuses(0, brackets(64, "1("), 23, 65);
+    refuses(0, brackets(64, ") (("), 21, 67);
+    closed[64] = 'x';
+    refuses(0, brackets(64, closed), 23, 128);
+}
+
+/* A store whose heap is full with one symbol, which register 0 holds, or which is dead. */
+static struct test_case full;
+static void fill(uint32_t l, uint32_t r) { start_with(17, 0, l, r), put(7, 0), full = c; }
+
+static void typed_rows_of_room(void)
+{
+    fill(16, 16), start_with(17, 0, 0, 0), put(7, 0); /* T13 */
+    types(&full, 0, "", 0, 0);
+    fill(0, 0), start_with(17, 0, 0, 0); /* T14 */
+    types(&full, 0, "1 1", 16, 0);
+    start_with(17, 0, 16, 16), put(9, 0);
+    types(&full, 0, "9", 0, 0);
+    start_with(16, 0, 0, 0);
+    refuses(0, "1", 16, 0);
+    fill(16, 16); /* what the register holds counts, though it is about to go */
+    refuses(0, "9", 16, 0);
+    fill(0, 0); /* a text of no bytes does not collect, and one that is refused by itself does not */
+    refuses(0, "", 0, 0), refuses(0, "1 1 ", 23, 4), refuses(0, "1 268435456", 13, 10);
+    start_with(18, 0, 0, 0), put(7, 0), full = c; /* nor does one for which there is room */
+    start_with(18, 0, 17, 17), put(7, 0), put(9, 0);
+    types(&full, 0, "9", 0, 0);
+}
+
+/* Rows in which the text is refused by itself, so in a store without room. */
+static void typed_rows_of_bytes(void)
+{
+    start_with(16, 0, 0, 0);
+    refuses(0, " ", 23, 0), refuses(0, ")", 23, 0), refuses(0, "x", 23, 0); /* T15 */
+    refuses(0, "01", 23, 1), refuses(0, "1)", 23, 1), refuses(0, "1(", 23, 1), refuses(0, "1  2", 23, 2); /* T16 */
+    refuses(0, "( )", 23, 1), refuses(0, "(1 )", 23, 3), refuses(0, "()1", 23, 2), refuses(0, "())", 23, 2);
+    refuses(0, "1 ", 23, 2), refuses(0, "(", 23, 1), refuses(0, "(1", 23, 2), refuses(0, "() ", 23, 3); /* T17 */
+    refuses(0, "268435456", 13, 8), refuses(0, "99999999999", 13, 8), refuses(0, "(268435456", 13, 9); /* T18 */
+    types_from(&c, 0, "1\0", 2, 23, 1); /* a C string with the byte that ends it */
+}
+
+static void typed_rows_of_refusals(void)
+{
+    start_with(17, 15, 16, 16), put(7, 0); /* T20 */
+    types(fresh_one(17), 15, "7", 0, 0);
+    refuses(16, "x", 20, 0), refuses(SIZE_MAX, "x", 20, 0), refuses(SIZE_MAX, "", 20, 0);
+    start(0, 0), put(65, 0), put(66, 0), put(ZELMOTAR_BRACKET_CELL(16, 18)); /* T21 */
+    refuses(16, "x", 3, 18), refuses(SIZE_MAX, "", 3, 18);
+    c.top = 101;
+    refuses(16, "x", 2, 0);
+    c.words_n = 30;
+    refuses(16, "x", 1, 0);
+}
+
+/* Types a text into a register of a small store with a word on either side, and holds it against the second reader and
+ * layer. The text stands before the page that faults, and can be written there, so that it is seen if it is. */
+static void type_short(const uint8_t *given, size_t text_n)
+{
+    enum { WORDS = 2 * 18, GUARD = 0x5a5a5a5a };
+    uint32_t words[WORDS + 2] = {GUARD}, expected[WORDS + 2] = {GUARD};
+    uint8_t *text = at(TEXT, text_n);
+    zelmotar_typed answer;
+    expected[WORDS + 1] = words[WORDS + 1] = GUARD;
+    EXPECT(zelmotar_fresh(words + 1, WORDS).status == ZELMOTAR_DONE);
+    EXPECT(zelmotar_fresh(expected + 1, WORDS).status == ZELMOTAR_DONE);
+    memcpy(text, given, text_n);
+    doing = "zelmotar_type";
+    answer = zelmotar_type(words + 1, WORDS, ZELMOTAR_REGISTERS, 3, text, text_n);
+    EXPECT(same_typed(answer, expected_type(expected + 1, WORDS, ZELMOTAR_REGISTERS, 3, given, text_n)));
+    EXPECT(memcmp(words, expected, sizeof words) == 0 && memcmp(text, given, text_n) == 0);
+}
+
+/* Every text of one byte and of two, and every one of up to seven of the bytes that texts have, with two digits. */
+static void every_short_text(void)
+{
+    static const char of[] = "( )07";
+    uint8_t text[7];
+    unsigned long number, rest, count = 1;
+    size_t n, i;
+    place = HIGH;
+    allow(TEXT, PROT_READ | PROT_WRITE);
+    for (number = 0; number < 65536; number++) {
+        text[0] = (uint8_t)(number % 256), text[1] = (uint8_t)(number / 256);
+        type_short(text, 2);
+        if (number < 256)
+            type_short(text, 1);
+    }
+    for (n = 0; n <= sizeof text; n++, count *= sizeof of - 1)
+        for (number = 0; number < count; number++) {
+            for (i = 0, rest = number; i < n; i++, rest /= sizeof of - 1)
+                text[i] = (uint8_t)of[rest % (sizeof of - 1)];
+            type_short(text, n);
+        }
+}
+
 /* Whether a process of its own, doing what is asked, is ended by a fault. */
 static int faults(void (*act)(void))
 {
@@ -278,12 +469,25 @@ static void print_unwritable(void)
     touched = zelmotar_print(c.words, 40, 16, 0, lend(TEXT, NULL, 3, PROT_READ), 3).status;
 }
 
+/* A text one byte shorter than it is told, and a store that may only be read. */
+static void type_beyond(void)
+{
+    place = HIGH;
+    touched = zelmotar_type(c.words, 40, 16, 0, lend(TEXT, "12", 2, PROT_READ), 3).status;
+}
+
+static void type_unwritable(void)
+{
+    touched = zelmotar_type(lend(STORE, c.words, 40, PROT_READ), 40, 16, 0, (const uint8_t *)"12", 2).status;
+}
+
 static void expect_faults(void)
 {
     EXPECT(zelmotar_fresh(c.words, 40).status == ZELMOTAR_DONE);
     EXPECT(faults(touch_before) && faults(touch_after) && faults(touch_written) && !faults(touch_nothing));
     EXPECT(faults(check_beyond) && faults(fresh_unwritable));
     EXPECT(faults(print_beyond) && faults(print_unwritable));
+    EXPECT(faults(type_beyond) && faults(type_unwritable));
 }
 
 static void on_fault(int number)
@@ -307,6 +511,12 @@ int main(int count_given, char **list)
     rows_of_terms();
     rows_of_depth();
     rows_of_refusals();
+    typed_rows_of_terms();
+    typed_rows_of_depth();
+    typed_rows_of_room();
+    typed_rows_of_bytes();
+    typed_rows_of_refusals();
+    every_short_text();
     for (; left > 0; left--) {
         make_case(&c);
         edges();

@@ -1,4 +1,4 @@
-/* fields: the layout of the three structs that come back. Each field has its place and size, and is read by
+/* fields: the layout of the four structs that come back. Each field has its place and size, and is read by
  * name and by its bytes from answers whose fields all differ. */
 #include <string.h>
 
@@ -14,6 +14,7 @@ static uint32_t words[WORDS];
 
 enum { offsetof_status = 0, offsetof_value = 4, offsetof_top = 8, offsetof_from = 0, offsetof_to = sizeof(size_t) };
 enum { offsetof_text_value = sizeof(size_t), offsetof_length = 2 * sizeof(size_t) }; /* of a text; its status is at 0 */
+enum { offsetof_typed_value = sizeof(size_t), offsetof_typed_top = 2 * sizeof(size_t) }; /* of typing, likewise */
 
 static void layout(void)
 {
@@ -31,6 +32,12 @@ static void layout(void)
     EXPECT(sizeof(((zelmotar_text *)0)->value) == sizeof(size_t));
     EXPECT(sizeof(((zelmotar_text *)0)->length) == sizeof(size_t));
     EXPECT(sizeof(zelmotar_text) == 3 * sizeof(size_t));
+    EXPECT(offsetof(zelmotar_typed, status) == offsetof_status && sizeof(((zelmotar_typed *)0)->status) == 4);
+    EXPECT(offsetof(zelmotar_typed, value) == offsetof_typed_value);
+    EXPECT(offsetof(zelmotar_typed, top) == offsetof_typed_top);
+    EXPECT(sizeof(((zelmotar_typed *)0)->value) == sizeof(size_t));
+    EXPECT(sizeof(((zelmotar_typed *)0)->top) == sizeof(size_t));
+    EXPECT(sizeof(zelmotar_typed) == 3 * sizeof(size_t));
 }
 
 /* An answer, field by field: by name and by bytes. */
@@ -105,11 +112,44 @@ static void texts(void)
     reads_text(zelmotar_print(words, WORDS, 32, 0, text, 2000), 0, 0, 1019);
 }
 
+/* What typing answers, field by field: by name and by bytes. */
+static void reads_typed(zelmotar_typed answer, uint32_t status, size_t value, size_t top)
+{
+    EXPECT(answer.status == status && AT(answer, status, status));
+    EXPECT(answer.value == value && AT(answer, typed_value, value));
+    EXPECT(answer.top == top && AT(answer, typed_top, top));
+}
+
+/* The last text is in order up to an offset that two bytes of a word have to count. */
+static void typings(void)
+{
+    const size_t far = SIZE_MAX / 255 * 0xa5 - 1; /* each byte of it is set */
+    static uint8_t text[1001];
+    size_t i;
+    text[0] = '1', text[1] = ' ', text[2] = '2';
+    damaged_store();
+    reads_typed(zelmotar_type(words, WORDS, 21, 0, text, 3), 3, 19, 21);
+    reads_typed(zelmotar_type(words, WORDS, far, 0, text, 3), 2, 0, far);
+    reads_typed(zelmotar_type(words, WORDS - 1, far, 0, text, 3), 1, 0, far);
+    EXPECT(zelmotar_fresh(words, WORDS).status == ZELMOTAR_DONE);
+    reads_typed(zelmotar_type(words, WORDS, 17, 16, text, 3), 20, 0, 17);
+    reads_typed(zelmotar_type(words, WORDS, 17, far, text, 3), 20, 0, 17);
+    reads_typed(zelmotar_type(words, WORDS, 17, 0, text, 2), 23, 2, 17);
+    reads_typed(zelmotar_type(words, WORDS, 17, 0, text, 3), 0, 0, 19);
+    for (i = 0; i < 1000; i++)
+        text[i] = i % 2 == 0 ? '7' : ' ';
+    text[1000] = ')';
+    reads_typed(zelmotar_type(words, WORDS, 19, 0, text, 1000), 23, 1000, 19);
+    reads_typed(zelmotar_type(words, WORDS, 19, 0, text, 1001), 23, 1000, 19);
+    reads_typed(zelmotar_type(words, WORDS, 19, 0, text, 999), 16, 0, 18);
+}
+
 int main(void)
 {
     layout();
     answers();
     spans();
     texts();
+    typings();
     return expect_end();
 }

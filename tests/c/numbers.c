@@ -122,6 +122,39 @@ static void statuses_of_a_print(void)
     EXPECT(print(0, sizeof text) == ZELMOTAR_TOO_DEEP);
 }
 
+/* Types a text into a register and gives the status. */
+static uint32_t type(size_t reg, const char *typed)
+{
+    zelmotar_typed answer = zelmotar_type(words, 2 * CELLS, top, reg, (const uint8_t *)typed, strlen(typed));
+    top = answer.top;
+    value = (uint32_t)answer.value;
+    return answer.status;
+}
+
+/* Each status of a register typed in, with the offset where there is one: the largest code and the deepest bracket are
+ * in order, and one more is not. */
+static void statuses_of_typing(void)
+{
+    char typed[2 * ZELMOTAR_MAX_DEPTH + 2] = "";
+    size_t n;
+    start();
+    EXPECT(type(ZELMOTAR_REGISTERS, "x") == ZELMOTAR_NO_REGISTER && value == 0);
+    EXPECT(type(ZELMOTAR_REGISTERS - 1, "x") == ZELMOTAR_NOT_TEXT && value == 0);
+    EXPECT(type(ZELMOTAR_REGISTERS - 1, "(7 ") == ZELMOTAR_NOT_TEXT && value == 3 && top == ZELMOTAR_REGISTERS);
+    snprintf(typed, sizeof typed, "7 %lu", (unsigned long)ZELMOTAR_MAX_CODE + 1);
+    EXPECT(type(0, typed) == ZELMOTAR_BAD_CODE && value == strlen(typed) - 1 && top == ZELMOTAR_REGISTERS);
+    snprintf(typed, sizeof typed, "7 %lu", (unsigned long)ZELMOTAR_MAX_CODE);
+    EXPECT(type(0, typed) == ZELMOTAR_DONE && value == 0 && holds(0, 16, 17) && words[34] == ZELMOTAR_MAX_CODE);
+    memset(typed, '(', ZELMOTAR_MAX_DEPTH), memset(typed + ZELMOTAR_MAX_DEPTH, ')', ZELMOTAR_MAX_DEPTH);
+    typed[2 * ZELMOTAR_MAX_DEPTH] = '\0';
+    EXPECT(type(1, typed) == ZELMOTAR_DONE && top == 18 + ZELMOTAR_MAX_DEPTH && holds(1, top - 1, top - 1));
+    EXPECT(type(1, typed) == ZELMOTAR_NO_ROOM && value == 0 && top == 18 + ZELMOTAR_MAX_DEPTH);
+    memset(typed, '(', sizeof typed - 1);
+    EXPECT(type(1, typed) == ZELMOTAR_TOO_DEEP && value == ZELMOTAR_MAX_DEPTH);
+    for (n = 0; n < ZELMOTAR_REGISTERS; n++)
+        EXPECT(type(n, "") == ZELMOTAR_DONE && ZELMOTAR_IS_EMPTY(words, n));
+}
+
 static void limits(void)
 {
     EXPECT(zelmotar_fresh(words, ZELMOTAR_MIN_WORDS).status == 0);
@@ -212,6 +245,7 @@ int main(int count, char **list)
     statuses_of_a_call();
     statuses_of_a_request();
     statuses_of_a_print();
+    statuses_of_typing();
     limits();
     masks();
     cells_taken_apart();

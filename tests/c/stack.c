@@ -14,10 +14,13 @@
 #define PAINT 0xa5u
 #define ROOM 65536
 
-enum { CHECK, FRESH, COLLECT, RUN, LOOK, PRINT, FUNCTIONS };
+enum { CHECK, FRESH, COLLECT, RUN, LOOK, PRINT, TYPE, FUNCTIONS };
 
-static const char *const names[FUNCTIONS] = {"check", "fresh", "collect", "run", "look", "print"};
-static const size_t under[FUNCTIONS] = {128, 128, 192, 512, 128, 13312}; /* as zelmotar.h says */
+/* What typing stays under, as the others below, where 64 brackets are open. */
+#define UNDER_TYPE 20000
+
+static const char *const names[FUNCTIONS] = {"check", "fresh", "collect", "run", "look", "print", "type"};
+static const size_t under[FUNCTIONS] = {128, 128, 192, 512, 128, 13312, UNDER_TYPE}; /* as zelmotar.h says */
 
 static struct test_case c;
 static uint32_t words[MOST_STORE], answers[MOST_ANSWERS];
@@ -31,8 +34,9 @@ static size_t used;          /* bytes from the lowest that lost its paint to the
 static const zelmotar_reply no_answer;
 static const zelmotar_span no_span;
 static const zelmotar_text no_text;
+static const zelmotar_typed no_typed;
 
-/* One function for each of the six that takes the same and does nothing. */
+/* One function for each of the seven that takes the same and does nothing. */
 static zelmotar_reply no_check(const uint32_t *w, size_t n, size_t top)
 {
     (void)w, (void)n, (void)top;
@@ -70,6 +74,12 @@ static zelmotar_text no_print(const uint32_t *w, size_t n, size_t top, size_t re
     return no_text;
 }
 
+static zelmotar_typed no_type(uint32_t *w, size_t n, size_t top, size_t reg, const uint8_t *t, size_t text_n)
+{
+    (void)w, (void)n, (void)top, (void)reg, (void)t, (void)text_n;
+    return no_typed;
+}
+
 /* Both of each kind, volatile so that the call is the same code for both. */
 static zelmotar_reply (*volatile check[2])(const uint32_t *, size_t, size_t) = {zelmotar_check, no_check};
 static zelmotar_reply (*volatile fresh[2])(uint32_t *, size_t) = {zelmotar_fresh, no_fresh};
@@ -79,6 +89,8 @@ static zelmotar_reply (*volatile run[2])(uint32_t *, size_t, size_t, const uint3
 static zelmotar_span (*volatile look[2])(const uint32_t *, size_t, size_t, size_t) = {zelmotar_look, no_look};
 static zelmotar_text (*volatile print[2])(const uint32_t *, size_t, size_t, size_t, uint8_t *,
                                            size_t) = {zelmotar_print, no_print};
+static zelmotar_typed (*volatile type[2])(uint32_t *, size_t, size_t, size_t, const uint8_t *,
+                                           size_t) = {zelmotar_type, no_type};
 
 /* The call, and right after it, before anything else is called, the measuring. */
 static void on_own_stack(void)
@@ -92,7 +104,8 @@ static void on_own_stack(void)
         (void)!run[hollow](words, c.words_n, c.top, c.calls, c.calls_n, answers, c.answers_n).status;
         break;
     case LOOK: (void)!look[hollow](words, c.words_n, c.top, c.reg).to; break;
-    default: (void)!print[hollow](words, c.words_n, c.top, c.reg, text, c.text_n).status; break;
+    case PRINT: (void)!print[hollow](words, c.words_n, c.top, c.reg, text, c.text_n).status; break;
+    default: (void)!type[hollow](words, c.words_n, c.top, c.reg, c.typed, c.typed_n).status; break;
     }
     for (i = 0; i < ROOM && room[i] == PAINT; i++)
         continue;
@@ -137,12 +150,29 @@ static void measure(void)
             deepest[i] = bytes;
 }
 
-/* Register 0 as one symbol, or as nothing, with brackets around it. */
+/* The case's text: these bytes, so many times. */
+static void type_times(size_t times, const char *bytes)
+{
+    for (; times > 0; times--)
+        c.typed_n += (size_t)sprintf((char *)c.typed + c.typed_n, "%s", bytes);
+}
+
+/* A text with so many brackets open in its middle: nothing or one symbol there, and on each level nothing beside the
+ * bracket, or a term on either side. */
+static void make_deep_text(int symbol, int wide, size_t depth)
+{
+    c.typed_n = 0;
+    type_times(depth, wide ? "1 (" : "(");
+    type_times(1, symbol ? "268435455" : "");
+    type_times(depth, wide ? ") ()" : ")");
+}
+
+/* Register 0 as one symbol, or as nothing, with brackets around it. The store has room for texts as deep. */
 static void make_deep(int symbol, size_t depth)
 {
     zelmotar_reply answer;
     memset(&c, 0, sizeof c);
-    c.words_n = 200, c.text_n = MOST_TEXT;
+    c.words_n = 800, c.text_n = MOST_TEXT;
     answer = zelmotar_fresh(c.words, c.words_n);
     EXPECT(answer.status == ZELMOTAR_DONE);
     c.top = answer.top;
@@ -151,17 +181,26 @@ static void make_deep(int symbol, size_t depth)
     nest(&c, 0, depth);
 }
 
+/* What is printed and typed with so many brackets open has this status, and is measured. */
+static void measure_at(int symbol, size_t depth, uint32_t status)
+{
+    int wide;
+    for (wide = 0; wide < 2; wide++) {
+        make_deep(symbol, depth), make_deep_text(symbol, wide, depth);
+        EXPECT(zelmotar_print(c.words, c.words_n, c.top, 0, text, c.text_n).status == status);
+        memcpy(words, c.words, sizeof words);
+        EXPECT(zelmotar_type(words, c.words_n, c.top, 0, c.typed, c.typed_n).status == status);
+        measure();
+    }
+}
+
 /* The texts with the most brackets that may be open, and with one more. */
 static void measure_deep(void)
 {
     int symbol;
     for (symbol = 0; symbol < 2; symbol++) {
-        make_deep(symbol, ZELMOTAR_MAX_DEPTH);
-        EXPECT(zelmotar_print(c.words, c.words_n, c.top, 0, text, c.text_n).status == ZELMOTAR_DONE);
-        measure();
-        make_deep(symbol, ZELMOTAR_MAX_DEPTH + 1);
-        EXPECT(zelmotar_print(c.words, c.words_n, c.top, 0, text, c.text_n).status == ZELMOTAR_TOO_DEEP);
-        measure();
+        measure_at(symbol, ZELMOTAR_MAX_DEPTH, ZELMOTAR_DONE);
+        measure_at(symbol, ZELMOTAR_MAX_DEPTH + 1, ZELMOTAR_TOO_DEEP);
     }
 }
 

@@ -1,14 +1,17 @@
-/* stress: the six functions on random cases, in memory that is exactly as long as what is lent.
+/* stress: the seven functions on random cases, in memory that is exactly as long as what is lent.
  *
  * usage: stress COUNT
  *
  * It is made for valgrind, which sees each byte that is touched outside, and each decision that hangs on a word
  * that nobody wrote: a fresh store, an answer space and a text space are lent as malloc gives them. What is printed
- * is held against a second printer (texts.h). */
+ * is held against a second printer (texts.h), and what is typed in, word by word, against a second reader and layer
+ * (typed.h). What is typed in is printed again, and what is printed is typed in again. */
 #include "cases.h"
 #include "texts.h"
+#include "typed.h"
 
 static struct test_case c;
+static unsigned roomy, collected; /* texts laid in a store as it was, and in one that was collected for them */
 
 /* A list of its own with the given words; malloc's own words if none are given. */
 static uint32_t *lend(const uint32_t *words, size_t n)
@@ -21,12 +24,14 @@ static uint32_t *lend(const uint32_t *words, size_t n)
     return list;
 }
 
-/* Bytes of their own, as malloc gives them. */
-static uint8_t *lend_bytes(size_t n)
+/* Bytes of their own, as given; as malloc gives them if none are. */
+static uint8_t *lend_bytes(const uint8_t *given, size_t n)
 {
     uint8_t *bytes = malloc(n + (n == 0));
     if (bytes == NULL)
         exit(2);
+    if (given != NULL)
+        memcpy(bytes, given, n);
     return bytes;
 }
 
@@ -78,15 +83,37 @@ static void stress_run(void)
     free(words), free(calls), free(answers);
 }
 
+/* A register is printed with these bytes. */
+static void expect_printed(const uint32_t *words, size_t n, size_t top, size_t reg, const uint8_t *text, size_t text_n)
+{
+    uint8_t *space = lend_bytes(NULL, text_n);
+    zelmotar_text answer = zelmotar_print(words, n, top, reg, space, text_n);
+    EXPECT(answer.status == ZELMOTAR_DONE && answer.length == text_n && memcmp(space, text, text_n) == 0);
+    free(space);
+}
+
+/* A text that was printed, typed into a fresh store. One of m terms has 2m - 1 bytes at least, so there is room for
+ * those of MOST_TEXT bytes. */
+static void type_again(const uint8_t *text, size_t text_n)
+{
+    static uint32_t words[ZELMOTAR_MAX_WORDS];
+    zelmotar_reply made = zelmotar_fresh(words, ZELMOTAR_MAX_WORDS);
+    zelmotar_typed answer = zelmotar_type(words, ZELMOTAR_MAX_WORDS, made.top, c.reg, text, text_n);
+    EXPECT(answer.status == ZELMOTAR_DONE && answer.top == made.top + need_of(text, text_n));
+    expect_printed(words, ZELMOTAR_MAX_WORDS, answer.top, c.reg, text, text_n);
+}
+
 /* One print into a space of text_n bytes. */
 static zelmotar_text stress_print(size_t text_n)
 {
     uint32_t *words = lend(c.words, c.words_n);
-    uint8_t *text = lend_bytes(text_n), *expected = lend_bytes(text_n);
+    uint8_t *text = lend_bytes(NULL, text_n), *expected = lend_bytes(NULL, text_n);
     zelmotar_text answer = zelmotar_print(words, c.words_n, c.top, c.reg, text, text_n);
     EXPECT(same_text(answer, expected_print(c.words, c.words_n, c.top, c.reg, expected, text_n)));
     EXPECT(memcmp(text, expected, text_n) == 0 && memcmp(words, c.words, c.words_n * sizeof *words) == 0);
     met[answer.status]++;
+    if (answer.status == ZELMOTAR_DONE)
+        type_again(text, answer.length);
     free(words), free(text), free(expected);
     return answer;
 }
@@ -101,6 +128,24 @@ static void stress_prints(void)
         EXPECT(stress_print(answer.length - 1).status == ZELMOTAR_SHORT_SPACE);
 }
 
+/* The case's text typed in: the answer, every word, and the text as it was. What was typed is printed with the same
+ * bytes. */
+static zelmotar_typed stress_type(void)
+{
+    uint32_t *words = lend(c.words, c.words_n), *expected = lend(c.words, c.words_n);
+    uint8_t *text = lend_bytes(c.typed, c.typed_n);
+    zelmotar_typed answer = zelmotar_type(words, c.words_n, c.top, c.reg, text, c.typed_n);
+    EXPECT(same_typed(answer, expected_type(expected, c.words_n, c.top, c.reg, c.typed, c.typed_n)));
+    EXPECT(memcmp(words, expected, c.words_n * sizeof *words) == 0 && memcmp(text, c.typed, c.typed_n) == 0);
+    typed_met[answer.status]++;
+    if (answer.status == ZELMOTAR_DONE) {
+        need_of(text, c.typed_n) > c.words_n / 2 - c.top ? collected++ : roomy++;
+        expect_printed(words, c.words_n, answer.top, c.reg, text, c.typed_n);
+    }
+    free(words), free(expected), free(text);
+    return answer;
+}
+
 /* A text of more than 2^50 bytes: a print that went on after the first byte that it cannot write would not end. */
 static void stress_endless(void)
 {
@@ -113,6 +158,26 @@ static void stress_endless(void)
     EXPECT(stress_print(MOST_TEXT).status == ZELMOTAR_TOO_DEEP);
 }
 
+/* The most terms that any store has room for, and one more; and the last byte of that text out of order. */
+static void stress_full(void)
+{
+    const size_t most = ZELMOTAR_MAX_WORDS / 2 - ZELMOTAR_REGISTERS;
+    zelmotar_typed answer;
+    memset(&c, 0, sizeof c);
+    c.words_n = ZELMOTAR_MAX_WORDS, c.top = ZELMOTAR_REGISTERS;
+    EXPECT(zelmotar_fresh(c.words, c.words_n).status == ZELMOTAR_DONE);
+    type_byte(&c, '7');
+    while (c.typed_n < 2 * most - 1)
+        type_byte(&c, ' '), type_byte(&c, '7');
+    answer = stress_type();
+    EXPECT(answer.status == ZELMOTAR_DONE && answer.top == ZELMOTAR_MAX_WORDS / 2);
+    type_byte(&c, ' '), type_byte(&c, '7');
+    EXPECT(stress_type().status == ZELMOTAR_NO_ROOM);
+    c.typed[c.typed_n - 1] = ')';
+    answer = stress_type();
+    EXPECT(answer.status == ZELMOTAR_NOT_TEXT && answer.value == 2 * most);
+}
+
 int main(int count_given, char **list)
 {
     long left = count_given == 2 ? atol(list[1]) : 0;
@@ -121,6 +186,7 @@ int main(int count_given, char **list)
         return 2;
     }
     stress_endless();
+    stress_full();
     for (; left > 0; left--) {
         make_case(&c);
         stress_reading();
@@ -128,7 +194,9 @@ int main(int count_given, char **list)
         stress_collect();
         stress_run();
         stress_prints();
+        (void)stress_type();
     }
     expect_all_met();
+    EXPECT(roomy > 0 && collected > 0);
     return expect_end();
 }

@@ -36,6 +36,7 @@ static void print_statuses(void)
     STATUS(NO_REGISTER);
     STATUS(TOO_DEEP);
     STATUS(SHORT_SPACE);
+    STATUS(NOT_TEXT);
 }
 
 static void print_operations(void)
@@ -76,6 +77,10 @@ static void print_layout(void)
     PLACE(zelmotar_text, status);
     PLACE(zelmotar_text, value);
     PLACE(zelmotar_text, length);
+    printf("\ntyped of %u bytes:", (unsigned)sizeof(zelmotar_typed));
+    PLACE(zelmotar_typed, status);
+    PLACE(zelmotar_typed, value);
+    PLACE(zelmotar_typed, top);
     printf("\n");
 }
 

@@ -1,0 +1,155 @@
+/* typed.h: what typing a register in should give, by a second reader and a second layer that are written apart from the
+ * library, from SCOPE 5.8.
+ *
+ * Neither is recursive. The reader judges a byte by the one to its left, the brackets that are open there and the code
+ * that it goes on with. The layer keeps the terms that have no cell yet in a list, and lays those of a bracket when it
+ * closes. Whether the store is sound, and what a collection leaves of it, is the library's own. */
+#ifndef TYPED_H
+#define TYPED_H
+
+#include <string.h>
+
+#include "zelmotar.h"
+
+static inline int is_digit(int byte) { return byte >= '0' && byte <= '9'; }
+
+/* Whether a byte may stand right of another, as far as these two say; 0 is left of the first. */
+static inline int may_follow(int left, int byte)
+{
+    switch (byte) {
+    case '(': return left == 0 || left == ' ' || left == '(';
+    case ')': return left == '(' || left == ')' || is_digit(left);
+    case ' ': return left == ')' || is_digit(left);
+    default: return is_digit(byte) && left != ')';
+    }
+}
+
+/* A text's refusal, or ZELMOTAR_DONE, and the offset that goes with it. */
+struct judgement {
+    uint32_t status;
+    size_t at;
+};
+
+static inline struct judgement judged(uint32_t status, size_t at)
+{
+    struct judgement result;
+    result.status = status, result.at = at;
+    return result;
+}
+
+static inline struct judgement judge_text(const uint8_t *text, size_t text_n)
+{
+    uint32_t code = 0; /* of the digits to the left, where there are any */
+    size_t open = 0, i;
+    int left = 0, byte;
+    for (i = 0; i < text_n; i++, left = byte) {
+        byte = text[i];
+        if (!may_follow(left, byte) || (byte == ')' && open == 0))
+            return judged(ZELMOTAR_NOT_TEXT, i);
+        if (is_digit(left) && is_digit(byte) && code == 0)
+            return judged(ZELMOTAR_NOT_TEXT, i);
+        if (is_digit(byte) && (code = 10 * (is_digit(left) ? code : 0) + (uint32_t)(byte - '0')) > ZELMOTAR_MAX_CODE)
+            return judged(ZELMOTAR_BAD_CODE, i);
+        if (byte == '(' && open++ == ZELMOTAR_MAX_DEPTH)
+            return judged(ZELMOTAR_TOO_DEEP, i);
+        open -= byte == ')';
+    }
+    return open > 0 || left == ' ' ? judged(ZELMOTAR_NOT_TEXT, text_n) : judged(ZELMOTAR_DONE, 0);
+}
+
+/* Whether a term begins at byte i of a text that is in order. */
+static inline int begins_term(const uint8_t *text, size_t i)
+{
+    return text[i] == '(' || (is_digit(text[i]) && (i == 0 || !is_digit(text[i - 1])));
+}
+
+/* The cells that a text in order needs. */
+static inline size_t need_of(const uint8_t *text, size_t text_n)
+{
+    size_t need = 0, i;
+    for (i = 0; i < text_n; i++)
+        need += (size_t)begins_term(text, i);
+    return need;
+}
+
+/* The terms that have no cell yet, as the words of the cells that they will get; those of the innermost open bracket
+ * are last. */
+struct waiting {
+    uint32_t words[ZELMOTAR_MAX_WORDS];
+    size_t n; /* in terms */
+};
+
+static inline void wait_for_cell(struct waiting *w, uint32_t first, uint32_t second)
+{
+    w->words[2 * w->n] = first, w->words[2 * w->n + 1] = second;
+    w->n++;
+}
+
+/* Lays the terms that wait, but for the first so many, at `top`, and gives a bracket or register on them. */
+static inline void lay_terms(struct waiting *w, size_t kept, uint32_t *words, size_t *top, uint32_t holder[2])
+{
+    size_t count = w->n - kept;
+    memcpy(words + 2 * *top, w->words + 2 * kept, 2 * count * sizeof *words);
+    holder[0] = count == 0 ? 0 : (uint32_t)*top;
+    holder[1] = ZELMOTAR_BRACKET + (count == 0 ? 0 : (uint32_t)(*top + count - 1));
+    *top += count, w->n = kept;
+}
+
+/* Lays a text in order, for which there is room, and sets register reg; gives the new `top`. */
+static inline size_t lay_text(uint32_t *words, size_t top, size_t reg, const uint8_t *text, size_t text_n)
+{
+    static struct waiting w;
+    size_t kept[ZELMOTAR_MAX_DEPTH], open = 0, i; /* for each open bracket, the terms that waited before it */
+    uint32_t holder[2];
+    w.n = 0;
+    for (i = 0; i < text_n; i++) {
+        if (text[i] == '(') {
+            kept[open++] = w.n;
+        } else if (text[i] == ')') {
+            lay_terms(&w, kept[--open], words, &top, holder);
+            wait_for_cell(&w, holder[0], holder[1]);
+        } else if (is_digit(text[i])) {
+            if (begins_term(text, i))
+                wait_for_cell(&w, 0, 0);
+            w.words[2 * w.n - 2] = 10 * w.words[2 * w.n - 2] + (uint32_t)(text[i] - '0');
+        }
+    }
+    lay_terms(&w, 0, words, &top, words + 2 * reg);
+    return top;
+}
+
+static inline zelmotar_typed typed_answer(uint32_t status, size_t value, size_t top)
+{
+    zelmotar_typed answer;
+    answer.status = status, answer.value = value, answer.top = top;
+    return answer;
+}
+
+/* What typing should answer, and what it should leave in the words (SCOPE 5.8). */
+static inline zelmotar_typed expected_type(uint32_t *words, size_t n, size_t top, size_t reg, const uint8_t *text,
+                                            size_t text_n)
+{
+    zelmotar_reply checked = zelmotar_check(words, n, top);
+    struct judgement judgement;
+    size_t need;
+    if (checked.status != ZELMOTAR_DONE)
+        return typed_answer(checked.status, checked.value, top);
+    if (reg >= ZELMOTAR_REGISTERS)
+        return typed_answer(ZELMOTAR_NO_REGISTER, 0, top);
+    judgement = judge_text(text, text_n);
+    if (judgement.status != ZELMOTAR_DONE)
+        return typed_answer(judgement.status, judgement.at, top);
+    need = need_of(text, text_n);
+    if (need > n / 2 - top)
+        top = zelmotar_collect(words, n, top).top;
+    if (need > n / 2 - top)
+        return typed_answer(ZELMOTAR_NO_ROOM, 0, top);
+    return typed_answer(ZELMOTAR_DONE, 0, lay_text(words, top, reg, text, text_n));
+}
+
+static inline int same_typed(zelmotar_typed one, zelmotar_typed other)
+{
+    return one.status == other.status && one.value == other.value && one.top == other.top;
+}
+
+#endif
