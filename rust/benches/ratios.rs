@@ -14,7 +14,9 @@ use std::{env, fs, hint::black_box};
 use zelmotar::{raw, Call};
 use zelmotar_model::make::{self, Runs};
 use zelmotar_model::ordinary::{self, Better, Checks, Marks, Ordinary, Usual, WithBits};
-use zelmotar_model::plain::{self, Cell, Reply, Text, FIRST_HEAP_CELL, MAX_CELLS};
+use zelmotar_model::plain::{
+    self, Cell, Reply, Text, Typed, FIRST_HEAP_CELL, MAX_CELLS, MAX_DEPTH,
+};
 use zelmotar_model::random::Random;
 
 /// Words and `top` of a store.
@@ -36,6 +38,8 @@ const LEAST_ROUNDS: usize = 5;
 const SIZES: [usize; 4] = [64, 512, 4096, 16384];
 /// Bytes of text spaces: those at which the growth of printing is shown, the last for all else.
 const SPACES: [usize; 4] = [1024, 4096, 16384, 65536];
+/// Symbols of the texts at which the growth of typing is shown.
+const SYMBOLS: [usize; 4] = [40, 400, 2000, 4000];
 /// Beyond this capacity growth leaves out what would take too long: batches of many calls, and
 /// walks where runs overlap.
 const ALL_UP_TO: usize = 4096;
@@ -44,6 +48,8 @@ const ALL_UP_TO: usize = 4096;
 const KEPT: usize = 12;
 /// Registers that the timed calls use.
 const SCRATCH: [u32; 4] = [12, 13, 14, 15];
+/// The register that texts are typed into.
+const TYPED: usize = SCRATCH[3] as usize;
 
 fn empty_store(capacity: usize) -> Lent {
     let mut words = vec![0; 2 * capacity];
@@ -221,6 +227,8 @@ enum Work<'a> {
     Run(&'a [u32]),
     /// Register 0 printed into so many bytes.
     Print(usize),
+    /// A text typed into the last scratch register.
+    Type(&'a [u8]),
 }
 
 impl<'a> Work<'a> {
@@ -233,6 +241,7 @@ impl<'a> Work<'a> {
             Work::Live => "live",
             Work::Run(_) => "run",
             Work::Print(_) => "print",
+            Work::Type(_) => "type",
         }
     }
 
@@ -267,6 +276,10 @@ impl<'a> Work<'a> {
                     seen(status as usize, length)
                 })
             }
+            Work::Type(text) => Box::new(move |words, top, _| {
+                let raw::Typed { status, value, top } = raw::type_in(words, top, TYPED, text);
+                Reply { status, value: value as u32, top }
+            }),
         }
     }
 
@@ -290,14 +303,20 @@ impl<'a> Work<'a> {
                     seen(status as usize, length)
                 })
             }
+            Work::Type(text) => Box::new(move |words, top, _| {
+                let Typed { status, value, top } = store.type_in(words, top, TYPED, text);
+                Reply { status, value: value as u32, top }
+            }),
         }
     }
 
     /// All at this work, but no two that do the same: a fresh store takes no check, and a look and a
-    /// print no marking. Without `walks` those are left out that go through every run.
+    /// print no marking, nor does a text as a rule. Without `walks` those are left out that go through every
+    /// run.
     fn contenders(self, walks: bool) -> Columns<Contender<'a>> {
         let checks = !matches!(self, Work::Fresh);
-        let marks = checks && !matches!(self, Work::Check | Work::Look | Work::Print(_));
+        let reads = matches!(self, Work::Check | Work::Look | Work::Print(_) | Work::Type(_));
+        let marks = checks && !reads;
         [
             Some(self.library()),
             walks.then(|| self.ordinary(Usual::default())),
@@ -386,14 +405,15 @@ fn micros(time: f64) -> String {
     }
 }
 
-/// Prints one row: the times, and the library's for each occupied cell, or byte of a text space, and
-/// as a multiple of the others.
+/// Prints one row: the times, and the library's for each occupied cell, or byte of a text space or of a
+/// text, and as a multiple of the others.
 fn row(work: Work, of: &str, store: &Lent, walks: bool) {
     let [library, others @ ..] = contest(store, work, work.contenders(walks));
     let library = library.expect("the library is in every row");
     let per_each = match work {
         Work::Run(_) => String::new(),
         Work::Print(bytes) => format!(" {:.2}", 1000.0 * library / bytes as f64),
+        Work::Type(text) => format!(" {:.2}", 1000.0 * library / text.len() as f64),
         _ => format!(" {:.2}", 1000.0 * library / store.1 as f64),
     };
     let others = others.map(|other| match other {
@@ -460,6 +480,53 @@ fn prints() {
     }
 }
 
+/// A text of so many symbols side by side, with codes of all lengths up to five digits.
+fn symbols(count: usize) -> Vec<u8> {
+    let codes = (0..count).map(|i| (i * i % 65_537).to_string());
+    codes.collect::<Vec<_>>().join(" ").into_bytes()
+}
+
+/// The text of register 0.
+fn text_of((words, top): &Lent) -> Vec<u8> {
+    let mut space = vec![0; SPACES[SPACES.len() - 1]];
+    let Text { status, length, .. } = plain::print(words, *top, 0, &mut space);
+    assert_eq!(status, 0, "register 0 has a text that fits");
+    space.truncate(length);
+    space
+}
+
+/// An empty store with just so many cells as a text needs.
+fn empty_for(text: &[u8]) -> Lent {
+    let (cells, _) = plain::read(text).expect("it is a text");
+    empty_store(FIRST_HEAP_CELL + cells.len())
+}
+
+/// Texts typed into a store that is empty, or that has to be collected for them.
+fn types() {
+    table(
+        "Texts typed into an empty store with just so many cells, and into one that is collected.",
+        "byte",
+    );
+    let nest = ["(".repeat(MAX_DEPTH), ")".repeat(MAX_DEPTH)].concat().into_bytes();
+    let deep = [&nest[..]; 60].join(&b' ');
+    for (name, text) in [
+        ("4000 symbols", symbols(4000)),
+        ("64 brackets inside one another", nest),
+        ("the same 60 times side by side", deep),
+        ("4000 empty brackets", vec!["()"; 4000].join(" ").into_bytes()),
+        ("day", text_of(&day())),
+        ("readings", text_of(&readings(4096))),
+    ] {
+        row(Work::Type(&text), name, &empty_for(&text), true);
+    }
+    row(Work::Type(&symbols(1000)), "1000 symbols, half dead", &half_dead(4096), true);
+    table("Symbols typed into an empty store with just so many cells.", "byte");
+    for count in SYMBOLS {
+        let text = symbols(count);
+        row(Work::Type(&text), &format!("{count} symbols"), &empty_for(&text), true);
+    }
+}
+
 /// One kind of store at growing capacities.
 fn growth(title: &str, store: impl Fn(usize) -> Lent, works: &[Work], overlaps: bool) {
     table(title, "cell");
@@ -520,6 +587,7 @@ fn main() {
     if !told("growth") {
         stores();
         prints();
+        types();
     }
     if !told("stores") {
         growths();

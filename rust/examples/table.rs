@@ -3,7 +3,7 @@
 
 use std::mem::{offset_of, size_of};
 
-use zelmotar::raw::{Reply, Span, Text};
+use zelmotar::raw::{Reply, Span, Text, Typed};
 use zelmotar::{status_text, Call, MAX_CALLS, MAX_CELLS, MAX_CODE, MAX_DEPTH, REGISTERS, STATUSES};
 
 /// A call of each operation, in order.
@@ -22,6 +22,10 @@ fn print_layout() {
     print!(" status at {}", offset_of!(Text, status));
     print!(" value at {}", offset_of!(Text, value));
     println!(" length at {}", offset_of!(Text, length));
+    print!("typed of {} bytes:", size_of::<Typed>());
+    print!(" status at {}", offset_of!(Typed, status));
+    print!(" value at {}", offset_of!(Typed, value));
+    println!(" top at {}", offset_of!(Typed, top));
 }
 
 fn main() {

@@ -3,7 +3,7 @@
 use core::error::Error;
 use core::fmt;
 
-use crate::ffi::{Reply, Text};
+use crate::ffi::{Reply, Text, Typed};
 use crate::{status_text, Call};
 
 /// The answer to one call of a batch.
@@ -145,7 +145,8 @@ impl Error for Fault {}
 
 /// Why a whole request is refused: the first that applies.
 ///
-/// After a refusal the words, the answer space and `top` are as they came. A text space is not: whatever
+/// After a refusal the words, the answer space and `top` are as they came, but for
+/// [`NoRoom`](Refusal::NoRoom), which leaves the store collected. A text space is not as it came: whatever
 /// refuses a print, all its bytes are 0 then. More requests will bring more refusals, and a damaged cell
 /// will come with the rule that it breaks: a match has a case for the rest.
 #[derive(Clone, Copy, Debug, PartialEq, Eq, Hash)]
@@ -166,16 +167,35 @@ pub enum Refusal {
     BadCalls,
     /// 5: the answer space is under two words a call.
     ShortAnswers,
-    /// 20: the register to be printed is over 15.
+    /// 13: a digit of a typed text takes a code over [`MAX_CODE`](crate::MAX_CODE).
+    BadCode {
+        /// The place of the digit in the text, from 0.
+        offset: usize,
+    },
+    /// 16: there is no room for a typed text, though the store has been collected.
+    NoRoom,
+    /// 20: the register to be printed or typed in is over 15.
     NoRegister,
-    /// 21: a bracket of the text would be one over the [`MAX_DEPTH`](crate::MAX_DEPTH) that may be open.
+    /// 21: a bracket of a printed text would be one over the [`MAX_DEPTH`](crate::MAX_DEPTH) that may be
+    /// open.
     TooDeep,
+    /// 21: a bracket of a typed text is one over the [`MAX_DEPTH`](crate::MAX_DEPTH) that may be open.
+    TooDeepAt {
+        /// The place of the bracket in the text, from 0.
+        offset: usize,
+    },
     /// 22: a byte of the text does not fit into the text space.
     ShortSpace,
+    /// 23: a typed text is that of no expression.
+    NotText {
+        /// The place of the first byte that cannot stand there, from 0; the length where the text ends too
+        /// soon.
+        offset: usize,
+    },
 }
 
 impl Refusal {
-    /// The status number of the refusal: 1 to 5, or 20 to 22 for printing alone.
+    /// The status number of the refusal: 1 to 5, 20 to 22 for printing, 13, 16, 20, 21 and 23 for typing.
     pub const fn number(self) -> u32 {
         match self {
             Refusal::BadLength => 1,
@@ -183,9 +203,12 @@ impl Refusal {
             Refusal::Damaged { .. } => 3,
             Refusal::BadCalls => 4,
             Refusal::ShortAnswers => 5,
+            Refusal::BadCode { .. } => 13,
+            Refusal::NoRoom => 16,
             Refusal::NoRegister => 20,
-            Refusal::TooDeep => 21,
+            Refusal::TooDeep | Refusal::TooDeepAt { .. } => 21,
             Refusal::ShortSpace => 22,
+            Refusal::NotText { .. } => 23,
         }
     }
 
@@ -193,6 +216,26 @@ impl Refusal {
     pub const fn cell(self) -> Option<u32> {
         match self {
             Refusal::Damaged { cell } => Some(cell),
+            _ => None,
+        }
+    }
+
+    /// The place in a typed text that is refused, if a text is: the offset of a byte, or the length where
+    /// the text ends too soon.
+    ///
+    /// ```
+    /// use zelmotar::Store;
+    ///
+    /// let refusal = Store::new(64)?.type_str(0, "65 (66 x)").unwrap_err();
+    /// assert_eq!((refusal.number(), refusal.offset()), (23, Some(7)));
+    /// assert_eq!(refusal.to_string(), "no text of an expression: byte 7");
+    /// # Ok::<(), zelmotar::Refusal>(())
+    /// ```
+    pub const fn offset(self) -> Option<usize> {
+        match self {
+            Refusal::BadCode { offset }
+            | Refusal::TooDeepAt { offset }
+            | Refusal::NotText { offset } => Some(offset),
             _ => None,
         }
     }
@@ -216,6 +259,23 @@ impl Refusal {
         Refusal::told(text.status, text.value as u32)
     }
 
+    /// The refusal in what typing answers, if it is one.
+    ///
+    /// # Panics
+    ///
+    /// As [`of`](Refusal::of).
+    pub(crate) fn of_typed(typed: Typed) -> Result<(), Refusal> {
+        let offset = typed.value;
+        match typed.status {
+            13 => Err(Refusal::BadCode { offset }),
+            16 => Err(Refusal::NoRoom),
+            21 => Err(Refusal::TooDeepAt { offset }),
+            23 => Err(Refusal::NotText { offset }),
+            // The value is a cell, and so fits a word.
+            status => Refusal::told(status, typed.value as u32),
+        }
+    }
+
     /// The refusal with a status and its value.
     fn told(status: u32, value: u32) -> Result<(), Refusal> {
         match status {
@@ -233,13 +293,15 @@ impl Refusal {
     }
 }
 
-/// The text of its number in [`STATUSES`](crate::STATUSES), and the damaged cell where there is one.
+/// The text of its number in [`STATUSES`](crate::STATUSES), and the damaged cell or the byte of the text
+/// where there is one.
 impl fmt::Display for Refusal {
     fn fmt(&self, f: &mut fmt::Formatter<'_>) -> fmt::Result {
         f.write_str(status_text(self.number()))?;
-        match self.cell() {
-            Some(cell) => write!(f, ": cell {cell}"),
-            None => Ok(()),
+        match (self.cell(), self.offset()) {
+            (Some(cell), _) => write!(f, ": cell {cell}"),
+            (_, Some(offset)) => write!(f, ": byte {offset}"),
+            _ => Ok(()),
         }
     }
 }

@@ -46,6 +46,21 @@ pub struct Text {
     pub length: usize,
 }
 
+/// What typing answers, in numbers.
+///
+/// It is laid out as `zelmotar_typed` of the C header.
+#[repr(C)]
+#[derive(Clone, Copy, Debug, PartialEq, Eq)]
+#[must_use = "the status says whether the register is set"]
+pub struct Typed {
+    /// 0 for done, else the number of the refusal.
+    pub status: u32,
+    /// The number that the status names: a cell, the offset of a byte of the text, or 0.
+    pub value: usize,
+    /// The end of the occupied cells afterwards, in cells.
+    pub top: usize,
+}
+
 extern "C" {
     fn zelmotar_check(words: *const u32, n: usize, top: usize) -> Reply;
     fn zelmotar_fresh(words: *mut u32, n: usize) -> Reply;
@@ -68,6 +83,14 @@ extern "C" {
         text: *mut u8,
         text_n: usize,
     ) -> Text;
+    fn zelmotar_type(
+        words: *mut u32,
+        n: usize,
+        top: usize,
+        reg: usize,
+        text: *const u8,
+        text_n: usize,
+    ) -> Typed;
 }
 
 /// Checks a store: 0, or refusals 1 to 3. Nothing is written, and `top` comes back as it came.
@@ -132,5 +155,19 @@ pub fn print(words: &[u32], top: usize, register: usize, text: &mut [u8]) -> Tex
     // every register and every word.
     unsafe {
         zelmotar_print(words.as_ptr(), words.len(), top, register, text.as_mut_ptr(), text.len())
+    }
+}
+
+/// Types `text` into a register; `text` is only read. In C this is `zelmotar_type`, a word that Rust keeps
+/// for itself.
+///
+/// It answers 0 with the new `top`; or refuses with 1 to 3, 20, 13, 21 or 23, and then words and `top` are
+/// as they came; or refuses with 16, and then the store is collected and `top` is that of it.
+pub fn type_in(words: &mut [u32], top: usize, register: usize, text: &[u8]) -> Typed {
+    // SAFETY: each pointer and count are those of a live slice. `words` is borrowed alone, so the two do
+    // not overlap, and the function writes u32 to it only, within its count. It takes every `top`, every
+    // register, every word and every byte.
+    unsafe {
+        zelmotar_type(words.as_mut_ptr(), words.len(), top, register, text.as_ptr(), text.len())
     }
 }

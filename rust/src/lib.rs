@@ -10,6 +10,7 @@
 //!   around an expression.
 //! - A **call** changes a register or asks something. Calls run in batches. Each has an [`Answer`].
 //! - A register is looked at where it lies, term by term, or printed as text into bytes that are lent.
+//!   Such a text can be typed into a register again.
 //! - A store that has no room for a call collects itself first. No answer shows when it did.
 //!
 //! ```
@@ -28,6 +29,8 @@
 //! assert_eq!(answers[5], Answer::Value(2));
 //! assert_eq!(store.look(2).to_string(), "(65 66) 65");
 //! assert_eq!(store.print(2, &mut [0; 80])?, "(65 66) 65");
+//! store.type_str(3, "(65 66) 65")?;
+//! assert_eq!(store.look(3), store.look(2));
 //! # Ok(())
 //! # }
 //! ```
@@ -36,8 +39,8 @@
 //!
 //! The package uses `core` alone if its feature `alloc`, which is on by default, is turned off. What goes
 //! with it: `Store::new`, `Store::run`, `Store::run_all` and `Store::print_string`, and that terms are
-//! written out and compared. A store in lent words, [`Store::call`], [`Store::run_words`] and
-//! [`Store::print`] allocate nothing.
+//! written out and compared. A store in lent words, [`Store::call`], [`Store::run_words`],
+//! [`Store::print`] and [`Store::type_in`] allocate nothing.
 //!
 //! # Linking
 //!
@@ -76,7 +79,7 @@ pub use terms::{Term, Terms};
 /// The functions of the library as they are: slices go in, numbers come out.
 ///
 /// They are what [`Store`] is made of, for those who keep words and `top` themselves. All take any
-/// words, any `top` and any register; what is out of range is refused by number.
+/// words, any `top`, any register and any text; what is out of range is refused by number.
 ///
 /// ```
 /// use zelmotar::raw;
@@ -92,9 +95,13 @@ pub use terms::{Term, Terms};
 /// let mut space = [7; 4];
 /// let text = raw::print(&words, reply.top, 0, &mut space);
 /// assert_eq!((text.status, text.length, space), (0, 2, *b"65\0\0"));
+/// let typed = raw::type_in(&mut words, reply.top, 1, b"(65)");
+/// assert_eq!((typed.status, typed.top), (0, 19));
+/// assert_eq!(words[34..38], [65, 0, 17, 0x8000_0011]);
 /// ```
 pub mod raw {
-    pub use crate::ffi::{check, collect, fresh, look, print, run, Reply, Span, Text};
+    pub use crate::ffi::{check, collect, fresh, look, print, run, type_in};
+    pub use crate::ffi::{Reply, Span, Text, Typed};
 }
 
 /// The number of registers.

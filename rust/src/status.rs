@@ -20,8 +20,9 @@ const fn row(number: u32, name: &'static str, text: &'static str) -> Status {
     Status { number, name, text }
 }
 
-/// Every status: done, the refusals of a whole request, those of one call, those of printing alone.
-pub const STATUSES: [Status; 16] = [
+/// Every status: done, the refusals of a whole request, those of one call, those of texts alone. A text
+/// that is typed in may be refused with 13 and 16 too.
+pub const STATUSES: [Status; 17] = [
     row(0, "DONE", "done"),
     row(1, "BAD_LENGTH", "no store has that capacity"),
     row(2, "BAD_TOP", "top is out of range"),
@@ -38,6 +39,7 @@ pub const STATUSES: [Status; 16] = [
     row(20, "NO_REGISTER", "no register has that number"),
     row(21, "TOO_DEEP", "brackets are nested too deep"),
     row(22, "SHORT_SPACE", "the space is too short"),
+    row(23, "NOT_TEXT", "no text of an expression"),
 ];
 
 /// What a status says; `no such status` of any other number.

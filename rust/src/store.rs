@@ -431,6 +431,82 @@ impl<W: AsRef<[u32]> + AsMut<[u32]>> Store<W> {
             }
         }
     }
+
+    /// Types a text into a register: the register becomes the expression of which this is the text, laid in
+    /// new cells, one a term. It allocates nothing.
+    ///
+    /// Only a text as [`print`](Store::print) writes it is read: codes in decimal without leading zeros,
+    /// one blank between two terms and none elsewhere, and at most [`MAX_DEPTH`](crate::MAX_DEPTH) brackets
+    /// open at one place. A text of no bytes makes the register empty. The store collects itself where the
+    /// new cells would not fit otherwise, and only there; what the register held is kept until it is set,
+    /// and counts.
+    ///
+    /// # Errors
+    ///
+    /// As for [`check`](Store::check), then [`Refusal::NoRegister`] if the register is over 15. Else what
+    /// comes first in the text, with its offset: [`Refusal::NotText`] at a byte that cannot stand there or
+    /// where the text ends too soon, [`Refusal::BadCode`] at a digit that takes a code over
+    /// [`MAX_CODE`](crate::MAX_CODE), [`Refusal::TooDeepAt`] at a bracket with which too many would be open.
+    /// The store is then as it was. Last [`Refusal::NoRoom`], and then the store has been collected and
+    /// every register has its expression.
+    ///
+    /// # Panics
+    ///
+    /// As every request: see [`Store`].
+    ///
+    /// ```
+    /// use zelmotar::{Refusal, Store};
+    ///
+    /// # fn main() -> Result<(), Refusal> {
+    /// let mut words = [0; 42];
+    /// let mut store = Store::fresh(&mut words[..])?;
+    /// store.type_in(1, b"65 (66 67) ()")?;
+    /// assert_eq!(store.top(), 21);
+    /// assert_eq!(store.print(1, &mut [0; 13])?, "65 (66 67) ()");
+    ///
+    /// assert_eq!(store.type_in(1, b"65  66"), Err(Refusal::NotText { offset: 3 }));
+    /// assert_eq!(store.type_in(1, b"268435456"), Err(Refusal::BadCode { offset: 8 }));
+    /// assert_eq!(store.type_in(2, b"65"), Err(Refusal::NoRoom));
+    /// assert_eq!(store.type_in(16, b"65"), Err(Refusal::NoRegister));
+    /// assert_eq!(store.print(1, &mut [0; 13])?, "65 (66 67) ()");
+    /// # Ok(())
+    /// # }
+    /// ```
+    pub fn type_in(&mut self, register: usize, text: &[u8]) -> Result<(), Refusal> {
+        let typed = ffi::type_in(self.words.as_mut(), self.top, register, text);
+        self.top = typed.top;
+        Refusal::of_typed(typed)
+    }
+
+    /// Types the bytes of a string into a register.
+    ///
+    /// # Errors
+    ///
+    /// As for [`type_in`](Store::type_in). An offset counts bytes; all before it are ASCII, so the string can
+    /// be cut there.
+    ///
+    /// # Panics
+    ///
+    /// As every request: see [`Store`].
+    ///
+    /// ```
+    /// use zelmotar::{Refusal, Store};
+    ///
+    /// # fn main() -> Result<(), Refusal> {
+    /// let mut store = Store::new(64)?;
+    /// store.type_str(0, "1 (2 (3) 4) 5 ()")?;
+    /// assert_eq!(store.look(0).to_string(), "1 (2 (3) 4) 5 ()");
+    ///
+    /// // Another store gets a copy, as text.
+    /// let mut other = Store::new(24)?;
+    /// other.type_str(3, &store.print_string(0, 100)?)?;
+    /// assert_eq!(other.look(3), store.look(0));
+    /// # Ok(())
+    /// # }
+    /// ```
+    pub fn type_str(&mut self, register: usize, text: &str) -> Result<(), Refusal> {
+        self.type_in(register, text.as_bytes())
+    }
 }
 
 /// The answer to `call` in its two words.

@@ -43,6 +43,21 @@ fn a_text_in_an_array() {
 }
 
 #[test]
+fn a_text_typed_into_an_array() {
+    let mut store = Store::fresh([0; 40]).expect("the length is allowed");
+    assert_eq!(store.type_in(1, b"(65) ()"), Ok(()));
+    assert_eq!(store.top(), 19);
+    assert_eq!(store.print(1, &mut [7; 7]), Ok("(65) ()"));
+    assert_eq!(store.type_in(0, b"(65"), Err(Refusal::NotText { offset: 3 }));
+    assert_eq!(store.type_in(0, b"268435456"), Err(Refusal::BadCode { offset: 8 }));
+    assert_eq!(store.type_in(0, &[b'('; 65]), Err(Refusal::TooDeepAt { offset: 64 }));
+    assert_eq!(store.type_str(16, "65"), Err(Refusal::NoRegister));
+    assert_eq!(store.type_str(0, "65 66"), Err(Refusal::NoRoom));
+    assert_eq!(store.type_str(0, "65"), Ok(()));
+    assert_eq!((store.top(), store.print(0, &mut [7; 2])), (20, Ok("65")));
+}
+
+#[test]
 fn a_static_store_needs_no_other_type() {
     // Without an allocator `Store` alone means one whose words are lent for good.
     #[cfg(not(feature = "alloc"))]
@@ -69,7 +84,8 @@ fn what_is_said_needs_no_allocator() {
     assert_eq!(format!("{:?}", store.look(0)), "Terms((()))");
 }
 
-/// A reply, a span and a text whose fields all differ, each field read by its name and by its place.
+/// A reply, a span, a text and a typed text whose fields differ, each field read by its name and by its
+/// place.
 #[test]
 fn each_field_of_an_answer_is_where_c_has_it() {
     assert_eq!(core::mem::offset_of!(raw::Reply, status), 0);
@@ -83,6 +99,10 @@ fn each_field_of_an_answer_is_where_c_has_it() {
     assert_eq!(core::mem::offset_of!(raw::Text, value), size_of::<usize>());
     assert_eq!(core::mem::offset_of!(raw::Text, length), 2 * size_of::<usize>());
     assert_eq!(size_of::<raw::Text>(), 3 * size_of::<usize>());
+    assert_eq!(core::mem::offset_of!(raw::Typed, status), 0);
+    assert_eq!(core::mem::offset_of!(raw::Typed, value), size_of::<usize>());
+    assert_eq!(core::mem::offset_of!(raw::Typed, top), 2 * size_of::<usize>());
+    assert_eq!(size_of::<raw::Typed>(), 3 * size_of::<usize>());
 
     // Register 0 on cells 17 and 18, and a bracket around itself in cell 19.
     let mut words = [0; 48];
@@ -92,6 +112,8 @@ fn each_field_of_an_answer_is_where_c_has_it() {
     assert_eq!((span.from, span.to), (34, 38));
     let text = raw::print(&words, 21, 0, &mut [7; 9]);
     assert_eq!((text.status, text.value, text.length), (0, 0, 3));
+    let typed = raw::type_in(&mut words, 21, 0, b"65 (66 x");
+    assert_eq!((typed.status, typed.value, typed.top), (23, 7, 21));
     words[38..40].copy_from_slice(&[19, 0x8000_0000 + 19]);
     for reply in [raw::check(&words, 21), raw::collect(&mut words, 21)] {
         assert_eq!((reply.status, reply.value, reply.top), (3, 19, 21));
@@ -100,8 +122,12 @@ fn each_field_of_an_answer_is_where_c_has_it() {
     assert_eq!((reply.status, reply.value, reply.top), (3, 19, 21));
     let text = raw::print(&words, 21, 0, &mut [7; 9]);
     assert_eq!((text.status, text.value, text.length), (3, 19, 0));
+    let typed = raw::type_in(&mut words, 21, 0, b"65");
+    assert_eq!((typed.status, typed.value, typed.top), (3, 19, 21));
     // Every byte of a `top` crosses, both ways.
     let top = usize::MAX / 255 * 0xa5 - 1;
     let reply = raw::check(&words, top);
     assert_eq!((reply.status, reply.value, reply.top), (2, 0, top));
+    let typed = raw::type_in(&mut words, top, 0, b"65");
+    assert_eq!((typed.status, typed.value, typed.top), (2, 0, top));
 }

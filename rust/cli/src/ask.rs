@@ -1,4 +1,4 @@
-//! `ask`: a prompt to type calls at.
+//! `ask`: a prompt to type calls and texts at.
 
 use std::ffi::OsString;
 use std::io::{self, BufRead, IsTerminal, Read, Write};
@@ -9,7 +9,7 @@ use crate::args::{self, Args, Takes};
 use crate::call::{self, Call};
 use crate::input;
 use crate::outcome::{Ended, Outcome, Stop};
-use crate::{print, run, show, steps};
+use crate::{print, run, show, steps, typing};
 
 /// The capacity where none is named.
 const CAPACITY: u32 = 64;
@@ -28,7 +28,8 @@ const TAKES: Takes = Takes {
 const HELP: &str = "\
 A call:  CLEAR d   COPY d a   SYMBOL d code   WRAP d a   JOIN d a b   HEAD d a   REST d a   OPEN d a
          LENGTH a   FIRST a   LIVE   COLLECT   CALL o d a b
-Or:      SHOW the cells, REGISTERS, PRINT a, HELP, QUIT
+Or:      SHOW the cells, REGISTERS, PRINT a, TYPE d text, HELP, QUIT
+The text of TYPE is the rest of the line as it stands, as 65 (66 67) ().
 ";
 
 /// What a typed line comes to.
@@ -62,7 +63,7 @@ pub fn command(words: &[OsString], out: &mut dyn Write) -> Ended {
     Ok(if any_refused && args.has("--strict") { Outcome::CallRefused } else { Outcome::Done })
 }
 
-/// Answers line after line until there is none, or QUIT. Gives whether a call was refused.
+/// Answers line after line until there is none, or QUIT. Gives whether a call or a text was refused.
 pub fn converse(
     store: &mut Store,
     mut lines: impl BufRead,
@@ -122,6 +123,7 @@ fn answer(store: &mut Store, line: &[u8], out: &mut dyn Write) -> Result<Typed, 
         (b"SHOW", []) => show::cells(store, out)?,
         (b"REGISTERS", []) => run::registers(store, out)?,
         (b"PRINT", numbers) => typed_print(store, numbers, out)?,
+        (b"TYPE", words) => return typed_text(store, words, line, out),
         (b"HELP", []) => out.write_all(HELP.as_bytes())?,
         (b"QUIT", []) => return Ok(Typed::Quit),
         _ => return typed_call(store, name, numbers, out),
@@ -142,6 +144,32 @@ fn typed_print(store: &Store, numbers: &[&[u8]], out: &mut dyn Write) -> Result<
         }
     }
     Ok(())
+}
+
+/// Types the rest of a line into a register, or says why it is not done.
+fn typed_text(
+    store: &mut Store,
+    words: &[&[u8]],
+    line: &[u8],
+    out: &mut dyn Write,
+) -> Result<Typed, Stop> {
+    let wanted = "TYPE takes a register and a text".to_string();
+    let register = match words.first().ok_or(wanted).and_then(|word| call::number(word)) {
+        Ok(register) => register as usize,
+        Err(why) => {
+            writeln!(out, "{why}; HELP says what can be typed")?;
+            return Ok(Typed::Nothing);
+        }
+    };
+    let text = input::behind(line, 2);
+    let (answer, freed) = steps::type_in(store, register, text);
+    let said = match answer {
+        Ok(()) => status_text(0).to_string(),
+        Err(refusal) => typing::sentence(store, register, text, refusal),
+    };
+    let set = answer.is_ok().then_some(register);
+    writeln!(out, "{said}{}", run::left(store, set, freed))?;
+    Ok(Typed::Answered { refused: answer.is_err() })
 }
 
 /// Runs a typed call, or says why there is none.
@@ -213,6 +241,52 @@ mod tests {
             ]
         );
         assert!(!refused);
+    }
+
+    #[test]
+    fn a_text_is_typed_in() {
+        let typed = b"TYPE 0 65 (66)\r\ntype 1 (65  66)\nTYPE 1 1 2\nTYPE 0\nTYPE 1 ()\nPRINT 1\n";
+        let (text, refused) = said(typed, false);
+        assert_eq!(
+            text.lines().collect::<Vec<_>>(),
+            [
+                "done; register 0: 65 (66)",
+                "23 at byte 4: no text of an expression: no space can stand here",
+                "no room: the text needs 2 new cells, and 1 can be had; collected, and no cell was dead",
+                "done; register 0: empty",
+                "done; register 1: ()",
+                "()",
+            ]
+        );
+        assert!(refused);
+    }
+
+    #[test]
+    fn a_text_for_no_register_is_said_to_be_none() {
+        let (text, refused) = said(b"TYPE 16 1\nTYPE 0 7 # 8\nTYPE 1 1 1 1 1\nTYPE 1\n", false);
+        assert_eq!(
+            text.lines().collect::<Vec<_>>(),
+            [
+                "no register has that number: 16, and they are 0 to 15",
+                "23 at byte 2: no text of an expression: `#` cannot stand here",
+                "done; register 1: 1 1 1 1",
+                "done; register 1: empty",
+            ]
+        );
+        assert!(refused);
+        let (text, refused) = said(b"TYPE\nTYPE x 1\nTYPE (1)\n", false);
+        assert_eq!(text.matches("; HELP says what can be typed\n").count(), 3, "{text}");
+        assert!(text.starts_with("TYPE takes a register and a text; "), "{text}");
+        assert!(!refused);
+    }
+
+    #[test]
+    fn a_text_that_makes_the_store_collect_says_so() {
+        let (text, _) = said(b"TYPE 0 1 2\nTYPE 0\nTYPE 0 3 4 5\n", false);
+        assert!(
+            text.ends_with("done; register 0: 3 4 5; collected, and 2 dead cells went\n"),
+            "{text}"
+        );
     }
 
     #[test]

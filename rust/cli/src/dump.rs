@@ -6,6 +6,7 @@
 
 use std::ffi::OsStr;
 use std::fmt::Write;
+use std::fs;
 
 use zelmotar::{Store, REGISTERS};
 
@@ -92,6 +93,16 @@ fn number(word: &[u8]) -> Result<u32, String> {
     hex.filter(|hex| hex.bytes().all(|byte| byte.is_ascii_hexdigit()))
         .and_then(|hex| u32::from_str_radix(hex, 16).ok())
         .ok_or_else(|| format!("{} is no word of 32 bits", quoted(word)))
+}
+
+/// Writes a store to a file, as text.
+///
+/// # Errors
+///
+/// [`Stop::Usage`] if the file cannot be written.
+pub fn write(name: &OsStr, store: &Store) -> Result<(), Stop> {
+    fs::write(name, written(store))
+        .map_err(|error| Stop::Usage(format!("cannot write {}: {error}", name.to_string_lossy())))
 }
 
 /// A store as a text, a cell a line.

@@ -72,6 +72,19 @@ pub fn words(line: &[u8]) -> Vec<&[u8]> {
     said.split(u8::is_ascii_whitespace).filter(|word| !word.is_empty()).collect()
 }
 
+/// What is behind the first `count` words of a line and one blank after them, byte for byte up to the line's
+/// end. A comment is none here.
+pub fn behind(line: &[u8], count: usize) -> &[u8] {
+    let line = line.strip_suffix(b"\n").unwrap_or(line);
+    let mut rest = line.strip_suffix(b"\r").unwrap_or(line);
+    for _ in 0..count {
+        rest = rest.trim_ascii_start();
+        let end = rest.iter().position(u8::is_ascii_whitespace).unwrap_or(rest.len());
+        rest = &rest[end..];
+    }
+    rest.get(1..).unwrap_or(rest)
+}
+
 /// A word in quotes for a sentence: cut if it is long, and nothing in it that moves a terminal.
 pub fn quoted(word: &[u8]) -> String {
     const MOST: usize = 40;
@@ -104,6 +117,15 @@ mod tests {
         assert_eq!(all[0], (1, vec![&b"A"[..], b"1"]));
         assert_eq!(all[1], (2, vec![]));
         assert_eq!(all[3], (4, vec![&b"C"[..]]));
+    }
+
+    #[test]
+    fn what_is_behind_some_words_stands_as_it_is() {
+        assert_eq!(behind(b" TYPE  0 1  (2) \r\n", 2), b"1  (2) ");
+        assert_eq!(behind(b"TYPE 0  1 # 2", 2), b" 1 # 2");
+        assert_eq!(behind(b"TYPE\t0\t", 2), b"");
+        assert_eq!(behind(b"TYPE 0\n", 2), b"");
+        assert_eq!(behind(b"TYPE", 2), b"");
     }
 
     #[test]

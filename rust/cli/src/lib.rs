@@ -6,7 +6,7 @@
 //! - [`args`], [`input`], [`outcome`]: arguments, files, and how a command ends
 //! - [`call`], [`batch`]: calls and batches as they are written; [`steps`] runs them one by one
 //! - [`dump`]: a store in a file; [`cells`]: what the words of a cell say
-//! - [`run`], [`ask`], [`show`], [`mod@print`], [`check`], [`draw`]: a command each
+//! - [`run`], [`ask`], [`show`], [`mod@print`], [`typing`], [`check`], [`draw`]: a command each
 //! - [`svg`], [`plots`]: drawings, and those of docs/BENCHMARKS.md
 
 #![warn(missing_docs)]
@@ -29,3 +29,4 @@ pub mod run;
 pub mod show;
 pub mod steps;
 pub mod svg;
+pub mod typing;

@@ -7,7 +7,7 @@ use std::io::{self, BufWriter, Write};
 use std::process::ExitCode;
 
 use zelmotar_cli::outcome::{Ended, Outcome, Stop};
-use zelmotar_cli::{ask, check, draw, print, run, show};
+use zelmotar_cli::{ask, check, draw, print, run, show, typing};
 
 const HELP: &str = include_str!("help.txt");
 
@@ -19,7 +19,8 @@ fn command(words: &[OsString], out: &mut dyn Write) -> Ended {
     }
     let Some((name, rest)) = words.split_first() else {
         return Err(Stop::Usage(
-            "which command? run, ask, show, print, draw or check (zelmotar-cli --help)".into(),
+            "which command? run, ask, show, print, type, draw or check (zelmotar-cli --help)"
+                .into(),
         ));
     };
     match name.to_str() {
@@ -27,6 +28,7 @@ fn command(words: &[OsString], out: &mut dyn Write) -> Ended {
         Some("ask") => ask::command(rest, out),
         Some("show") => show::command(rest, out),
         Some("print") => print::command(rest, out),
+        Some("type") => typing::command(rest, out),
         Some("draw") => draw::command(rest, out),
         Some("check") => check::command(rest, out),
         _ => {

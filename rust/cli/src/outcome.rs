@@ -7,7 +7,7 @@ use std::io;
 pub enum Outcome {
     /// Done: 0.
     Done,
-    /// A call was refused, and `--strict` asked to be told: 1.
+    /// A call or a text typed at the prompt was refused, and `--strict` asked to be told: 1.
     CallRefused,
     /// The batch or the store is refused, and what was printed says so: 3.
     Refused,

@@ -1,7 +1,6 @@
 //! `run`: a batch, each call beside its answer.
 
 use std::ffi::OsString;
-use std::fs;
 use std::io::Write;
 
 use zelmotar::{status_text, Store, REGISTERS};
@@ -58,10 +57,7 @@ pub fn command(words: &[OsString], out: &mut dyn Write) -> Ended {
         beside(&mut store, &batch.calls, out)?
     };
     if let Some(name) = args.value("--dump") {
-        let text = dump::written(&store);
-        fs::write(name, text).map_err(|error| {
-            Stop::Usage(format!("cannot write {}: {error}", name.to_string_lossy()))
-        })?;
+        dump::write(name, &store)?;
     }
     Ok(if any_refused && args.has("--strict") { Outcome::CallRefused } else { Outcome::Done })
 }
@@ -122,18 +118,23 @@ fn beside(store: &mut Store, calls: &[Call], out: &mut dyn Write) -> Result<bool
 /// the store was collected for it.
 pub fn line(store: &Store, call: &Call, step: Step) -> String {
     let Step { status, value, freed } = step;
-    let mut line = format!("{call:<24} {status:>2} {value:>10}   {}", status_text(status));
-    if let (0, Some(register)) = (status, call.sets()) {
-        line +=
-            &format!("; register {register}: {}", expression::register(store, register, BESIDE));
+    let head = format!("{call:<24} {status:>2} {value:>10}   {}", status_text(status));
+    let set = call.sets().filter(|_| status == 0);
+    head + &left(store, set, freed)
+}
+
+/// What is said after an answer: the register that was set, and how many dead cells went if the store was
+/// collected.
+pub fn left(store: &Store, set: Option<usize>, freed: Option<usize>) -> String {
+    let set = set.map_or(String::new(), |register| {
+        format!("; register {register}: {}", expression::register(store, register, BESIDE))
+    });
+    set + &match freed {
+        None => String::new(),
+        Some(0) => "; collected, and no cell was dead".to_string(),
+        Some(1) => "; collected, and 1 dead cell went".to_string(),
+        Some(cells) => format!("; collected, and {cells} dead cells went"),
     }
-    match freed {
-        None => {}
-        Some(0) => line += "; collected, and no cell was dead",
-        Some(1) => line += "; collected, and 1 dead cell went",
-        Some(cells) => line += &format!("; collected, and {cells} dead cells went"),
-    }
-    line
 }
 
 /// What the registers hold: a line for each that is not empty, and one for the rest.

@@ -1,9 +1,9 @@
-//! Calls run one by one, so that what each did to the store can be told.
+//! Calls run and texts typed in one by one, so that what each did to the store can be told.
 //!
 //! A store that is run call by call answers as it does when it is lent the whole list, which is
 //! proved. So nothing is lost by looking in between.
 
-use zelmotar::{raw, Store};
+use zelmotar::{raw, Refusal, Store};
 
 use crate::call::Call;
 
@@ -55,6 +55,32 @@ pub fn step(store: &mut Store, call: &Call) -> Step {
     let laid = if status == 0 { need } else { 0 };
     let freed = (asked || forced).then(|| before + laid - store.top());
     Step { status, value, freed }
+}
+
+/// Types a text into a register: what the library answers, and how many dead cells went if the store was
+/// collected for it.
+///
+/// A text collects exactly where nothing but room may refuse it and it needs more cells than are free above
+/// `top`.
+pub fn type_in(
+    store: &mut Store,
+    register: usize,
+    text: &[u8],
+) -> (Result<(), Refusal>, Option<usize>) {
+    let (before, need) = (store.top(), terms(text));
+    let answer = store.type_in(register, text);
+    let (done, full) = (answer.is_ok(), answer == Err(Refusal::NoRoom));
+    let laid = if done { need } else { 0 };
+    let forced = (done || full) && before + need > store.capacity();
+    (answer, forced.then(|| before + laid - store.top()))
+}
+
+/// The number of terms of an expression's text on all levels, and so of the new cells that it needs: one for
+/// each bracket that opens, and one wherever digits begin.
+pub fn terms(text: &[u8]) -> usize {
+    let brackets = text.iter().filter(|&&byte| byte == b'(').count();
+    let codes = text.chunk_by(|one, next| one.is_ascii_digit() == next.is_ascii_digit());
+    brackets + codes.filter(|part| part[0].is_ascii_digit()).count()
 }
 
 /// How many new cells a call needs if nothing else is wrong with it.
@@ -128,6 +154,49 @@ mod tests {
             }
         }
         assert!(seen.iter().all(|&count| count > 100), "{seen:?}");
+    }
+
+    #[test]
+    fn what_is_said_of_collecting_for_a_text_is_what_the_words_show() {
+        let mut random = Random::of("texts in steps");
+        let mut seen = [0; 4];
+        for _ in 0..20_000 {
+            let (text, capacity) = (make::text(&mut random), make::capacity(&mut random));
+            let (mut words, top) = make::sound(&mut random, capacity, make::Runs::Any);
+            make::crowd(&mut random, &mut words, top, terms(&text));
+            let before = Store::from_parts(words, top);
+            let mut after = before.clone();
+            let (answer, told) = type_in(&mut after, 0, &text);
+            if answer.is_ok() {
+                assert_eq!(after.top() + told.unwrap_or(0), top + terms(&text));
+            }
+            let (packed, dead) = collected(&before);
+            match (told, answer) {
+                (None, _) => {
+                    assert_eq!(before.words()[32..2 * top], after.words()[32..2 * top]);
+                    seen[0] += 1;
+                }
+                (Some(freed), Err(Refusal::NoRoom)) => {
+                    assert_eq!((&packed, dead), (&after, freed));
+                    seen[1] += 1;
+                }
+                (Some(freed), answer) => {
+                    let live = 2 * packed.top();
+                    assert_eq!(packed.words()[32..live], after.words()[32..live]);
+                    assert_eq!((answer, dead), (Ok(()), freed));
+                    seen[if freed > 0 { 2 } else { 3 }] += 1;
+                }
+            }
+        }
+        // Where no cell is dead a collection makes no room, so the last never comes.
+        assert!(seen[..3].iter().all(|&count| count > 500) && seen[3] == 0, "{seen:?}");
+    }
+
+    #[test]
+    fn the_terms_of_a_text_are_counted_on_all_levels() {
+        for (text, count) in [("", 0), ("7", 1), ("()", 1), ("1 (2 (3) 4) 5 ()", 8), ("10 20", 2)] {
+            assert_eq!(terms(text.as_bytes()), count, "{text}");
+        }
     }
 
     #[test]

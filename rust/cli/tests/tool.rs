@@ -142,6 +142,7 @@ fn names_and_bytes_of_all_kinds() {
         ends(&tool(&[&command, &garbage]), 3, "garbage:1: ");
     }
     ends(&tool(&[&"print", &garbage, &"0"]), 3, "garbage:1: ");
+    ends(&tool(&[&"type", &garbage, &"0", &"1"]), 3, "garbage:1: ");
     ends(&tool(&[&"check", &"--top", &"16", &garbage]), 3, "No store has 17500 words");
     ends(
         &tool(&[&"run", &env!("CARGO_BIN_EXE_zelmotar-cli")]),
@@ -174,8 +175,10 @@ fn a_damaged_cell_is_named_with_its_words() {
     ends(&tool(&[&"draw", &damaged]), 3, "Cell 21");
     ends(&tool(&[&"print", &damaged, &"0"]), 3, sentence);
     ends(&tool(&[&"print", &damaged, &"16"]), 3, sentence);
+    ends(&tool(&[&"type", &damaged, &"16", &"x"]), 3, sentence);
     assert!(tool(&[&"draw", &damaged]).stdout.is_empty());
     assert!(tool(&[&"print", &damaged, &"0"]).stdout.is_empty());
+    assert!(tool(&[&"type", &damaged, &"0", &"1"]).stdout.is_empty());
     let top = made("top.dump", sound.replace("TOP 23", "TOP 25"));
     ends(&tool(&[&"check", &top]), 3, "top is 25, and must be 16 to 24");
     let short = made("short.dump", "TOP 16\n0 0 0\n");
@@ -237,6 +240,52 @@ fn a_register_of_a_dump_is_printed() {
 }
 
 #[test]
+fn a_text_is_typed_into_a_register_of_a_dump() {
+    let p2 = tracked("examples/p2.dump");
+    let typed = tool(&[&"type", &p2, &"1", &"5"]);
+    ends(&typed, 0, "# 24 cells\nTOP 24\n");
+    assert_eq!(fed(&typed.stdout, &[&"print", &"-", &"1"]).stdout, b"5\n");
+    assert_eq!(fed(&typed.stdout, &[&"print", &"-", &"0"]).stdout, b"(66 67 68) (65 66 67)\n");
+    // Register 0 with its own text: two brackets hold three symbols each, and nothing is shared then.
+    let empty = tool(&[&"type", &p2, &"0", &""]);
+    ends(&empty, 0, "TOP 23\n");
+    let text = "(66 67 68) (65 66 67)";
+    let again = fed(&empty.stdout, &[&"type", &"-", &"0", &text]);
+    ends(&again, 0, "TOP 24\n");
+    assert_eq!(fed(&again.stdout, &[&"print", &"-", &"0"]).stdout, format!("{text}\n").as_bytes());
+
+    let left = made("typed.dump", fs::read(&p2).unwrap());
+    let quiet = tool(&[&"type", &left, &"1", &"5", &"--dump", &left]);
+    ends(&quiet, 0, "");
+    assert!(quiet.stdout.is_empty());
+    assert_eq!(fs::read(&left).unwrap(), typed.stdout);
+    ends(&tool(&[&"type", &p2, &"1", &"5", &"--dump", &"/no/such/folder/x"]), 2, "cannot write");
+}
+
+#[test]
+fn a_text_that_is_refused_leaves_no_dump() {
+    let p2 = tracked("examples/p2.dump");
+    for (register, text, sentence) in [
+        ("0", "5 x", "23 at byte 2: no text of an expression: `x` cannot stand here\n"),
+        ("0", "268435456", "13 at byte 8: the code is too large: it is over 268435455\n"),
+        ("0", "1 2 3", "no room: the text needs 3 new cells, and 2 can be had\n"),
+        ("16", "x", "no register has that number: 16, and they are 0 to 15\n"),
+    ] {
+        let output = tool(&[&"type", &p2, &register, &text]);
+        ends(&output, 3, sentence);
+        assert!(output.stdout.is_empty());
+    }
+    let kept = made("kept.dump", fs::read(&p2).unwrap());
+    ends(&tool(&[&"type", &kept, &"0", &"1 2 3", &"--dump", &kept]), 3, "no room");
+    assert_eq!(fs::read(&kept).unwrap(), fs::read(&p2).unwrap());
+    let names = "type takes a dump file, a register and a text, and here are";
+    ends(&tool(&[&"type", &p2, &"0"]), 2, &format!("{names} 2"));
+    ends(&tool(&[&"type", &p2, &"0", &"1", &"2"]), 2, &format!("{names} 4"));
+    ends(&tool(&[&"type", &p2, &"first", &"1"]), 2, "register: `first` is no number");
+    ends(&tool(&[&"type", &"no-such.dump", &"0", &"1"]), 2, "no such file");
+}
+
+#[test]
 fn a_text_too_deep_or_too_long_is_refused() {
     let dump = made("deep.dump", "");
     let batch = format!("CAPACITY 200\n{}", "WRAP 0 0\n".repeat(65));
@@ -295,7 +344,9 @@ fn lines_typed_at_the_prompt_are_answered() {
     ends(&asked, 0, "no call is named `SWAP`; HELP says what can be typed\n");
     ends(&asked, 0, "20 cells, top 17, 1 of 1 occupied heap cells live\n");
     ends(&fed(b"WRAP 3 0\nprint 3\n", &[&"ask"]), 0, "register 3: ()\n()\n");
+    ends(&fed(b"type 3 (7) 8\nprint 3\n", &[&"ask"]), 0, "done; register 3: (7) 8\n(7) 8\n");
     ends(&fed(b"HEAD 1 2\n", &[&"ask", &"--strict"]), 1, "the register is empty");
+    ends(&fed(b"TYPE 0 01\n", &[&"ask", &"--strict"]), 1, "23 at byte 1: ");
     ends(&fed(b"LIVE\n", &[&"ask", &"15"]), 3, "refused 1 0");
     ends(&fed(b"", &[&"ask"]), 0, "");
 }

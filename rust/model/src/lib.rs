@@ -5,10 +5,11 @@
 //!
 //! - [`plain`]: the store in words, with an ordinary collector, written to be compared with the
 //!   rules by eye. It says what every word must be.
-//! - [`trees`]: expressions with no addresses. It says what every call means, and what is printed.
+//! - [`trees`]: expressions with no addresses. It says what every call means, what is printed, and what a
+//!   text means that is typed in.
 //! - [`ordinary`]: the same store written for speed, the measure of the benchmarks.
 //! - [`random`]: repeatable random numbers.
-//! - [`make`]: random stores, damage, call lists and text spaces.
+//! - [`make`]: random stores, damage, call lists, text spaces and texts.
 //!
 //! The tests of this package hold [`plain`], [`trees`] and [`ordinary`] against each other and need
 //! no library.

@@ -1,11 +1,12 @@
-//! Random stores, damage, call lists and text spaces.
+//! Random stores, damage, call lists, text spaces and texts.
 //!
 //! Stores are made cell by cell and not by calls, so that they have overlapping runs, dead cells
 //! between live ones and brackets that no call would lay. Small capacities are the most frequent:
 //! there a few calls fill the store, and room runs out. Stores for printing nest brackets about as
-//! deep as may be, or share so much that their text could never be written out.
+//! deep as may be, or share so much that their text could never be written out. Texts for typing are
+//! those of an expression, then spoilt or cut; and stores for them have about as much room as they need.
 
-use crate::plain::{self, put, Cell, BRACKET, FIRST_HEAP_CELL, MAX_CODE, MAX_DEPTH};
+use crate::plain::{self, put, Cell, BRACKET, FIRST_HEAP_CELL, MAX_CELLS, MAX_CODE, MAX_DEPTH};
 use crate::random::Random;
 
 /// How long the runs of a random store are, and where they lie.
@@ -297,4 +298,142 @@ pub fn text_space(random: &mut Random, end: usize) -> Vec<u8> {
         _ => end,
     };
     (0..length).map(|_| random.word() as u8).collect()
+}
+
+/// The digits of a code. One in `wild` is too large, and none where that is 0.
+fn put_code(random: &mut Random, text: &mut Vec<u8>, wild: usize) {
+    /// Codes over the limit: by one, by a digit, and beyond what a word holds.
+    const TOO_LARGE: [&str; 10] = [
+        "268435456",
+        "268435460",
+        "268435500",
+        "300000000",
+        "999999999",
+        "2684354550",
+        "4294967295",
+        "4294967297",
+        "9999999999",
+        "18446744073709551617",
+    ];
+    let digits = match (wild > 0 && random.one_in(wild), random.below(2)) {
+        (false, _) => telling_code(random).to_string(),
+        (true, 0) => random.pick(&TOO_LARGE).to_string(),
+        (true, _) => {
+            let over = random.next() % 10u64.pow(random.below(11) as u32);
+            (u64::from(MAX_CODE) + 1 + over).to_string()
+        }
+    };
+    text.extend(digits.bytes());
+}
+
+/// Terms with one space between each two, `left` at most on all levels, and brackets at most `depth` deep.
+fn put_terms(random: &mut Random, text: &mut Vec<u8>, left: &mut usize, depth: usize, wild: usize) {
+    let least = if random.one_in(4) { 0 } else { 1 };
+    for i in 0..random.within(least..=7).min(*left) {
+        if *left == 0 {
+            return;
+        }
+        *left -= 1;
+        text.extend((i > 0).then_some(b' '));
+        if depth > 0 && random.one_in(3) {
+            text.push(b'(');
+            put_terms(random, text, left, depth - 1, wild);
+            text.push(b')');
+        } else {
+            put_code(random, text, wild);
+        }
+    }
+}
+
+/// So many brackets inside one another, with other terms before and after each of them, at most so many
+/// as `most` says.
+fn put_nest(random: &mut Random, text: &mut Vec<u8>, brackets: usize, most: usize, wild: usize) {
+    fn beside(random: &mut Random, text: &mut Vec<u8>, wild: usize) {
+        match random.one_in(5) {
+            true => text.extend(b"()"),
+            false => put_code(random, text, wild),
+        }
+    }
+    for _ in 0..brackets {
+        for _ in 0..random.below(most + 1) {
+            beside(random, text, wild);
+            text.push(b' ');
+        }
+        text.push(b'(');
+    }
+    for _ in 0..brackets {
+        text.push(b')');
+        for _ in 0..random.below(most + 1) {
+            text.push(b' ');
+            beside(random, text, wild);
+        }
+    }
+}
+
+/// A text of an expression, of few terms as a rule. Now and then its brackets are too deep, or nearly, or a
+/// code is too large.
+pub fn text(random: &mut Random) -> Vec<u8> {
+    let mut text = Vec::new();
+    let wild = random.pick(&[0, 0, 0, 0, 3, 20]);
+    match random.below(12) {
+        0 | 1 => {
+            let (brackets, most) = (random.within(62..=67), random.pick(&[0, 0, 1, 2]));
+            put_nest(random, &mut text, brackets, most, wild);
+        }
+        2 => {
+            let (brackets, most) = (random.within(2..=61), random.below(3));
+            put_nest(random, &mut text, brackets, most, wild);
+        }
+        3 => {
+            // Side by side, so that there are more terms than on one level of the other texts.
+            for i in 0..random.below(60) {
+                text.extend((i > 0).then_some(b' '));
+                put_code(random, &mut text, wild);
+            }
+        }
+        _ => {
+            let (mut left, depth) = (random.pick(&[1, 3, 10, 30, 80]), random.pick(&[1, 3, 70]));
+            put_terms(random, &mut text, &mut left, depth, wild);
+        }
+    }
+    text
+}
+
+/// A byte that is likely to stand in a text, or any.
+fn telling_byte(random: &mut Random) -> u8 {
+    match random.below(8) {
+        0 => random.word() as u8,
+        _ => random.pick(b"00123456789   ((()))x/:'*"),
+    }
+}
+
+/// Changes, puts in or takes out one byte of a text. Now and then it is one of an expression still.
+pub fn spoil_text(random: &mut Random, text: &mut Vec<u8>) {
+    let (at, byte) = (random.below(text.len() + 1), telling_byte(random));
+    match (random.below(3), at < text.len()) {
+        (0, true) => text[at] = byte,
+        (1, true) => drop(text.remove(at)),
+        _ => text.insert(at, byte),
+    }
+}
+
+/// Cuts a text off, at its end as a rule.
+pub fn cut_text(random: &mut Random, text: &mut Vec<u8>) {
+    let at = random.below(text.len() + 1);
+    match random.one_in(8) {
+        true => drop(text.drain(..at)),
+        false => text.truncate(at),
+    }
+}
+
+/// Gives a sound store so many cells that `need` new ones just fit or just do not, as it is or once it is
+/// collected; or leaves it as it is.
+pub fn crowd(random: &mut Random, words: &mut Vec<u32>, top: usize, need: usize) {
+    let edge = match random.below(4) {
+        0 => return,
+        1 => top + need,
+        _ => FIRST_HEAP_CELL + plain::live(words, top) + need,
+    };
+    let capacity = (edge + random.below(4)).saturating_sub(2);
+    words.resize(2 * capacity.clamp(top, MAX_CELLS), 0);
 }

@@ -14,14 +14,19 @@ mod texts;
 pub use checks::{ByBlocks, Checks, OneByOne};
 pub use marks::{BitSet, ByteSet, Linear, Marks, Set, Walk};
 
-use crate::plain::{Reply, Text, BRACKET, FIRST_HEAP_CELL, MAX_CALL_WORDS, MAX_CELLS, MAX_CODE};
+use texts::Tree;
 
-/// The store with a check, a way of marking and the side tables of the collector.
+use crate::plain::{
+    Reply, Text, Typed, BRACKET, FIRST_HEAP_CELL, MAX_CALL_WORDS, MAX_CELLS, MAX_CODE,
+};
+
+/// The store with a check, a way of marking, the side tables of the collector and the tree of a text.
 #[derive(Debug, Default)]
 pub struct Ordinary<C, M> {
     checks: C,
     marks: M,
     place: Vec<u32>,
+    tree: Tree,
 }
 
 /// The usual store: checked cell by cell, marked with a byte a cell.
@@ -173,6 +178,35 @@ impl<C: Checks, M: Marks> Ordinary<C, M> {
         let length = *written.as_ref().unwrap_or(&0);
         space[length..].fill(0);
         Text { status: written.err().unwrap_or(0), value: value as usize, length }
+    }
+
+    /// Types a text into a register.
+    pub fn type_in(
+        &mut self,
+        words: &mut [u32],
+        top: usize,
+        register: usize,
+        text: &[u8],
+    ) -> Typed {
+        let Reply { status, value, .. } = self.check(words, top);
+        let refused = match (status, register < FIRST_HEAP_CELL) {
+            (0, true) => self.tree.read(text).err(),
+            (0, false) => Some((20, 0)),
+            _ => Some((status, value as usize)),
+        };
+        if let Some((status, value)) = refused {
+            return Typed { status, value, top };
+        }
+        let mut top = top;
+        let status = match self.room(words, &mut top, self.tree.count()) {
+            Err(status) => status,
+            Ok(()) => {
+                let cell = self.tree.lay(words, &mut top);
+                set(words, register, cell);
+                0
+            }
+        };
+        Typed { status, value: 0, top }
     }
 
     /// Collects a sound store and gives the new `top`.

@@ -2,7 +2,8 @@
 //!
 //! One cell at a time is decoded into a [`Cell`]. The collector marks into a side table with an
 //! explicit stack, numbers the reached cells in a second table and writes a second vector. A register
-//! is printed byte by byte, from a stack of what is still to come. Nothing here is quick or in place.
+//! is printed byte by byte, from a stack of what is still to come, and a text is read byte by byte, with
+//! a stack of the brackets that are open. Nothing here is quick or in place.
 
 /// The number of registers, and so the address of the first heap cell.
 pub const FIRST_HEAP_CELL: usize = 16;
@@ -37,6 +38,17 @@ pub struct Text {
     pub value: usize,
     /// The bytes of the text; 0 where it is refused.
     pub length: usize,
+}
+
+/// What typing answers.
+#[derive(Clone, Copy, Debug, PartialEq, Eq)]
+pub struct Typed {
+    /// 0, or the number of the refusal.
+    pub status: u32,
+    /// The number named beside the status: a cell, an offset in the text, or 0.
+    pub value: usize,
+    /// The end of the occupied cells afterwards.
+    pub top: usize,
 }
 
 /// A cell as the rules tell cells apart.
@@ -447,6 +459,142 @@ pub fn step(words: &mut [u32], top: &mut usize, call: &[u32]) -> (u32, u32) {
         return (16, 0);
     }
     (0, perform(words, top, call))
+}
+
+/// What comes before the next byte of a text.
+#[derive(Clone, Copy, Debug, PartialEq, Eq)]
+enum Behind {
+    /// Nothing, or an opening bracket.
+    Start,
+    /// A space.
+    Space,
+    /// The digits of a code, and the code so far.
+    Digits(u32),
+    /// A closing bracket.
+    Close,
+}
+
+/// A text as far as it is read.
+#[derive(Debug)]
+struct Reading {
+    behind: Behind,
+    /// The cells that are laid already. The first of them counts as cell 0.
+    laid: Vec<Cell>,
+    /// The own terms of the whole text, then those of each open bracket, the innermost last.
+    open: Vec<Vec<Cell>>,
+}
+
+impl Reading {
+    /// The own terms of the innermost open bracket, or of the text where none is open.
+    fn own(&mut self) -> &mut Vec<Cell> {
+        self.open.last_mut().expect("the text's own terms are never taken off before its end")
+    }
+
+    /// Ends the code that is being read, if one is.
+    fn end_code(&mut self) {
+        if let Behind::Digits(code) = self.behind {
+            self.own().push(Cell::Symbol(code));
+        }
+    }
+
+    /// Lays the own terms of the innermost bracket side by side, and gives the bracket around them. What
+    /// its brackets hold was laid when they were closed.
+    fn shut(&mut self) -> Cell {
+        let own = self.open.pop().expect("a bracket is open, or the text ends");
+        let l = self.laid.len();
+        self.laid.extend(&own);
+        if own.is_empty() {
+            Cell::Empty
+        } else {
+            Cell::Bracket(l, self.laid.len() - 1)
+        }
+    }
+
+    /// Reads one byte more, or gives the status that refuses it.
+    fn take(&mut self, byte: u8) -> Result<(), u32> {
+        let ends_a_term = matches!(self.behind, Behind::Digits(_) | Behind::Close);
+        // The whole text stands below the brackets.
+        let brackets = self.open.len() - 1;
+        self.behind = match (byte, self.behind) {
+            (b'0'..=b'9', Behind::Start | Behind::Space) => Behind::Digits(u32::from(byte - b'0')),
+            (b'0'..=b'9', Behind::Digits(code @ 1..)) => match code * 10 + u32::from(byte - b'0') {
+                code @ 0..=MAX_CODE => Behind::Digits(code),
+                _ => return Err(13),
+            },
+            (b'(', Behind::Start | Behind::Space) if brackets == MAX_DEPTH => return Err(21),
+            (b'(', Behind::Start | Behind::Space) => {
+                self.open.push(Vec::new());
+                Behind::Start
+            }
+            (b')', behind) if brackets > 0 && behind != Behind::Space => {
+                self.end_code();
+                let bracket = self.shut();
+                self.own().push(bracket);
+                Behind::Close
+            }
+            (b' ', _) if ends_a_term => {
+                self.end_code();
+                Behind::Space
+            }
+            _ => return Err(23),
+        };
+        Ok(())
+    }
+}
+
+/// Reads a text: its cells in the order in which they are laid, the first of them counted as cell 0, and
+/// the cell of a register around it; or the status that refuses it, and where.
+///
+/// # Errors
+///
+/// 13, 21 or 23, with an offset.
+pub fn read(text: &[u8]) -> Result<(Vec<Cell>, Cell), (u32, usize)> {
+    let mut reading = Reading { behind: Behind::Start, laid: Vec::new(), open: vec![Vec::new()] };
+    for (offset, &byte) in text.iter().enumerate() {
+        reading.take(byte).map_err(|status| (status, offset))?;
+    }
+    if reading.open.len() > 1 || reading.behind == Behind::Space {
+        return Err((23, text.len()));
+    }
+    reading.end_code();
+    let register = reading.shut();
+    Ok((reading.laid, register))
+}
+
+/// A cell with its ends so many cells higher.
+fn raised(cell: Cell, by: usize) -> Cell {
+    match cell {
+        Cell::Bracket(l, r) => Cell::Bracket(l + by, r + by),
+        other => other,
+    }
+}
+
+/// Typing a register in: the text's cells from `top` upward and the register on them, or a refusal. All
+/// but 16, which leaves the store collected, change nothing.
+pub fn type_in(words: &mut [u32], top: usize, register: usize, text: &[u8]) -> Typed {
+    let Reply { status, value, .. } = check(words, top);
+    if status != 0 {
+        return Typed { status, value: value as usize, top };
+    }
+    if register >= FIRST_HEAP_CELL {
+        return Typed { status: 20, value: 0, top };
+    }
+    let (cells, around) = match read(text) {
+        Ok(read) => read,
+        Err((status, value)) => return Typed { status, value, top },
+    };
+    let (mut top, capacity) = (top, words.len() / 2);
+    if top + cells.len() > capacity {
+        top = compact(words, top);
+    }
+    if top + cells.len() > capacity {
+        return Typed { status: 16, value: 0, top };
+    }
+    for (c, &cell) in (top..).zip(&cells) {
+        put(words, c, raised(cell, top));
+    }
+    put(words, register, raised(around, top));
+    Typed { status: 0, value: 0, top: top + cells.len() }
 }
 
 /// A batch: each call's status and value go to `answers`, and zeros after them.

@@ -4,6 +4,8 @@
 //! Sharing in a store lets a few hundred cells denote more terms than any memory holds, so equal
 //! terms stand once in a [`Pool`] and are written by name: equal names are equal terms. A name says
 //! nothing of where a cell lies.
+//!
+//! A text is read by descent: an expression is terms, a term may be a bracket, and in it is an expression.
 
 use std::collections::HashMap;
 
@@ -93,6 +95,30 @@ impl Pool {
         }
     }
 
+    /// The expression of which this is the text.
+    ///
+    /// # Errors
+    ///
+    /// 13, 21 or 23, and the offset at which the text is refused.
+    pub fn read(&mut self, text: &[u8]) -> Result<Expression, (u32, usize)> {
+        let mut reader = Reader { pool: self, text, at: 0 };
+        let expression = reader.expression(64)?;
+        match reader.next() {
+            None => Ok(expression),
+            // A closing bracket of none, or a byte that can neither part two terms nor go on with one.
+            Some(_) => Err((23, reader.at)),
+        }
+    }
+
+    /// The number of terms of an expression on all levels.
+    pub fn all_terms(&self, expression: &[Name]) -> usize {
+        let inside = |&name: &Name| match self.term(name) {
+            Term::Symbol(_) => 0,
+            Term::Parens(inside) => self.all_terms(inside),
+        };
+        expression.len() + expression.iter().map(inside).sum::<usize>()
+    }
+
     /// Where in an expression's text the first bracket opens with which more than `most` are open.
     fn first_deeper(&self, extents: &[Extent], expression: &[Name], most: usize) -> Option<usize> {
         let i = expression.iter().position(|&name| extents[name as usize].height > most)?;
@@ -116,6 +142,78 @@ impl Pool {
             return Expression::new();
         }
         names[left..=right].to_vec()
+    }
+}
+
+/// A text that is read by descent, and the offset of its next byte. What is read is a prefix of some text,
+/// so that a refusal at the next byte is the first that there is.
+struct Reader<'a> {
+    pool: &'a mut Pool,
+    text: &'a [u8],
+    at: usize,
+}
+
+impl Reader<'_> {
+    /// The next byte, if there is one.
+    fn next(&self) -> Option<u8> {
+        self.text.get(self.at).copied()
+    }
+
+    /// Terms with one space between each two, or none. `more` brackets may be opened inside one another.
+    fn expression(&mut self, more: usize) -> Result<Expression, (u32, usize)> {
+        let mut terms = Expression::new();
+        if matches!(self.next(), None | Some(b')')) {
+            return Ok(terms);
+        }
+        loop {
+            terms.push(self.term(more)?);
+            if self.next() != Some(b' ') {
+                return Ok(terms);
+            }
+            self.at += 1;
+        }
+    }
+
+    /// A code or a bracket.
+    fn term(&mut self, more: usize) -> Result<Name, (u32, usize)> {
+        match self.next() {
+            Some(b'(') if more == 0 => Err((21, self.at)),
+            Some(b'(') => {
+                self.at += 1;
+                let inside = self.expression(more - 1)?;
+                if self.next() != Some(b')') {
+                    return Err((23, self.at));
+                }
+                self.at += 1;
+                Ok(self.pool.name(Term::Parens(inside)))
+            }
+            // No digit goes on with a code that begins with 0, so another one is left for the caller.
+            Some(b'0') => {
+                self.at += 1;
+                Ok(self.pool.name(Term::Symbol(0)))
+            }
+            Some(b'1'..=b'9') => self.code(),
+            _ => Err((23, self.at)),
+        }
+    }
+
+    /// All the digits that follow, as far as they are a code.
+    fn code(&mut self) -> Result<Name, (u32, usize)> {
+        let rest = &self.text[self.at..];
+        let count = rest.iter().take_while(|byte| byte.is_ascii_digit()).count();
+        let code = |digits: usize| -> Option<u32> {
+            let digits = std::str::from_utf8(&rest[..digits]).expect("digits are ASCII");
+            digits.parse().ok().filter(|&code| code < 268_435_456)
+        };
+        // A code grows with each digit, so the first that is too large has all the smaller ones before it.
+        match (1..=count).find(|&digits| code(digits).is_none()) {
+            Some(digits) => Err((13, self.at + digits - 1)),
+            None => {
+                let code = code(count).expect("no shorter part of it is too large");
+                self.at += count;
+                Ok(self.pool.name(Term::Symbol(code)))
+            }
+        }
     }
 }
 
@@ -188,6 +286,28 @@ impl Trees {
         let mut text = String::new();
         self.pool.write(expression, &mut text);
         Ok(text)
+    }
+
+    /// A text typed into a register: its status and value. `live` is the number of reached cells before it.
+    pub fn type_in(
+        &mut self,
+        register: usize,
+        text: &[u8],
+        live: usize,
+        capacity: usize,
+    ) -> (u32, usize) {
+        if register >= self.registers.len() {
+            return (20, 0);
+        }
+        match self.pool.read(text) {
+            Err(refused) => refused,
+            // No text of no terms is refused: 16 + live is at most the capacity.
+            Ok(typed) if 16 + live + self.pool.all_terms(&typed) > capacity => (16, 0),
+            Ok(typed) => {
+                self.registers[register] = typed;
+                (0, 0)
+            }
+        }
     }
 
     /// What a call does, or the number that refuses it.

@@ -1,9 +1,9 @@
 //! The three parts of the model, held against each other and against the rules said word for word.
 
 use zelmotar_model::ordinary::{self, Better, Checks, Marks, Ordinary, Usual, WithBits};
-use zelmotar_model::plain::{self, Cell, FIRST_HEAP_CELL};
+use zelmotar_model::plain::{self, Cell, Typed, FIRST_HEAP_CELL};
 use zelmotar_model::random::Random;
-use zelmotar_model::trees::Trees;
+use zelmotar_model::trees::{Name, Pool, Term, Trees};
 use zelmotar_model::{make, make::Runs};
 
 /// Cells reached by the words of the definition: registers first, then whatever lies between the
@@ -204,6 +204,184 @@ fn a_text_is_that_of_the_rules() {
     words[2 * 18] = 1 << 28;
     let refused = plain::print(&words, 21, 16, &mut [7; 3]);
     assert_eq!(refused, plain::Text { status: 3, value: 18, length: 0 });
+}
+
+/// The two words of a bracket on the cells from `l` up to but not including `end`.
+fn around(l: usize, end: usize) -> [u32; 2] {
+    match l == end {
+        true => [0, 1 << 31],
+        false => [l as u32, (1 << 31) + end as u32 - 1],
+    }
+}
+
+/// Lays an expression by the words of the definition: first what its brackets hold, from left to right and
+/// each by the same rule, then its own terms side by side, each bracket on its own cells. The bracket around
+/// it comes back.
+fn laid_by_definition(
+    pool: &Pool,
+    expression: &[Name],
+    words: &mut [u32],
+    top: &mut usize,
+) -> [u32; 2] {
+    let mut own = Vec::new();
+    for &name in expression {
+        own.push(match pool.term(name) {
+            Term::Symbol(code) => [*code, 0],
+            Term::Parens(inside) => laid_by_definition(pool, inside, words, top),
+        });
+    }
+    let l = *top;
+    for cell in own {
+        words[2 * *top..2 * *top + 2].copy_from_slice(&cell);
+        *top += 1;
+    }
+    around(l, *top)
+}
+
+/// Typing by the words of the definition, in a sound store.
+fn typed_by_definition(words: &mut Vec<u32>, top: usize, register: usize, text: &[u8]) -> Typed {
+    let mut pool = Pool::default();
+    let live = reached_by_definition(words, top).iter().filter(|&&reached| reached).count();
+    let (capacity, mut new_top) = (words.len() / 2, top);
+    if register > 15 {
+        return Typed { status: 20, value: 0, top };
+    }
+    let expression = match pool.read(text) {
+        Err((status, value)) => return Typed { status, value, top },
+        Ok(expression) => expression,
+    };
+    let need = pool.all_terms(&expression);
+    if need > 0 && top + need > capacity {
+        *words = collected_by_definition(words, top);
+        new_top = 16 + live;
+    }
+    if need > 0 && 16 + live + need > capacity {
+        return Typed { status: 16, value: 0, top: new_top };
+    }
+    let cell = laid_by_definition(&pool, &expression, words, &mut new_top);
+    words[2 * register..2 * register + 2].copy_from_slice(&cell);
+    Typed { status: 0, value: 0, top: new_top }
+}
+
+/// A store, a register and a text for it: one of an expression, spoilt or cut.
+fn typeable(random: &mut Random) -> (Vec<u32>, usize, usize, Vec<u8>) {
+    let mut text = make::text(random);
+    match random.below(3) {
+        0 => {}
+        1 => make::spoil_text(random, &mut text),
+        _ => make::cut_text(random, &mut text),
+    }
+    let capacity = random.within(16..=48);
+    let runs = random.pick(&[Runs::Short, Runs::Any]);
+    let (mut words, top) = make::sound(random, capacity, runs);
+    let need = plain::read(&text).map_or(3, |(cells, _)| cells.len());
+    make::crowd(random, &mut words, top, need);
+    (words, top, random.below(17), text)
+}
+
+#[test]
+fn plain_types_as_the_definition_says() {
+    let mut random = Random::of("types");
+    let mut met = [0; 24];
+    for _ in 0..40_000 {
+        let (mut words, top, register, text) = typeable(&mut random);
+        let mut expected = words.clone();
+        let told = typed_by_definition(&mut expected, top, register, &text);
+        let shown = String::from_utf8_lossy(&text);
+        assert_eq!(plain::type_in(&mut words, top, register, &text), told, "{shown}");
+        assert_eq!(words, expected, "{shown}");
+        assert_eq!(plain::check(&words, told.top).status, 0, "{shown}");
+        met[told.status as usize] += 1;
+    }
+    for status in [0, 13, 16, 20, 21, 23] {
+        assert!(met[status] > 300, "{status}: {met:?}");
+    }
+}
+
+#[test]
+fn plain_types_what_trees_say() {
+    let mut random = Random::of("typed trees");
+    let mut met = [0; 24];
+    for _ in 0..20_000 {
+        let (mut words, top, register, text) = typeable(&mut random);
+        let mut trees = Trees::denoted_by(&words, top);
+        let (live, capacity) = (plain::live(&words, top), words.len() / 2);
+        let expected = trees.type_in(register, &text, live, capacity);
+        let got = plain::type_in(&mut words, top, register, &text);
+        let shown = String::from_utf8_lossy(&text);
+        assert_eq!((got.status, got.value), expected, "{shown}");
+        assert_eq!(trees.pool.denoted(&words, got.top), trees.registers, "{shown}");
+        // What is laid has the text that was typed.
+        if got.status == 0 {
+            assert_eq!(trees.printed(register, text.len()).map(String::into_bytes), Ok(text));
+        }
+        met[got.status as usize] += 1;
+    }
+    for status in [0, 13, 16, 20, 21, 23] {
+        assert!(met[status] > 150, "{status}: {met:?}");
+    }
+}
+
+#[test]
+fn the_quick_typing_is_the_plain_one() {
+    let mut random = Random::of("quick types");
+    let (mut usual, mut bits) = (Usual::default(), WithBits::default());
+    let mut better = Better::default();
+    let mut met = [0; 24];
+    for _ in 0..40_000 {
+        let (mut words, mut top, register, text) = typeable(&mut random);
+        if random.one_in(4) {
+            make::damage(&mut random, &mut words, &mut top);
+        }
+        let mut ours = [words.clone(), words.clone(), words.clone()];
+        let expected = plain::type_in(&mut words, top, register, &text);
+        assert_eq!(usual.type_in(&mut ours[0], top, register, &text), expected);
+        assert_eq!(bits.type_in(&mut ours[1], top, register, &text), expected);
+        assert_eq!(better.type_in(&mut ours[2], top, register, &text), expected);
+        assert!(ours.iter().all(|ours| *ours == words), "{}", String::from_utf8_lossy(&text));
+        met[expected.status as usize] += 1;
+    }
+    for status in [0, 1, 2, 3, 13, 16, 20, 21, 23] {
+        assert!(met[status] > 100, "{status}: {met:?}");
+    }
+}
+
+#[test]
+fn a_text_is_read_as_the_rules_say() {
+    let nest = |brackets| "(".repeat(brackets);
+    for (text, status, offset) in [
+        (" ".into(), 23, 0),
+        (")".into(), 23, 0),
+        ("x".into(), 23, 0),
+        ("01".into(), 23, 1),
+        ("1)".into(), 23, 1),
+        ("1(".into(), 23, 1),
+        ("1  2".into(), 23, 2),
+        ("( )".into(), 23, 1),
+        ("(1 )".into(), 23, 3),
+        ("()1".into(), 23, 2),
+        ("())".into(), 23, 2),
+        ("1 ".into(), 23, 2),
+        ("(".into(), 23, 1),
+        ("(1".into(), 23, 2),
+        ("() ".into(), 23, 3),
+        ("268435456".into(), 13, 8),
+        ("99999999999".into(), 13, 8),
+        ("(268435456".into(), 13, 9),
+        (nest(70), 21, 64),
+        (nest(64) + "1(", 23, 65),
+        (nest(64) + ") ((", 21, 67),
+        (nest(64) + &")".repeat(64) + "x", 23, 128),
+    ] {
+        assert_eq!(plain::read(text.as_bytes()), Err((status, offset)), "{text}");
+        assert_eq!(Pool::default().read(text.as_bytes()), Err((status, offset)), "{text}");
+    }
+    let (cells, register) = plain::read(b"1 (2 (3) 4) 5 ()").expect("it is a text");
+    let symbol = Cell::Symbol;
+    assert_eq!(cells[..4], [symbol(3), symbol(2), Cell::Bracket(0, 0), symbol(4)]);
+    assert_eq!(cells[4..], [symbol(1), Cell::Bracket(1, 3), symbol(5), Cell::Empty]);
+    assert_eq!(register, Cell::Bracket(4, 7));
+    assert_eq!(plain::read(b""), Ok((vec![], Cell::Empty)));
 }
 
 /// Holds the quick store against the plain one: one batch, collecting alone, check and looks.

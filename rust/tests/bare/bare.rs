@@ -16,6 +16,11 @@ fn panic(_: &PanicInfo) -> ! {
     loop {}
 }
 
+/// The precompiled `core` names this in its tables for unwinding, and a linker that keeps them, as LLVM's
+/// does, wants it. Nothing unwinds here.
+#[no_mangle]
+extern "C" fn rust_eh_personality() {}
+
 /// The number of the first step that goes wrong, or 0.
 fn steps() -> i32 {
     let mut words = [0; 64];
@@ -39,6 +44,12 @@ fn steps() -> i32 {
     }
     if store.print(1, &mut space[..3]) != Err(Refusal::ShortSpace) || space[..3] != [0; 3] {
         return 11;
+    }
+    if store.type_in(2, b"(65) 7") != Ok(()) || store.print(2, &mut space) != Ok("(65) 7") {
+        return 12;
+    }
+    if store.type_str(2, "(65) x") != Err(Refusal::NotText { offset: 5 }) {
+        return 13;
     }
     0
 }

@@ -1,14 +1,15 @@
 //! Stores that differ in dead cells, collections and cuts between batches only.
 //!
-//! Such stores are alike: no answer but COLLECT's tells them apart, and once each is collected they
-//! are the same words with the same `top`. The library alone is run here; the model only makes the
-//! stores.
+//! Such stores are alike: no answer but COLLECT's tells them apart, be it to a call or to a text that is
+//! typed in, and once each is collected they are the same words with the same `top`. The library alone is
+//! run here; the model only makes the stores.
 
 use zelmotar::raw;
 use zelmotar_model::make::{self, Runs};
 use zelmotar_model::plain::{self, Cell, FIRST_HEAP_CELL};
 use zelmotar_model::random::Random;
 
+use crate::act::{acts, Act};
 use crate::case::Ran;
 use crate::shrink::shrunk;
 use crate::tally::{Tally, CALL_STATUSES};
@@ -19,19 +20,28 @@ const COLLECT: [u32; 4] = [11, 0, 0, 0];
 /// Words and `top`.
 type Lent = (Vec<u32>, usize);
 
-/// What precedes a call in one of the two stores.
+/// What precedes a call or a text in one of the two stores.
 #[derive(Clone, Copy, Debug)]
 struct Before {
     collections: usize,
     cut: bool,
 }
 
-/// A call, and what precedes it in either store.
-#[derive(Clone, Copy, Debug)]
+/// A call or a text, and what precedes it in either store.
+#[derive(Clone, Debug)]
 struct Turn {
-    call: [u32; 4],
+    act: Act,
     before: [Before; 2],
 }
+
+/// What one store is asked at once: a batch, or a text.
+enum Request<'a> {
+    Batch(Vec<u32>),
+    Text(&'a Act),
+}
+
+/// What a call or a text is answered: the status and the value.
+type Told = (u32, usize);
 
 /// The addresses before which a cell can be put into a collected store without lying in a run.
 fn gaps(words: &[u32], top: usize) -> Vec<usize> {
@@ -82,7 +92,7 @@ fn pair(random: &mut Random) -> [Lent; 2] {
     }
 }
 
-/// What precedes a call, at random.
+/// What precedes a call or a text, at random.
 fn before(random: &mut Random) -> Before {
     Before {
         collections: if random.one_in(4) { random.within(1..=2) } else { 0 },
@@ -90,58 +100,61 @@ fn before(random: &mut Random) -> Before {
     }
 }
 
-/// Calls with collections and cuts put in at random.
+/// Calls and texts with collections and cuts put in at random.
 fn turns(random: &mut Random) -> Vec<Turn> {
     let count = random.below(30);
-    let list = make::calls(random, count);
-    let calls = list.chunks(4).map(|call| <[u32; 4]>::try_from(call).expect("four words"));
-    calls
-        .filter(|&call| call != COLLECT)
-        .map(|call| Turn { call, before: [before(random), before(random)] })
-        .collect()
+    let acts = acts(random, count).into_iter().filter(|act| *act != Act::Call(COLLECT));
+    acts.map(|act| Turn { act, before: [before(random), before(random)] }).collect()
 }
 
-/// The batches that one store is to run.
-fn batches(turns: &[Turn], side: usize) -> Vec<Vec<u32>> {
-    let mut batches = vec![Vec::new()];
+/// What one store is to be asked. A text ends the batch before it.
+fn requests(turns: &[Turn], side: usize) -> Vec<Request<'_>> {
+    let (mut requests, mut batch) = (Vec::new(), Vec::new());
     for turn in turns {
         let Before { collections, cut } = turn.before[side];
         if cut {
-            batches.push(Vec::new());
+            requests.push(Request::Batch(std::mem::take(&mut batch)));
         }
-        let batch = batches.last_mut().expect("there is one from the start");
         (0..collections).for_each(|_| batch.extend(COLLECT));
-        batch.extend(turn.call);
+        match &turn.act {
+            Act::Call(call) => batch.extend(call),
+            text => {
+                requests.push(Request::Batch(std::mem::take(&mut batch)));
+                requests.push(Request::Text(text));
+            }
+        }
     }
-    batches
+    requests.push(Request::Batch(batch));
+    requests
 }
 
 /// Runs one store, then collects it: all answers but COLLECT's, the words and `top`.
-fn outcome(
-    (words, top): &Lent,
-    turns: &[Turn],
-    side: usize,
-) -> Result<(Vec<[u32; 2]>, Lent), String> {
+fn outcome((words, top): &Lent, turns: &[Turn], side: usize) -> Result<(Vec<Told>, Lent), String> {
     let (mut words, mut top) = (words.clone(), *top);
     let mut told = Vec::new();
-    for batch in batches(turns, side) {
+    for request in requests(turns, side) {
+        let batch = match request {
+            Request::Batch(batch) => batch,
+            Request::Text(text) => {
+                told.push(text.ask(&mut words, &mut top)?);
+                continue;
+            }
+        };
         let mut answers = vec![7; batch.len() / 2];
         let reply = raw::run(&mut words, top, &batch, &mut answers);
         if reply.status != 0 {
             return Err(format!("a batch of store {side} is refused: {reply:?}"));
         }
         top = reply.top;
-        let calls = batch.chunks(4).zip(answers.chunks(2));
-        told.extend(
-            calls.filter(|(call, _)| *call != COLLECT).map(|(_, answer)| [answer[0], answer[1]]),
-        );
+        let calls = batch.chunks(4).zip(answers.chunks(2)).filter(|(call, _)| *call != COLLECT);
+        told.extend(calls.map(|(_, answer)| (answer[0], answer[1] as usize)));
     }
     top = raw::collect(&mut words, top).top;
     Ok((told, (words, top)))
 }
 
-/// Says how the two stores come to differ; else gives the statuses of the calls.
-fn compare(stores: &[Lent; 2], turns: &[Turn]) -> Result<Vec<u32>, String> {
+/// Says how the two stores come to differ; else gives what the calls and the texts are answered.
+fn compare(stores: &[Lent; 2], turns: &[Turn]) -> Result<Ran, String> {
     let first = outcome(&stores[0], turns, 0)?;
     let second = outcome(&stores[1], turns, 1)?;
     if first.0 != second.0 {
@@ -150,7 +163,16 @@ fn compare(stores: &[Lent; 2], turns: &[Turn]) -> Result<Vec<u32>, String> {
     if first.1 != second.1 {
         return Err(format!("collected stores {:?} and {:?}", first.1, second.1));
     }
-    Ok(first.0.iter().map(|answer| answer[0]).collect())
+    let told = turns.iter().zip(&first.0);
+    let (calls, texts): (Vec<_>, Vec<_>) =
+        told.partition(|(turn, _)| matches!(turn.act, Act::Call(_)));
+    Ok(Ran {
+        status: 0,
+        value: 0,
+        statuses: calls.iter().map(|(_, answer)| answer.0).collect(),
+        freed: false,
+        texts: texts.iter().map(|(_, &answer)| answer).collect(),
+    })
 }
 
 #[test]
@@ -160,15 +182,15 @@ fn alike_stores_cannot_be_told_apart() {
     for _ in 0..40_000 {
         let stores = pair(&mut random);
         let turns = turns(&mut random);
-        let statuses = compare(&stores, &turns).unwrap_or_else(|_| {
+        let ran = compare(&stores, &turns).unwrap_or_else(|_| {
             let small = shrunk(&turns, |turns| compare(&stores, turns).is_err());
             let difference = compare(&stores, &small).unwrap_err();
             panic!("{difference}\nstores {stores:?}\nturns {small:?}");
         });
-        tally.add(&Ran { status: 0, value: 0, statuses, freed: false });
+        tally.add(&ran);
     }
     tally.print("alike pairs");
-    tally.assert_met(&[0], &CALL_STATUSES);
+    tally.assert_met(&[0], &CALL_STATUSES, &[0, 13, 16, 20, 21, 23]);
 }
 
 #[test]

@@ -31,7 +31,7 @@ fn sound_stores() {
         tally.add(&case(&mut random, store, count).hold());
     }
     tally.print("sound stores");
-    tally.assert_met(&[0, 5], &CALL_STATUSES);
+    tally.assert_met(&[0, 5], &CALL_STATUSES, &[0, 20, 23]);
 }
 
 #[test]
@@ -53,7 +53,7 @@ fn damaged_stores_and_lists() {
         tally.add(&case.hold());
     }
     tally.print("damaged stores");
-    tally.assert_met(&BATCH_STATUSES, &CALL_STATUSES);
+    tally.assert_met(&BATCH_STATUSES, &CALL_STATUSES, &[0, 1, 2, 3, 20, 23]);
 }
 
 #[test]
@@ -76,5 +76,5 @@ fn large_stores() {
         tally.add(&case(&mut random, store, count).hold());
     }
     tally.print("large stores");
-    tally.assert_met(&[0, 3], &CALL_STATUSES);
+    tally.assert_met(&[0, 3], &CALL_STATUSES, &[3, 23]);
 }

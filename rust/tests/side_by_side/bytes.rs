@@ -1,4 +1,4 @@
-//! Raw bytes as store, calls and answer space.
+//! Raw bytes as store, calls, answer space and text.
 //!
 //! Byte strings are changed at random and read as a case; one that shows something new is kept and
 //! changed further. 100,000 strings are tried, or as many as fit in `ZELMOTAR_FUZZ_SECONDS`.
@@ -14,8 +14,8 @@ use std::time::{Duration, Instant};
 use zelmotar_model::make::{self, Runs};
 use zelmotar_model::random::Random;
 
-use crate::case::{Case, Ran};
-use crate::tally::{Tally, BATCH_STATUSES, CALL_STATUSES};
+use crate::case::{answers_for, Case, Ran};
+use crate::tally::{Tally, BATCH_STATUSES, CALL_STATUSES, TYPE_STATUSES};
 
 const HEAD: usize = 12;
 const USUAL_COUNT: usize = 100_000;
@@ -69,7 +69,8 @@ fn seed(random: &mut Random) -> Case {
     let (words, top) = make::sound(random, capacity, runs);
     let count = random.below(12);
     let calls = make::calls(random, count);
-    let answers = vec![0xffff_ffff; calls.len() / 2 + random.below(3)];
+    let space = calls.len() / 2 + random.below(3);
+    let answers = answers_for(&make::text(random), space);
     Case { words, top, calls, answers, register: random.below(17) }
 }
 
@@ -135,20 +136,23 @@ fn changed_byte_strings() {
     let mut random = Random::of("byte strings");
     let mut kept: Vec<Vec<u8>> = (0..40).map(|_| write(&seed(&mut random))).collect();
     let (mut seen, mut tally, go_on) = (HashSet::new(), Tally::default(), clock());
+    // How far a text is read is told apart from the rest: both at once would be new too often.
+    let mut read_so_far = HashSet::new();
     let mut done = 0;
     while go_on(done) {
         let mut bytes = kept[random.below(kept.len())].clone();
         let other = kept[random.below(kept.len())].clone();
         (0..=random.below(4)).for_each(|_| change(&mut random, &mut bytes, &other));
         let ran = read(&bytes).hold();
-        if seen.insert(shown(&ran)) && kept.len() < MOST_KEPT {
+        let is_new = seen.insert(shown(&ran)) | read_so_far.insert(ran.texts.clone());
+        if is_new && kept.len() < MOST_KEPT {
             kept.push(bytes);
         }
         tally.add(&ran);
         done += 1;
     }
     tally.print("byte strings");
-    tally.assert_met(&BATCH_STATUSES, &CALL_STATUSES);
+    tally.assert_met(&BATCH_STATUSES, &CALL_STATUSES, &TYPE_STATUSES);
 }
 
 #[test]

@@ -8,8 +8,12 @@ use zelmotar_model::{plain, random};
 use crate::guarded::Guarded;
 use crate::shrink::{lessened, shrunk};
 
-/// What goes into the six functions of the library. The answer space serves as text space too, four
-/// bytes a word.
+/// The sixteen bytes that the text of a case is made of. Any bytes would be refused at the first of them as
+/// a rule.
+const LETTERS: [u8; 16] = *b"(0123456789) () ";
+
+/// What goes into the seven functions of the library. The answer space serves as text space too, four
+/// bytes a word. Those bytes up to the first 255 are the text that is typed in, each for one of [`LETTERS`].
 #[derive(Clone, Debug)]
 pub struct Case {
     pub words: Vec<u32>,
@@ -20,6 +24,7 @@ pub struct Case {
 }
 
 /// What a batch was answered, by library and model alike.
+#[derive(Debug)]
 pub struct Ran {
     pub status: u32,
     pub value: u32,
@@ -27,6 +32,8 @@ pub struct Ran {
     pub statuses: Vec<u32>,
     /// Whether `top` is lower than before, so that a collection freed cells.
     pub freed: bool,
+    /// The status and the value of each text that is typed in.
+    pub texts: Vec<(u32, usize)>,
 }
 
 /// The reply of the model in the library's type.
@@ -89,8 +96,32 @@ pub fn compare_print(
     Ok(model)
 }
 
+/// Types a text into a register by the library and by the model, and says what differs first; else gives what
+/// both answer.
+pub fn compare_type(
+    words: &[u32],
+    top: usize,
+    register: usize,
+    text: &[u8],
+) -> Result<plain::Typed, String> {
+    let (mut ours, mut our_text) = (Guarded::around(words), Guarded::around(text));
+    let mut theirs = words.to_vec();
+    let raw::Typed { status, value, top: new_top } =
+        raw::type_in(ours.lent(), top, register, our_text.lent());
+    let library = plain::Typed { status, value, top: new_top };
+    let model = plain::type_in(&mut theirs, top, register, text);
+    if library != model {
+        return Err(format!("type: the library answers {library:?}, the model {model:?}"));
+    }
+    same_words("type", &ours.opened("type")?, &theirs)?;
+    match our_text.opened("text of type")? == text {
+        true => Ok(model),
+        false => Err("type: the text is written, and not only read".to_string()),
+    }
+}
+
 impl Case {
-    /// Runs the case through all six functions, and says what differs first.
+    /// Runs the case through all seven functions, and says what differs first.
     pub fn compare(&self) -> Result<Ran, String> {
         self.compare_check()?;
         self.compare_fresh()?;
@@ -98,7 +129,10 @@ impl Case {
         self.compare_collect()?;
         let space: Vec<u8> = self.answers.iter().flat_map(|word| word.to_le_bytes()).collect();
         compare_print(&self.words, self.top, self.register, &space)?;
-        self.compare_run()
+        let letters = space.iter().take_while(|&&byte| byte != 255);
+        let text: Vec<u8> = letters.map(|byte| LETTERS[usize::from(byte % 16)]).collect();
+        let typed = compare_type(&self.words, self.top, self.register, &text)?;
+        Ok(Ran { texts: vec![(typed.status, typed.value)], ..self.compare_run()? })
     }
 
     /// Runs the case and fails with a small version of it if anything differs.
@@ -179,8 +213,17 @@ impl Case {
             value: reply.value,
             statuses: answers.chunks(2).take(count).map(|answer| answer[0]).collect(),
             freed: reply.top < self.top,
+            texts: Vec::new(),
         }
     }
+}
+
+/// So many answer words, for a case in which `text` is typed in, or as much of it as fits.
+pub fn answers_for(text: &[u8], count: usize) -> Vec<u32> {
+    let letter = |byte| LETTERS.iter().position(|&letter| letter == byte).unwrap_or(0) as u8;
+    let mut bytes: Vec<u8> = text.iter().map(|&byte| letter(byte)).collect();
+    bytes.resize(4 * count, 255);
+    bytes.chunks(4).map(|word| u32::from_le_bytes([word[0], word[1], word[2], word[3]])).collect()
 }
 
 /// A store and a register in lines: its cells, equal neighbours in one line.

@@ -1,4 +1,5 @@
-//! The safe wrapper: its calls, its answers, its stores, a list that stops at a refusal, and texts.
+//! The safe wrapper: its calls, its answers, its stores, a list that stops at a refusal, and texts printed
+//! and typed in.
 
 use zelmotar::{
     status_text, Answer, Call, Fault, Refusal, Stopped, Store, MAX_CALLS, MAX_CELLS, MAX_CODE,
@@ -121,8 +122,8 @@ fn every_status_has_its_own_number_name_and_text() {
         }
     }
     let numbers: Vec<u32> = STATUSES.iter().map(|status| status.number).collect();
-    assert_eq!(numbers, [0, 1, 2, 3, 4, 5, 10, 11, 12, 13, 14, 15, 16, 20, 21, 22]);
-    for number in [6, 9, 17, 19, 23, u32::MAX] {
+    assert_eq!(numbers, [0, 1, 2, 3, 4, 5, 10, 11, 12, 13, 14, 15, 16, 20, 21, 22, 23]);
+    for number in [6, 9, 17, 19, 24, u32::MAX] {
         assert_eq!(status_text(number), "no such status");
     }
 }
@@ -174,6 +175,7 @@ fn every_refusal_by_name() {
         let refusal = refusal.expect_err("each is refused");
         assert_eq!(refusal.number(), number);
         assert_eq!(refusal.cell(), if number == 3 { Some(0) } else { None });
+        assert_eq!(refusal.offset(), None);
         let cell = if number == 3 { ": cell 0" } else { "" };
         assert_eq!(refusal.to_string(), status_text(number).to_owned() + cell);
     }
@@ -358,4 +360,75 @@ fn the_longest_text_that_shares_nothing() {
     assert_eq!(text, vec!["268435455"; MAX_CELLS - 16].join(" "));
     assert_eq!(store.print_string(0, text.len()).as_ref(), Ok(&text));
     assert_eq!(store.print_string(0, text.len() - 1), Err(Refusal::ShortSpace));
+}
+
+#[test]
+fn every_refusal_of_a_text_by_name() {
+    let damaged = Store::from_parts(vec![0; 32], 16);
+    let deep = "(".repeat(MAX_DEPTH + 1);
+    let rows = [
+        (Store::from_parts(vec![0; 33], 16), 0, "x", Refusal::BadLength, 1),
+        (Store::from_parts(vec![0; 32], 17), 0, "x", Refusal::BadTop, 2),
+        (damaged.clone(), 99, "x", damaged.check().expect_err("register 0 is damaged"), 3),
+        (fresh(17), 0, "(268435456", Refusal::BadCode { offset: 9 }, 13),
+        (fresh(17), 0, "1 2", Refusal::NoRoom, 16),
+        (fresh(17), 16, "x", Refusal::NoRegister, 20),
+        (fresh(17), usize::MAX, "1", Refusal::NoRegister, 20),
+        (fresh(17), 0, &deep, Refusal::TooDeepAt { offset: MAX_DEPTH }, 21),
+        (fresh(17), 0, "1 x", Refusal::NotText { offset: 2 }, 23),
+        (fresh(17), 0, "(1", Refusal::NotText { offset: 2 }, 23),
+    ];
+    for (mut store, register, text, refusal, number) in rows {
+        let before = store.clone();
+        assert_eq!(store.type_str(register, text), Err(refusal), "{text}");
+        assert_eq!(store.type_in(register, text.as_bytes()), Err(refusal), "{text}");
+        assert_eq!(store, before, "{text}");
+        assert_eq!(refusal.number(), number);
+        let (cell, offset) = (refusal.cell(), refusal.offset());
+        assert_eq!(
+            (cell.is_some(), offset.is_some()),
+            (number == 3, [13, 21, 23].contains(&number))
+        );
+        let place = match (cell, offset) {
+            (Some(cell), _) => format!(": cell {cell}"),
+            (_, Some(offset)) => format!(": byte {offset}"),
+            _ => String::new(),
+        };
+        assert_eq!(refusal.to_string(), status_text(number).to_owned() + &place);
+    }
+}
+
+#[test]
+fn a_typed_text_sets_one_register_and_moves_top() {
+    let mut store = fresh(21);
+    assert_eq!(store.type_in(1, b"65 (66 67) ()"), Ok(()));
+    assert_eq!((store.top(), store.look(1).to_string()), (21, "65 (66 67) ()".into()));
+    // The register's old expression counts, so there is no room for a new one beside it.
+    let before = store.clone();
+    assert_eq!(store.type_str(1, "1"), Err(Refusal::NoRoom));
+    assert_eq!(store, before);
+    assert_eq!(store.type_str(1, ""), Ok(()));
+    assert_eq!((store.top(), store.look(1).len()), (21, 0));
+    // Now all five cells are dead, and a collection makes room for four.
+    assert_eq!(store.type_str(2, "((7) 8)"), Ok(()));
+    assert_eq!((store.top(), store.look(2).to_string()), (20, "((7) 8)".into()));
+    // Collected, though there is no room: the words move, and no expression changes.
+    assert_eq!(store.call(Call::Open { d: 2, a: 2 }), Ok(Answer::Done));
+    assert_eq!(store.type_str(0, "1 2 3"), Err(Refusal::NoRoom));
+    assert_eq!((store.top(), store.look(2).to_string()), (19, "(7) 8".into()));
+}
+
+#[test]
+fn the_longest_text_that_there_is_room_for() {
+    let mut store = fresh(MAX_CELLS);
+    let text = vec![MAX_CODE.to_string(); MAX_CELLS - 16].join(" ");
+    assert_eq!(store.type_str(0, &(text.clone() + " 1")), Err(Refusal::NoRoom));
+    assert_eq!(store.type_str(0, &text), Ok(()));
+    assert_eq!(store.top(), MAX_CELLS);
+    assert_eq!(store.print_string(0, usize::MAX), Ok(text));
+    // A text far longer than any store is judged to its end all the same.
+    let long = "7 ".repeat(500_000);
+    assert_eq!(store.type_str(1, &long), Err(Refusal::NotText { offset: 1_000_000 }));
+    assert_eq!(store.type_str(1, &(long + "7")), Err(Refusal::NoRoom));
+    assert_eq!(store.type_str(1, &"9".repeat(1_000_000)), Err(Refusal::BadCode { offset: 8 }));
 }

@@ -8,13 +8,15 @@
 //! - [`terms`]: its iterator, and terms written and compared.
 //! - [`batches`]: random stores, sound and damaged, with random lists and answer spaces.
 //! - [`prints`]: random registers, printed into text spaces of every length.
-//! - [`meaning`]: call for call against expressions with no addresses.
+//! - [`types`]: random texts, typed into stores that have about as much room as they need.
+//! - [`meaning`]: call for call, and text for text, against expressions with no addresses.
 //! - [`alike`]: stores that differ in dead cells, collections and cuts between batches only.
-//! - [`bytes`]: raw bytes as store, calls and answer space.
+//! - [`bytes`]: raw bytes as store, calls, answer space and text.
 //!
-//! [`case`], [`guarded`], [`pages`], [`shrink`] and [`tally`] serve these. Cases lend their words and
-//! bytes between pages that fault when touched.
+//! [`act`], [`case`], [`guarded`], [`pages`], [`shrink`] and [`tally`] serve these. Cases lend their words
+//! and bytes between pages that fault when touched.
 
+mod act;
 mod alike;
 mod batches;
 mod bytes;
@@ -27,4 +29,5 @@ mod prints;
 mod shrink;
 mod tally;
 mod terms;
+mod types;
 mod worked;

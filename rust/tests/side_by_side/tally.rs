@@ -16,6 +16,9 @@ pub const BATCH_STATUSES: [u32; 6] = [0, 1, 2, 3, 4, 5];
 /// Every number that a print can be answered with.
 pub const PRINT_STATUSES: [u32; 7] = [0, 1, 2, 3, 20, 21, 22];
 
+/// Every number that a text typed in can be answered with.
+pub const TYPE_STATUSES: [u32; 9] = [0, 1, 2, 3, 13, 16, 20, 21, 23];
+
 /// Each status with its count.
 fn listed(counts: &BTreeMap<u32, usize>) -> String {
     counts.iter().map(|(status, count)| format!(" {status}:{count}")).collect()
@@ -61,37 +64,77 @@ impl Prints {
     }
 }
 
-/// Counts of cases, of batches by status and of calls by status.
+/// Counts of texts typed in by status, and of those that are done in a store that was collected for them.
+#[derive(Default)]
+pub struct Types {
+    statuses: BTreeMap<u32, usize>,
+    collected: usize,
+}
+
+impl Types {
+    /// Counts one text.
+    pub fn add(&mut self, status: u32, collected: bool) {
+        *self.statuses.entry(status).or_default() += 1;
+        self.collected += usize::from(status == 0 && collected);
+    }
+
+    /// Prints the counts.
+    pub fn print(&self, name: &str) {
+        let (count, collected) = (self.statuses.values().sum::<usize>(), self.collected);
+        let statuses = listed(&self.statuses);
+        say(name, &format!("{count} texts typed in;{statuses}; collected, then done: {collected}"));
+    }
+
+    /// Asserts that each of the given statuses occurred so many times, and a collection before a text that
+    /// is done if 16 is given.
+    pub fn assert_met(&self, statuses: &[u32], least: usize) {
+        for status in statuses {
+            let count = *self.statuses.get(status).unwrap_or(&0);
+            assert!(count >= least, "{count} texts were answered {status}");
+        }
+        assert!(self.collected >= least || !statuses.contains(&16), "{} collected", self.collected);
+    }
+}
+
+/// Counts of cases, and of batches, calls and texts typed in by status.
 #[derive(Default)]
 pub struct Tally {
     cases: usize,
     batches: BTreeMap<u32, usize>,
     calls: BTreeMap<u32, usize>,
+    texts: BTreeMap<u32, usize>,
 }
 
 impl Tally {
-    /// Counts one case and what its batch and calls were answered.
+    /// Counts one case and what its batch, calls and texts were answered.
     pub fn add(&mut self, ran: &Ran) {
         self.cases += 1;
         *self.batches.entry(ran.status).or_default() += 1;
         for &status in &ran.statuses {
             *self.calls.entry(status).or_default() += 1;
         }
+        for &(status, _) in &ran.texts {
+            *self.texts.entry(status).or_default() += 1;
+        }
     }
 
     /// Prints the counts.
     pub fn print(&self, name: &str) {
-        let (batches, calls) = (listed(&self.batches), listed(&self.calls));
-        say(name, &format!("{} cases; batches{batches}; calls{calls}", self.cases));
+        let [batches, calls, texts] = [&self.batches, &self.calls, &self.texts].map(listed);
+        let cases = self.cases;
+        say(name, &format!("{cases} cases; batches{batches}; calls{calls}; texts{texts}"));
     }
 
     /// Asserts that each of the given statuses did occur.
-    pub fn assert_met(&self, batches: &[u32], calls: &[u32]) {
+    pub fn assert_met(&self, batches: &[u32], calls: &[u32], texts: &[u32]) {
         for status in batches {
             assert!(self.batches.contains_key(status), "no batch was answered {status}");
         }
         for status in calls {
             assert!(self.calls.contains_key(status), "no call was answered {status}");
+        }
+        for status in texts {
+            assert!(self.texts.contains_key(status), "no text was answered {status}");
         }
     }
 }

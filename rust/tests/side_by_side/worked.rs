@@ -1,6 +1,6 @@
-//! Rows that are worked out by hand: P1 to P8, T1 to T9, and the rows that are only run.
+//! Rows that are worked out by hand: P1 to P8, T1 to T21, and the rows that are only run.
 
-use zelmotar::raw::{self, Reply, Text};
+use zelmotar::raw::{self, Reply, Text, Typed};
 use zelmotar::{Answer, Call, Fault, Refusal, Store};
 
 /// The second word of an empty bracket.
@@ -251,6 +251,137 @@ fn t8_the_last_register_and_one_that_is_none() {
 fn t9_damage_is_judged_before_the_register() {
     let words = words(20, &[(16, [1, 0]), (17, [2, 0]), (18, [16, EMPTY + 18])]);
     assert_eq!(printed(&words, 19, 16, 1), no_text(3, 18, 1));
+}
+
+/// What typing a text answers, and the words that it leaves.
+fn typed(words: &[u32], top: usize, register: usize, text: &str) -> (Typed, Vec<u32>) {
+    let mut words = words.to_vec();
+    let typed = raw::type_in(&mut words, top, register, text.as_bytes());
+    (typed, words)
+}
+
+/// A text that is typed into register 0 of a fresh store of so many cells.
+fn typed_fresh(capacity: usize, text: &str) -> (Typed, Vec<u32>) {
+    typed(&words(capacity, &[]), 16, 0, text)
+}
+
+/// A text that is done, `top` and the words after it.
+fn set(top: usize, words: Vec<u32>) -> (Typed, Vec<u32>) {
+    (Typed { status: 0, value: 0, top }, words)
+}
+
+/// Asserts that a text is refused where it stands, in a fresh store without a heap, and that nothing changes.
+#[track_caller]
+fn assert_refused(text: &str, status: u32, offset: usize) {
+    let before = words(16, &[]);
+    let expected = (Typed { status, value: offset, top: 16 }, before.clone());
+    assert_eq!(typed(&before, 16, 0, text), expected, "{text}");
+}
+
+#[test]
+fn t10_a_text_that_fits_and_no_room_for_it_again() {
+    let text = "65 (66 67) ()";
+    assert_eq!(typed(&words(21, &[]), 16, 1, text), set(21, three_terms()));
+    let full = Typed { status: 16, value: 0, top: 21 };
+    assert_eq!(typed(&three_terms(), 21, 0, text), (full, three_terms()));
+}
+
+#[test]
+fn t11_the_order_of_the_cells() {
+    let expected = words(
+        24,
+        &[
+            (0, [20, EMPTY + 23]),
+            (16, [3, 0]),
+            (17, [2, 0]),
+            (18, [16, EMPTY + 16]),
+            (19, [4, 0]),
+            (20, [1, 0]),
+            (21, [17, EMPTY + 19]),
+            (22, [5, 0]),
+            (23, [0, EMPTY]),
+        ],
+    );
+    assert_eq!(typed_fresh(24, "1 (2 (3) 4) 5 ()"), set(24, expected));
+}
+
+#[test]
+fn t12_what_was_printed() {
+    assert_eq!(typed_fresh(17, "()"), set(17, nest(1).0));
+    assert_eq!(typed_fresh(17, "268435455"), set(17, lone(268_435_455)));
+    assert_eq!(typed_fresh(17, "100000002"), set(17, lone(100_000_002)));
+    assert_eq!(typed_fresh(17, "0"), set(17, lone(0)));
+    let text = "(".repeat(64) + &")".repeat(64);
+    assert_eq!(typed_fresh(80, &text), set(80, nest(64).0));
+}
+
+#[test]
+fn t13_no_bytes() {
+    let mut expected = lone(7);
+    expected[..2].copy_from_slice(&[0, EMPTY]);
+    assert_eq!(typed(&lone(7), 17, 0, ""), set(17, expected));
+}
+
+#[test]
+fn t14_room() {
+    let dead = words(17, &[(16, [7, 0])]);
+    let full = Typed { status: 16, value: 0, top: 16 };
+    assert_eq!(typed(&dead, 17, 0, "1 1"), (full, words(17, &[])));
+    assert_eq!(typed(&dead, 17, 0, "9"), set(17, lone(9)));
+    assert_eq!(typed_fresh(16, "1"), (full, words(16, &[])));
+}
+
+#[test]
+fn t15_to_t17_no_texts() {
+    for text in [" ", ")", "x"] {
+        assert_refused(text, 23, 0);
+    }
+    for (text, offset) in [
+        ("01", 1),
+        ("1)", 1),
+        ("1(", 1),
+        ("1  2", 2),
+        ("( )", 1),
+        ("(1 )", 3),
+        ("()1", 2),
+        ("())", 2),
+    ] {
+        assert_refused(text, 23, offset);
+    }
+    for text in ["1 ", "(", "(1", "() "] {
+        assert_refused(text, 23, text.len());
+    }
+}
+
+#[test]
+fn t18_codes_over_the_limit() {
+    assert_refused("268435456", 13, 8);
+    assert_refused("99999999999", 13, 8);
+    assert_refused("(268435456", 13, 9);
+}
+
+#[test]
+fn t19_brackets_over_the_limit() {
+    let open = |brackets| "(".repeat(brackets);
+    assert_refused(&open(70), 21, 64);
+    assert_refused(&(open(64) + "1("), 23, 65);
+    assert_refused(&(open(64) + ") (("), 21, 67);
+    assert_refused(&(open(64) + &")".repeat(64) + "x"), 23, 128);
+}
+
+#[test]
+fn t20_the_last_register_and_one_that_is_none() {
+    let expected = words(17, &[(15, [16, EMPTY + 16]), (16, [7, 0])]);
+    assert_eq!(typed(&words(17, &[]), 16, 15, "7"), set(17, expected));
+    let none = Typed { status: 20, value: 0, top: 16 };
+    assert_eq!(typed(&words(17, &[]), 16, 16, "x"), (none, words(17, &[])));
+}
+
+#[test]
+fn t21_damage_is_judged_first() {
+    let words = words(20, &[(16, [1, 0]), (17, [2, 0]), (18, [16, EMPTY + 18])]);
+    let damaged = Typed { status: 3, value: 18, top: 19 };
+    assert_eq!(typed(&words, 19, 16, "x"), (damaged, words));
 }
 
 #[test]

@@ -1,12 +1,12 @@
-//! Random cases for the definitions, as a module of antt: stores, calls, answer spaces, text spaces and
-//! inputs with what the model makes of them.
+//! Random cases for the definitions, as a module of antt: stores, calls, answer spaces, text spaces, texts
+//! and inputs with what the model makes of them.
 //!
 //! `cases COUNT` writes the module to standard output. The definitions compute each case when the
 //! module is checked. A group of cases is one theorem, so that a refusal names its group.
 
 use std::fmt::Write;
 use zelmotar_model::make::{self, Runs};
-use zelmotar_model::plain::{self, Reply, Text, FIRST_HEAP_CELL};
+use zelmotar_model::plain::{self, Reply, Text, Typed, FIRST_HEAP_CELL};
 use zelmotar_model::random::Random;
 
 /// The cases of one theorem.
@@ -15,7 +15,7 @@ const GROUP: usize = 20;
 /// Stores stay small: the definitions are computed by unfolding, which is slow on long lists.
 const MAX_CELLS: usize = 30;
 
-/// And so do text spaces, all but a few in which as many brackets fit as may be open.
+/// And so do text spaces and texts, all but a few in which as many brackets fit as may be open.
 const MAX_TEXT: usize = 60;
 
 /// Everything before the cases: their type, and the test of each kind.
@@ -43,6 +43,10 @@ use Rattle.meaning.specs.Call.{keeps, sought, planOf, lacks, roomWords, roomTop
 use Rattle.meaning.specs.Call.{stepAfter, step}
 use Rattle.meaning.specs.Batch.{Outcome, ended, callsTest, batchOf, batch}
 use Rattle.meaning.specs.Text.{Printed, leftAfter, tooDeep, printed, printIn}
+use Rattle.meaning.specs.Judge.{isDigit, withDigit, firstMove, laterMove, moreMove}
+use Rattle.meaning.specs.Reader.{atStart, isWhole, stopVerdict, read, blank}
+use Rattle.meaning.specs.Lay.{newCells}
+use Rattle.meaning.specs.Typed.{typedOf, typeIn}
 use Rattle.meaning.specs.Program.{written, refusal, output, inputFault, program}
 use Rattle.meaning.specs.Rows.{same}
 
@@ -52,6 +56,7 @@ data Case : Type 0 where
   makes : List ℕ → ℕ → List ℕ → ℕ → Case
   looks : List ℕ → ℕ → ℕ → ℕ → ℕ → Case
   prints : List ℕ → ℕ → ℕ → ℕ → ℕ → ℕ → ℕ → List ℕ → Case
+  types : List ℕ → ℕ → ℕ → List ℕ → ℕ → ℕ → List ℕ → ℕ → Case
   writes : List ℕ → List ℕ → Case
 
 verdict : Verdict → ℕ → ℕ → Bool
@@ -77,6 +82,7 @@ right (collects ws top s v ws′ top′) = left (collectIn firstHeapCell ws top)
 right (makes ws s ws′ top′) = left (freshIn firstHeapCell ws) s 0 ws′ top′
 right (looks ws top i from to) = span (lookSpan firstHeapCell ws top i) from to
 right (prints ws top i n s v m t) = textual (printIn firstHeapCell ws top i n) s v m t
+right (types ws top d bs s v ws′ top′) = left (typeIn firstHeapCell ws top d bs) s v ws′ top′
 right (writes input said) = same (program firstHeapCell input) said
 
 every : List Case → Bool
@@ -91,7 +97,8 @@ unfolding limit codeTest callsLimit programCells programBytes at reached live ne
     lookSpan ops opAt uses wrong11 wrong12 wrong13 fault put copy share head rest openTerm openFirst codeTerm
     codeFirst newSymbol newBracket newRunOf newRun names isOperand keeps sought planOf lacks roomWords roomTop
     withRoom carryOut perform stepAfter step ended callsTest batchOf batch decimal written refusal output inputFault
-    program depthLimit meaning leftAfter tooDeep filled printed printIn verdict outcome left span textual right every";
+    program depthLimit meaning leftAfter tooDeep filled printed printIn isDigit withDigit firstMove laterMove moreMove
+    atStart isWhole stopVerdict read blank newCells typedOf typeIn verdict outcome left span textual right every";
 
 /// A list of numbers in antt.
 fn list<T: std::fmt::Display>(numbers: &[T]) -> String {
@@ -180,6 +187,35 @@ fn print(random: &mut Random) -> String {
     )
 }
 
+/// A short text, or one that nests brackets too deep, or nearly; whole, spoilt or cut.
+fn text(random: &mut Random) -> Vec<u8> {
+    let most = random.pick(&[MAX_TEXT, MAX_TEXT, 140]);
+    let mut text = make::text(random);
+    while text.len() > most {
+        text = make::text(random);
+    }
+    match random.below(4) {
+        0 => make::spoil_text(random, &mut text),
+        1 => make::cut_text(random, &mut text),
+        _ => {}
+    }
+    text
+}
+
+/// A text typed into a register, or into a number that is none, of a store with about as much room as it
+/// needs.
+fn typed(random: &mut Random) -> String {
+    let ((mut words, top), text) = (store(random), text(random));
+    if plain::check(&words, top).status == 0 {
+        let need = plain::read(&text).map_or(0, |(cells, _)| cells.len());
+        make::crowd(random, &mut words, top, need);
+    }
+    let register = random.below(FIRST_HEAP_CELL + 2);
+    let lent = format!("{} {top} {register} {}", list(&words), list(&text));
+    let Typed { status, value, top } = plain::type_in(&mut words, top, register, &text);
+    format!("types {lent} {status} {value} {} {top}", list(&words))
+}
+
 /// The little-endian word that four bytes spell.
 fn word(bytes: &[u8]) -> u32 {
     u32::from_le_bytes(bytes.try_into().expect("four bytes"))
@@ -216,12 +252,13 @@ fn program(random: &mut Random) -> String {
 
 /// One case of any kind, batches more often than not.
 fn case(random: &mut Random) -> String {
-    match random.below(13) {
+    match random.below(17) {
         0..=4 => batch(random),
         5..=6 => collection(random),
         7 => fresh(random),
         8 => look(random),
         9..=11 => print(random),
+        12..=15 => typed(random),
         _ => program(random),
     }
 }
