@@ -40,10 +40,10 @@
  *     many calls costs less than many batches of one. What comes on top is said with each function. None takes
  *     longer because cells are shared, but for zelmotar_print, which writes a shared cell wherever it is held;
  *     its time keeps within what the text space allows.
- *   - Stack. zelmotar_print uses under 13,312 bytes where 64 brackets are open, and 192 less for each that is not;
- *     zelmotar_type uses under 20,000, zelmotar_run under 512, zelmotar_collect under 192, the others under 128,
- *     memset's own included: measured on x86-64 and 64-bit Arm by painting the stack (tests/c/stack.c). It does not
- *     grow with the store or with the length of a text.
+ *   - Stack. Where 64 brackets are open zelmotar_print uses under 13,312 bytes and zelmotar_type under 11,264; for
+ *     each that is not, 192 and 144 less. zelmotar_run uses under 512, zelmotar_collect under 192, the others under
+ *     128, memset's own included: measured on x86-64 and 64-bit Arm by painting the stack (tests/c/stack.c). It does
+ *     not grow with the store or with the length of a text.
  */
 #ifndef ZELMOTAR_H
 #define ZELMOTAR_H

@@ -16,11 +16,8 @@
 
 enum { CHECK, FRESH, COLLECT, RUN, LOOK, PRINT, TYPE, FUNCTIONS };
 
-/* What typing stays under, as the others below, where 64 brackets are open. */
-#define UNDER_TYPE 20000
-
 static const char *const names[FUNCTIONS] = {"check", "fresh", "collect", "run", "look", "print", "type"};
-static const size_t under[FUNCTIONS] = {128, 128, 192, 512, 128, 13312, UNDER_TYPE}; /* as zelmotar.h says */
+static const size_t under[FUNCTIONS] = {128, 128, 192, 512, 128, 13312, 11264}; /* as zelmotar.h says */
 
 static struct test_case c;
 static uint32_t words[MOST_STORE], answers[MOST_ANSWERS];
