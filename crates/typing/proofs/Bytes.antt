@@ -6,24 +6,23 @@
 --   decimal-first, decimal-goes-on                 its first byte is a digit, so a term stands there
 --   goes-inside                                    where a term stands, there is a byte
 -- Assumes nothing.
-use mathlib.Core.Path.{_≡_, refl, sym, ap, _∙_, subst}
-use mathlib.Core.Bool.{Bool, true, false, cond, _&&_, not, false≢true}
+use mathlib.Core.Path.{_≡_, refl, sym, ap, _∙_}
+use mathlib.Core.Bool.{Bool, true, false, cond, false≢true}
 use mathlib.Core.List.{List, [], _∷_, _++_}
 use mathlib.Core.Logic.{_⊎_, inl, inr}
-use Prim.Native.Nat.{ℕ, zero, suc, _+_, _-_, _*_, _/_, _%_, _^_, _≤_, _<_}
+use Prim.Native.Nat.{ℕ, zero, suc, _+_, _-_, _^_, _≤_, _<_}
 use native.Mathlib.Omega.{arith}
 use native.Mathlib.Nat.{not-suc-le-zero}
-use lib.Dec.{leb, eqb}
-use lib.ListN.{length, getD, drop, drop-of-length-le, length-append}
+use lib.ListN.{length, getD, drop, drop-of-length-le}
 use lib.Seq.{drop-cons}
-use borrow.Author.Tests.{leb-true, le-leb, ne-eqb}
+use borrow.Author.Tests.{le-leb, ne-eqb}
 use Rattle.bytes.specs.Decimal.{decimal}
 use Rattle.bytes.specs.Claims.{valueAfter, AllDigits}
 use Rattle.bytes.proofs.Decimals.{length-one, length-more, decimal-back, only-digits}
 use Rattle.meaning.specs.Judge.{isDigit, withDigit}
 use Rattle.meaning.proofs.Lists.{lt-or-ge}
 use Rattle.meaning.proofs.reader.Moves.{digit-range}
-use Rattle.typing.specs.Scanning.{goesOn, lessSpace, digitNext, codeAt, lessDigits}
+use Rattle.typing.specs.Scanning.{goesOn, digitNext, codeAt, lessDigits}
 
 -- a byte at place n, or none
 pub drop-in : (bs : List ℕ) (n : ℕ) → n < length bs → drop n bs ≡ getD bs n 0 ∷ drop (suc n) bs

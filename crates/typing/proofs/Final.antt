@@ -8,7 +8,6 @@ use Rattle.meaning.specs.Verdicts.{Verdict, Done, onZero}
 use Rattle.store.proofs.Refusals.{unsoundOf, unsoundOf-back, refusal-by}
 use Rattle.store.specs.Answers.{refusalOf}
 use Rattle.store.specs.declared.Unsound.{Unsound}
-use Rattle.reader.specs.declared.judging.Fault.{Fault}
 use Rattle.reader.specs.declared.judging.Fault.the-variants as fault
 use Rattle.typing.specs.Answers.{typedIn}
 use Rattle.typing.specs.Unique.{OneType}

@@ -4,25 +4,21 @@
 --   begin, room, ready-term, filled      before the first term;  what is needed for the next
 --   onward, finish                       one term more;  the last term is done, and what waits is turned round
 -- Assumes nothing.
-use mathlib.Core.Path.{_≡_, refl, sym, ap, ap₂, _∙_, subst}
-use mathlib.Core.Bool.{Bool, true, false, false≢true}
-use mathlib.Core.List.{List, [], _∷_, _++_, append-assoc, append-nil}
-use Prim.Native.Nat.{ℕ, zero, suc, _+_, _-_, _*_, _≤_, _<_}
+use mathlib.Core.Path.{_≡_, refl, sym, ap, _∙_, subst}
+use mathlib.Core.Bool.{true, false, false≢true}
+use mathlib.Core.List.{List, [], _∷_, _++_, append-assoc}
+use Prim.Native.Nat.{ℕ, zero, suc, _+_, _-_, _≤_, _<_}
 use native.Mathlib.Omega.{arith}
-use lib.Dec.{eqb}
 use lib.ListN.{length, drop, length-append}
-use Rattle.meaning.specs.Limits.{limit}
 use Rattle.meaning.specs.Expr.{Expr, nothing, symbol, parens, append, terms, firstTerm, lessFirst}
-use Rattle.meaning.specs.Sound.{Cell, code}
+use Rattle.meaning.specs.Sound.{Cell}
 use Rattle.bytes.specs.Decimal.{decimal}
 use Rattle.meaning.specs.Text.{gap, text, Readable}
-use Rattle.meaning.specs.Lay.{allTerms, lastBelow, ownCells, deepCells, laid}
-use Rattle.meaning.specs.Actions.{put}
+use Rattle.meaning.specs.Lay.{allTerms, ownCells, deepCells, laid}
 use Rattle.meaning.proofs.meaning.Terms.{append-append, append-nothing, terms-append}
-use Rattle.typing.specs.Cells.{two, twoOf, LieFrom, LieBelow, Kept, Turned}
-use Rattle.typing.specs.Scanning.{goesOn, lessSpace}
+use Rattle.typing.specs.Cells.{LieFrom, LieBelow, Kept, Turned}
+use Rattle.typing.specs.Scanning.{goesOn}
 use Rattle.typing.specs.Laying.{Ends, Ready, LaidAs, TermLaidAs}
-use Rattle.typing.specs.declared.laying.Laid.{Laid}
 use Rattle.typing.specs.declared.laying.Place.{Place}
 use Rattle.typing.proofs.Bytes.{decimal-goes-on}
 use Rattle.typing.proofs.Twos.{kept-all, kept-then, lie-append, lie-kept, wait-append, wait-kept}

@@ -5,31 +5,29 @@
 --   bracket-laid, code-small, symbol-laid         the term laid
 -- Assumes nothing.
 use mathlib.Core.Path.{_≡_, refl, sym, ap, ap₂, _∙_, subst}
-use mathlib.Core.Bool.{Bool, true, false, false≢true}
 use mathlib.Core.List.{List, [], _∷_, _++_, append-assoc, append-nil}
 use Prim.Native.Nat.{ℕ, zero, suc, _+_, _-_, _*_, _^_, _≤_, _<_}
 use mathlib.Core.Logic.{_≢_}
 use native.Mathlib.Omega.{arith}
 use lib.ListN.{length, getD, drop}
-use borrow.Author.Tests.{leb-true}
 use Rattle.meaning.specs.Limits.{limit}
-use Rattle.meaning.specs.Expr.{Expr, nothing, symbol, parens, terms, firstTerm, lessFirst}
-use Rattle.meaning.specs.Sound.{Cell, code, IsCode}
+use Rattle.meaning.specs.Expr.{Expr, nothing, symbol, parens, terms}
+use Rattle.meaning.specs.Sound.{Cell, code}
 use Rattle.bytes.specs.Decimal.{decimal}
 use Rattle.meaning.specs.Text.{gap, text, Readable}
 use Rattle.meaning.specs.Judge.{isDigit}
-use Rattle.meaning.specs.Lay.{allTerms, lastBelow, ownCells, deepCells, laid}
+use Rattle.meaning.specs.Lay.{allTerms, lastBelow, laid}
 use Rattle.meaning.specs.Actions.{put}
 use Rattle.meaning.proofs.sound.Cells.{code-fits}
 use Rattle.meaning.proofs.reader.Moves.{digit-range}
-use Rattle.typing.specs.Cells.{two, twoOf, LieFrom, LieBelow, Kept}
+use Rattle.typing.specs.Cells.{two, twoOf, LieFrom, Kept}
 use Rattle.typing.specs.Scanning.{goesOn, lessSpace, codeAt, lessDigits}
-use Rattle.typing.specs.Laying.{Ends, Ready, LaidAs, TermLaidAs, CanLay, IsLaid}
+use Rattle.typing.specs.Laying.{Ends, Ready, TermLaidAs, CanLay, IsLaid}
 use Rattle.typing.specs.declared.laying.Laid.{Laid}
 use Rattle.typing.specs.declared.scanning.Scanned.{Scanned}
 use Rattle.typing.proofs.Bytes.{goes-inside, drop-in}
 use Rattle.typing.proofs.Bytes.{NoDigit, drop-inside, decimal-code, decimal-left, decimal-first}
-use Rattle.typing.proofs.Twos.{kept-all, kept-then, kept-wide, kept-put, two-put-same, lie-kept}
+use Rattle.typing.proofs.Twos.{kept-then, kept-wide, kept-put, two-put-same, lie-kept}
 use Rattle.meaning.proofs.lay.Places.{laid-length, deep-length}
 use Rattle.typing.proofs.Going.{filled-goes-on, some-terms}
 

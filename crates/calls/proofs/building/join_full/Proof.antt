@@ -6,7 +6,6 @@ use Rattle.meaning.specs.Limits.{firstHeapCell}
 use Rattle.meaning.specs.Actions.{newRun}
 use Rattle.meaning.proofs.call.Plans.{sought-meaning}
 use Rattle.store.proofs.Sounds.{firstHeapCell-pos}
-use Rattle.store.proofs.Registers.{run-below}
 use Rattle.build.proofs.Rooms.{room-roomy, room-does, room-refuses, room-size}
 use Rattle.calls.proofs.building.join_full.Statement.{statement}
 use Rattle.calls.proofs.building.join_full.Tie as tie

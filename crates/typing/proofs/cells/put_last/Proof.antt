@@ -1,6 +1,5 @@
 -- `typing::cells::put_last` meets its contract. Assumes nothing.
 use mathlib.Core.Path.{_∙_}
-use native.Mathlib.Omega.{arith}
 use borrow.Author.Needs.{needs}
 use Rattle.typing.proofs.Twos.{last-none, last-some}
 use Rattle.typing.proofs.cells.put_last.Statement.{statement}

@@ -1,5 +1,5 @@
 -- `typing::cells::turn` meets its contract. Assumes nothing.
-use mathlib.Core.Path.{_≡_, sym, _∙_, subst}
+use mathlib.Core.Path.{_≡_, sym, subst}
 use mathlib.Core.List.{List}
 use Prim.Native.Nat.{ℕ, _+_, _-_, _/_, _≤_, min}
 use native.Mathlib.Omega.{arith}
