@@ -1,5 +1,5 @@
-// Room for new cells: the store is collected where `top` and the need exceed the capacity, and only then. The need may be
-// any number, so what is free is compared with it and no sum is taken.
+// Room for new cells: the store is collected where `top` and the need exceed the capacity, and only then. The need may
+// be any number, so what is free is compared with it and no sum is taken.
 ghost use Prim.Native.Nat.{_<_};
 ghost use Rattle.meaning.specs.Limits.{firstHeapCell};
 ghost use Rattle.meaning.specs.Sound.{Sound};

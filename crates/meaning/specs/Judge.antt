@@ -1,6 +1,6 @@
--- The judgement of a byte of a text that is read (SCOPE 5.8): by where the reader stands, how many brackets are open and
--- the code so far, the byte goes on in one of five ways, or stops the reading with a status. Reading a text (Reader) is a
--- fold of it. Assumes nothing.
+-- The judgement of a byte of a text that is read (SCOPE 5.8): by where the reader stands, how many brackets are open
+-- and the code so far, the byte goes on in one of five ways, or stops the reading with a status. Reading a text
+-- (Reader) is a fold of it. Assumes nothing.
 use mathlib.Core.Bool.{Bool, cond, _&&_}
 use Prim.Native.Nat.{ℕ, _+_, _-_, _*_}
 use lib.Dec.{ltb, leb, eqb}

@@ -11,7 +11,8 @@ use Rattle.meaning.specs.Call.{Plan, laying, sought, carryOut}
 use Rattle.meaning.specs.Reader.{Draft, reads, blank, isWhole, stopVerdict, expression}
 use Rattle.meaning.specs.Lay.{allTerms, newCells}
 
--- Register d is set to the expression e in new cells. It has no operand registers, so d is not kept while room is sought.
+-- Register d is set to the expression e in new cells. It has no operand registers, so d is not kept while room is
+-- sought.
 abbrev pub typePlan : ℕ → Expr → List ℕ → Plan
 typePlan d e ws = laying (allTerms e) (sought false d ws) (newCells d e)
 

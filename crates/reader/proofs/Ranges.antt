@@ -35,7 +35,11 @@ record InRange (r : Reader) (i : ℕ) : Type 0 where
 -- the next byte, wherever it leads: to numbers that grow by one at most
 stays : (r q : Reader) (i : ℕ) → InRange r i → q .offset ≡ suc (r .offset) → q .depth ≤ suc (r .depth)
     → q .total ≤ suc (r .total) → InRange q (suc i)
-stays r q i k o d t = record { far = omega (arith, k .far); deep = omega (arith, k .deep); many = omega (arith, k .many) }
+stays r q i k o d t = record {
+  far = omega (arith, k .far);
+  deep = omega (arith, k .deep);
+  many = omega (arith, k .many);
+}
 
 advance-range : (b : ℕ) (r : Reader) (i : ℕ) → InRange r i → InRange (advance b r) (suc i)
 unfolding advance

@@ -1,3 +1,3 @@
--- The definitions that the contracts of `reader` cite: the reader of the code as the definitions have it, and what a text
--- is found to be. Assumes nothing.
+-- The definitions that the contracts of `reader` cite: the reader of the code as the definitions have it, and what a
+-- text is found to be. Assumes nothing.
 pub mod Readers

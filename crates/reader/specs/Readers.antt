@@ -61,8 +61,8 @@ isStopped (number a) = false
 isStopped closed = false
 isStopped (stopped s) = true
 
--- whatever code is kept, of where the reader stands: that a text may end there, and with no bracket open; why it may not;
--- that a byte has stopped the reader
+-- whatever code is kept, of where the reader stands: that a text may end there, and with no bracket open; why it may
+-- not; that a byte has stopped the reader
 abbrev pub MayEnd : Stand → Bool → Type 0
 MayEnd s r = (a : ℕ) → r ≡ mayEnd (standOf s a)
 

@@ -1,6 +1,6 @@
-// The judgement of a byte of a text that is read (SCOPE 5.8): where the reader stands, how many brackets are open and the
-// code so far decide what a byte does. A text is read by one judgement after the other. No case of a stand or a move has
-// a number of its own beside it: the compiler can then go from a judgement right to what it leads to.
+// The judgement of a byte of a text that is read (SCOPE 5.8): where the reader stands, how many brackets are open and
+// the code so far decide what a byte does. A text is read by one judgement after the other. No case of a stand or a
+// move has a number of its own beside it: the compiler can then go from a judgement right to what it leads to.
 ghost use mathlib.Core.Path.{_≡_};
 ghost use Prim.Native.Nat.{_≤_, _<_, _^_};
 ghost use Rattle.meaning.specs.Judge.{isDigit, withDigit, firstMove, laterMove, moreMove, judge};

@@ -12,8 +12,8 @@ use crate::judging::with_digit;
 
 pub mod judging;
 
-// Where the reader stands, the last code as far as it is read, the offset of the next byte or of the one that stopped it,
-// the brackets that are open, and the terms begun on all levels.
+// Where the reader stands, the last code as far as it is read, the offset of the next byte or of the one that stopped
+// it, the brackets that are open, and the terms begun on all levels.
 pub struct Reader {
     pub stand: Stand,
     pub code: u32,

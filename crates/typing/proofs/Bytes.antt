@@ -1,5 +1,5 @@
 -- The bytes of a text from some place on. In order:
---   drop-in, drop-past, drop-inside                a byte at a place, or none;  where something is left, there is a byte
+--   drop-in, drop-past, drop-inside                a byte at a place, or none;  where something is left, there is one
 --   codeAt-le                                      a code only grows
 --   Numbering, digit-inside, number-onward .. -end   a number, a digit a turn
 --   NoDigit, decimal-code, decimal-left            the digits of a code, read where no digit follows

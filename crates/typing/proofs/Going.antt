@@ -216,7 +216,8 @@ module _ {ws bs : List ℕ} {at low high left : ℕ} {e : Expr} {rest : List ℕ
         (lie-kept vs us low (deepCells low (g .done)) (λ c p q. t .kept .below c (omega (arith, g .here))) (g .cells))
         turned
 
-    pub finish : LaidAs ws bs low high e rest (record { next = next; end = end + (high - wait); terms = high - wait }) us
+    pub finish : LaidAs ws bs low high e rest
+        (record { next = next; end = end + (high - wait); terms = high - wait }) us
     finish = record {
       next = g .bytes ∙ ap (λ (y : Expr). text y ++ rest) none;
       end = omega (arith, g .here, count, deep-length low (g .done), ap allTerms all);

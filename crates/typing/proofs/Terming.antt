@@ -77,10 +77,12 @@ module _ {ws bs : List ℕ} {at low high left : ℕ} where
   own-inside e rest r f = omega (arith, r .fits, some-terms e f, r .room)
 
   -- a symbol's text begins with a digit, and a bracket's with `(`
-  no-symbol : (a : ℕ) (e : Expr) (rest : List ℕ) → Ready ws bs at low high left (symbol a e) rest → getD bs at 0 ≡ 40 → ⊥
+  no-symbol : (a : ℕ) (e : Expr) (rest : List ℕ) → Ready ws bs at low high left (symbol a e) rest → getD bs at 0 ≡ 40
+      → ⊥
   no-symbol a e rest r h =
       let l = byte-inside (symbol a e) rest r (omega arith) in
-      let d = decimal-first a ((gap e ++ text e) ++ rest) (sym (drop-in bs at l) ∙ (r .bytes ∙ symbol-bytes a e rest)) in
+      let d = decimal-first a ((gap e ++ text e) ++ rest)
+      (sym (drop-in bs at l) ∙ (r .bytes ∙ symbol-bytes a e rest)) in
       omega (arith, digit-range (getD bs at 0) d .0)
 
   -- a bracket may be open only where one more may
@@ -103,8 +105,8 @@ module _ {ws bs : List ℕ} {at low high left : ℕ} where
         small = omega (arith, r .small);
       }
 
-  pub can-lay-inside : (e : Expr) (rest : List ℕ) → Ready ws bs at low high left e rest → 0 < terms e → getD bs at 0 ≡ 40
-      → CanLay ws bs (at + 1) low (high - 1) (left - 1)
+  pub can-lay-inside : (e : Expr) (rest : List ℕ) → Ready ws bs at low high left e rest → 0 < terms e
+      → getD bs at 0 ≡ 40 → CanLay ws bs (at + 1) low (high - 1) (left - 1)
   can-lay-inside nothing rest r f h = absurd (omega arith)
   can-lay-inside (symbol a e) rest r f h = absurd (no-symbol a e rest r h)
   can-lay-inside (parens i e) rest r f h = (i, 41 ∷ (gap e ++ text e) ++ rest, bracket-ready i e rest r)
@@ -164,8 +166,8 @@ module _ {ws bs : List ℕ} {at low high left : ℕ} where
                 (omega (arith, r .fits)) (omega (arith, r .fits)));
           }
 
-      pub bracket-laid : (e : Expr) (rest : List ℕ) → Ready ws bs at low high left e rest → 0 < terms e → getD bs at 0 ≡ 40
-          → TermLaidAs ws bs low high e rest (record { next = n; end = l .end }) us
+      pub bracket-laid : (e : Expr) (rest : List ℕ) → Ready ws bs at low high left e rest → 0 < terms e
+          → getD bs at 0 ≡ 40 → TermLaidAs ws bs low high e rest (record { next = n; end = l .end }) us
       bracket-laid nothing rest r f h = absurd (omega arith)
       bracket-laid (symbol a e) rest r f h = absurd (no-symbol a e rest r h)
       bracket-laid (parens i e) rest r f h = laid-bracket i e rest r
@@ -174,7 +176,8 @@ module _ {ws bs : List ℕ} {at low high left : ℕ} where
   no-bracket : (i e : Expr) (rest : List ℕ) → Ready ws bs at low high left (parens i e) rest → getD bs at 0 ≢ 40 → ⊥
   no-bracket i e rest r h = h (drop-inside bs at (r .bytes ∙ parens-bytes i e rest) .1)
 
-  code-is : (a : ℕ) (e : Expr) (rest : List ℕ) → Ready ws bs at low high left (symbol a e) rest → codeAt 0 (drop at bs) ≡ a
+  code-is : (a : ℕ) (e : Expr) (rest : List ℕ) → Ready ws bs at low high left (symbol a e) rest
+      → codeAt 0 (drop at bs) ≡ a
   code-is a e rest r =
       ap (codeAt 0) (r .bytes ∙ symbol-bytes a e rest)
       ∙ decimal-code a ((gap e ++ text e) ++ rest) (gap-no-digit e rest (r .over))

@@ -111,8 +111,10 @@ lie-append ws c (x ∷ xs) ys h k =
 pub lie-kept : (ws vs : List ℕ) (c : ℕ) (xs : List Cell)
     → ((x : ℕ) → c ≤ x → x < c + length xs → two vs x ≡ two ws x) → LieFrom ws c xs → LieFrom vs c xs
 lie-kept ws vs c [] f h = tt
-lie-kept ws vs c (x ∷ xs) f h =
-    (f c (omega arith) (omega arith) ∙ h .0, lie-kept ws vs (suc c) xs (λ y p q. f y (omega arith) (omega arith)) (h .1))
+lie-kept ws vs c (x ∷ xs) f h = (
+  f c (omega arith) (omega arith) ∙ h .0,
+  lie-kept ws vs (suc c) xs (λ y p q. f y (omega arith) (omega arith)) (h .1),
+)
 
 pub wait-kept : (ws vs : List ℕ) (c : ℕ) (xs : List Cell) → length xs ≤ c
     → ((x : ℕ) → c ≤ x + length xs → x < c → two vs x ≡ two ws x) → LieBelow ws c xs → LieBelow vs c xs

@@ -27,8 +27,8 @@ fn smaller(a: usize, b: usize) -> usize
     if a < b { a } else { b }
 }
 
-// The n cells below `high` come to lie from `low` on, the highest first. Where the two runs overlap, all cells from `low`
-// up to `high` are turned round; else each cell changes places with its own.
+// The n cells below `high` come to lie from `low` on, the highest first. Where the two runs overlap, all cells from
+// `low` up to `high` are turned round; else each cell changes places with its own.
 pub fn turn(ws: &mut [u32], low: usize, high: usize, n: usize)
     requires { ⌜ (low + n ≤ high) × (2 * high ≤ length (now ws)) ⌝ }
     ensures { λ _. ⌜ Turned (now (ws .entry)) low high n (now (ws .exit)) ⌝ }

@@ -1,10 +1,10 @@
-// A text that has been read whole is laid in the free cells of a store, one cell a term, in one pass over its bytes. The
-// cells from `low` up to but not including `high` are free. What is laid grows up from `low`. The cells of an
+// A text that has been read whole is laid in the free cells of a store, one cell a term, in one pass over its bytes.
+// The cells from `low` up to but not including `high` are free. What is laid grows up from `low`. The cells of an
 // expression's own terms wait below `high`, the first of them highest, until the contents of all its brackets are laid;
 // then they are turned round into their place.
 //
-// The two functions call each other, as deep as brackets stand within one another. `left` says how deep that may be: the
-// text has no more brackets within one another, so from DEPTH_LIMIT on they are never more than that many deep.
+// The two functions call each other, as deep as brackets stand within one another. `left` says how deep that may be:
+// the text has no more brackets within one another, so from DEPTH_LIMIT on they are never more than that many deep.
 ghost use Rattle.typing.specs.Laying.{CanLay, CanLayTerm, IsLaid, TermIsLaid};
 use crate::cells::put_last;
 use crate::cells::turn;

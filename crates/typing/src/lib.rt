@@ -1,5 +1,5 @@
-// A register typed in (SCOPE 5.8): the way back from a printed text. The store is checked first, then the register, then
-// the whole text is read, and only then is room made and the text laid. Register d is set last.
+// A register typed in (SCOPE 5.8): the way back from a printed text. The store is checked first, then the register,
+// then the whole text is read, and only then is room made and the text laid. Register d is set last.
 ghost use mathlib.Core.Path.{_≡_};
 ghost use mathlib.Core.Bool.{false};
 ghost use Prim.Native.Nat.{_<_};
@@ -24,8 +24,8 @@ mod cells;
 mod laying;
 mod scanning;
 
-// What typing answers: the new `top`; why the store is unsound; that the register is none; why the text is refused, and at
-// which byte; or the `top` of the collected store, which has no room.
+// What typing answers: the new `top`; why the store is unsound; that the register is none; why the text is refused, and
+// at which byte; or the `top` of the collected store, which has no room.
 pub enum Typed {
     Done(usize),
     Refused(Unsound),

@@ -12,8 +12,8 @@ returns c = (sym (c .before .is-whole .ensures _) ∙ c .if1 .taken, refl)
 returns-2 : tie.Need-returns-2
 unfolding isWhole stopVerdict
 returns-2 c =
-    let r = c .before .before .before .args .r in
-    (sym (c .before .before .is-whole .ensures _) ∙ c .before .if1 .left, rw (sym (c .stop-fault .ensures (r .code))) refl)
+    let code = c .before .before .before .args .r .code in
+    (sym (c .before .before .is-whole .ensures _) ∙ c .before .if1 .left, rw (sym (c .stop-fault .ensures code)) refl)
 
 pub finish-spec : {M : Type 1} → statement M
 finish-spec = tie.close (tie.spec (λ c κs. search needs) returns (λ c κs. search needs) returns-2)

@@ -46,5 +46,5 @@ pub read-spec : {M : Type 1} → statement M
 read-spec =
     tie.close
     (tie.spec
-    Inv-loop μ-loop (λ c. (begin _, omega arith)) (λ c. omega arith) read-byte-requires (λ c κs. tt) (λ c κs. tt) returns
-    (λ c. omega arith) (λ c. omega arith) loop-again (λ c κs. tt) returns-2)
+    Inv-loop μ-loop (λ c. (begin _, omega arith)) (λ c. omega arith) read-byte-requires (λ c κs. tt) (λ c κs. tt)
+    returns (λ c. omega arith) (λ c. omega arith) loop-again (λ c κs. tt) returns-2)

@@ -163,7 +163,8 @@ pub +lay+lay-term-spec : {M : Type 1} → statement M
     (c .before .before .before .before .before .before .before .before .before .before .if1 .taken))
     -- a symbol
     (λ c κs. let p = c .before .before .before .before .pre .1 in code-small (p .0) (p .1) (p .2) (p .3) (c .if1 .left))
-    (λ c κs. let p = c .before .before .before .before .before .before .pre .1 in own-inside (p .0) (p .1) (p .2) (p .3))
+    (λ c κs.
+    let p = c .before .before .before .before .before .before .pre .1 in own-inside (p .0) (p .1) (p .2) (p .3))
     (λ c κs. tt)
     (λ c. c .before .before .before .put-symbol .kept .0)
     (λ c. λ e rest r f.
