@@ -1,5 +1,5 @@
--- A history as a list of batches and texts: a collection is a batch of one COLLECT, which is struck out again. So demand
--- 3 of the definitions is demand 3 of the code. Assumes nothing.
+-- A history as a list of batches and texts: a collection is a batch of one COLLECT, which is struck out again. So
+-- demand 3 of the definitions is demand 3 of the code. Assumes nothing.
 use mathlib.Core.Path.{_≡_, refl, sym, ap, ap₂, _∙_}
 use mathlib.Core.Bool.{Bool, true, false}
 use mathlib.Core.List.{List, [], _∷_, _++_}

@@ -73,8 +73,8 @@ firstHistory =
     (9 ∷ 9 ∷ 9 ∷ 9 ∷ 9 ∷ 9 ∷ 9 ∷ 9 ∷ 9 ∷ 9 ∷ []) (F + 4) (full pair) (0 ∷ 0 ∷ 16 ∷ 0 ∷ 0 ∷ 4 ∷ 0 ∷ 0 ∷ 0 ∷ 0 ∷ []) ∷
     []
 
--- SYMBOL 1 66; (7) typed into register 2, which has room; CLEAR 2, JOIN 2 0 1, for which the store is collected, COLLECT;
--- no call; WRAP 3 2, LIVE, CLEAR 2; a collection
+-- SYMBOL 1 66; (7) typed into register 2, which has room; CLEAR 2, JOIN 2 0 1, for which the store is collected,
+-- COLLECT; no call; WRAP 3 2, LIVE, CLEAR 2; a collection
 abbrev pub secondHistory : List Step
 secondHistory =
     run (2 ∷ 1 ∷ 66 ∷ 0 ∷ []) (9 ∷ 9 ∷ []) (F + 2) low (0 ∷ 0 ∷ []) ∷

@@ -120,8 +120,8 @@ PrintsNeverShow =
 
 -- ---- a typed text
 
--- done, with the `top` t: bs is the text of what it says; register d denotes that, and every other register what it did;
--- t is a cell for each term above the `top` of the store in which room is found
+-- done, with the `top` t: bs is the text of what it says; register d denotes that, and every other register what it
+-- did; t is a cell for each term above the `top` of the store in which room is found
 pub record TypedDone (ws : List ℕ) (top d : ℕ) (bs : List ℕ) (t : ℕ) (v : List ℕ) : Type 0 where
   pub sound : Sound firstHeapCell ws top × Sound firstHeapCell v t
   pub register : d < firstHeapCell

@@ -1,8 +1,8 @@
 -- Demand 3 of the code (SCOPE 8.3): two sound stores of equal capacity that are alike, each with a history of its own:
 -- batches by `calls::run`, none of them refused, texts by `typing::type_in`, and collections by `collect::collect`
--- anywhere between them. Each step is known only by what the function's contract promises. Where the calls and texts are
--- equal once COLLECT is struck out, so are the answers, and one more `collect::collect` of each leaves the same words,
--- `top` and live. That a store is sound is what `store::check` says (`CheckMeets`). Assumes nothing.
+-- anywhere between them. Each step is known only by what the function's contract promises. Where the calls and texts
+-- are equal once COLLECT is struck out, so are the answers, and one more `collect::collect` of each leaves the same
+-- words, `top` and live. That a store is sound is what `store::check` says (`CheckMeets`). Assumes nothing.
 use mathlib.Core.Path.{_≡_}
 use mathlib.Core.List.{List, [], _∷_, _++_}
 use Prim.Native.Nat.{ℕ, _*_, _/_}
@@ -33,16 +33,16 @@ pub data Step : Type 0 where
   -- a collection: done with this live and this `top`, and left these words
   collect : ℕ → ℕ → List ℕ → Step
 
--- Each step did as its function promises, on the words and the `top` that the one before left. A text's answer tells its
--- `top`: where none stands in it, it is the one lent.
+-- Each step did as its function promises, on the words and the `top` that the one before left. A text's answer tells
+-- its `top`: where none stands in it, it is the one lent.
 abbrev pub Happened : List ℕ → ℕ → List Step → Type 0
 Happened ws top [] = Unit {0}
 Happened ws top (run cs out t v a ∷ hs) = Runs ws top cs out (ran.Ended t) v a × Happened v t hs
 Happened ws top (type d bs r t v ∷ hs) = Types ws top d bs r v × (typedIn r top v .top ≡ t) × Happened v t hs
 Happened ws top (collect n t v ∷ hs) = Collects ws top (collected.Done n t) v × Happened v t hs
 
--- what was asked in all batches, call by call, and in texts; and what was answered: the first two words for each call of
--- a batch, and the numbers of a text's answer
+-- what was asked in all batches, call by call, and in texts; and what was answered: the first two words for each call
+-- of a batch, and the numbers of a text's answer
 abbrev pub asked : List Step → List Request
 asked [] = []
 asked (run cs out t v a ∷ hs) = requests cs ++ asked hs
