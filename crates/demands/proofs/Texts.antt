@@ -18,6 +18,7 @@ use Rattle.meaning.specs.Sound.{Sound}
 use Rattle.meaning.specs.Meaning.{meaning}
 use Rattle.meaning.specs.Verdicts.{only, Done, done}
 use Rattle.meaning.specs.Effect.{becomes}
+use Rattle.meaning.specs.Lay.{allTerms}
 use Rattle.meaning.specs.Text as text
 use Rattle.meaning.specs.Typed.{typeIn}
 use Rattle.meaning.proofs.typed.Cases.{type-cases}
@@ -35,10 +36,12 @@ use Rattle.typing.specs.declared.Typed.{Typed}
 use Rattle.typing.specs.declared.Typed.the-variants as typed
 use Rattle.promises.specs.Table.{Not, OneOf}
 use Rattle.promises.specs.Collecting.{CollectedFrom}
-use Rattle.promises.specs.Typing.{TypeTable}
+use Rattle.promises.specs.Typing.{said, typedFrom, TypeTable}
+use Rattle.promises.specs.Holding.{OwnAlone}
 use Rattle.promises.proofs.table.Rules.{judged-number}
 use Rattle.promises.proofs.typing.Again.{type-done, said-done}
-use Rattle.promises.proofs.Final.{collecting-keeps, writes-back, type-answers, printed-typed, typed-printed}
+use Rattle.promises.proofs.Final.{collecting-keeps, writes-back, type-answers, new-cells-only, printed-typed}
+use Rattle.promises.proofs.Final.{typed-printed}
 use Rattle.demands.specs.Run.{TypedDone, Typing, TypeMeets, PrintThenType, TypeThenPrint}
 use Rattle.demands.proofs.Uses.{sound-or-not, refusal-not}
 
@@ -103,6 +106,8 @@ module _ (ws : List ℕ) (top d : ℕ) (bs : List ℕ) where
         whole = (c .2, writes-back bs (c .2) .1);
         denotes = said-done firstHeapCell ws top d bs (done v t 0) (c .1) x refl;
         others = λ i l n. x .registers i l ∙ rw (ne-eqb i d n) refl;
+        alone = subst (λ (r : Done). OwnAlone d (typedFrom firstHeapCell ws top d bs) (allTerms (said bs)) (r .words))
+            (sym h) (new-cells-only firstHeapCell ws top d bs z);
         newTop = x .doneTop refl;
       }
 

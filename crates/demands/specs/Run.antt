@@ -39,6 +39,7 @@ use Rattle.promises.specs.Calls.{BatchRun}
 use Rattle.promises.specs.Alike.{Alike}
 use Rattle.promises.specs.Printing.{PrintTable}
 use Rattle.promises.specs.Typing.{said, Whole, typedFrom, TypeTable}
+use Rattle.promises.specs.Holding.{OwnAlone}
 use Rattle.demands.specs.Contracts.{Slice}
 
 -- ---- the check, a fresh store
@@ -121,13 +122,15 @@ PrintsNeverShow =
 -- ---- a typed text
 
 -- done, with the `top` t: bs is the text of what it says; register d denotes that, and every other register what it
--- did; t is a cell for each term above the `top` of the store in which room is found
+-- did; the new cells refer to one another alone, and none is shared; t is a cell for each term above the `top` of the
+-- store in which room is found
 pub record TypedDone (ws : List ℕ) (top d : ℕ) (bs : List ℕ) (t : ℕ) (v : List ℕ) : Type 0 where
   pub sound : Sound firstHeapCell ws top × Sound firstHeapCell v t
   pub register : d < firstHeapCell
   pub whole : Whole bs × (text (said bs) ≡ bs)
   pub denotes : meaning v d ≡ said bs
   pub others : (i : ℕ) → i < firstHeapCell → i ≢ d → meaning v i ≡ meaning ws i
+  pub alone : OwnAlone d (typedFrom firstHeapCell ws top d bs) (allTerms (said bs)) v
   pub newTop : t ≡ typedFrom firstHeapCell ws top d bs + allTerms (said bs)
 
 -- refused for room, it leaves the collected store and tells its `top`; refused otherwise, it leaves all as lent
