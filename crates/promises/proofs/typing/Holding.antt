@@ -12,13 +12,12 @@ use Prim.Native.Nat.{ℕ, _+_, _-_, _≤_, _<_}
 use native.Mathlib.Decide.{ℕ-discrete}
 use native.Mathlib.Omega.{arith}
 use lib.Dec.{ltb}
-use lib.ListN.{getD}
 use Rattle.words.specs.Cell.{firstWord, secondWord}
-use Rattle.meaning.specs.Expr.{Expr, terms}
-use Rattle.meaning.specs.Sound.{Cell, empty, at, capacity, Sound}
+use Rattle.meaning.specs.Expr.{Expr}
+use Rattle.meaning.specs.Sound.{Cell, at, capacity, Sound}
 use Rattle.meaning.specs.Reach.{Between, live}
 use Rattle.meaning.specs.Collected.{collected}
-use Rattle.meaning.specs.Lay.{allTerms, lastBelow, laid}
+use Rattle.meaning.specs.Lay.{allTerms, laid}
 use Rattle.meaning.specs.Call.{sought}
 use Rattle.meaning.specs.Typed.{typeIn}
 use Rattle.meaning.proofs.Lists.{lt-or-ge}
