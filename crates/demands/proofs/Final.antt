@@ -1,11 +1,13 @@
 -- The claims of specs/, each with its proof. Nothing else stands here.
 -- Assumes nothing.
 use Rattle.demands.specs.Contracts.{CheckSays, FreshSays, LookSays, SpanSays, CollectSays, RunSays, PrintSays}
+use Rattle.demands.specs.Contracts.{TypeSays}
 use Rattle.demands.specs.Run.{CheckMeets, FreshMeets, LookMeets, SpanMeets, CollectMeets, RunMeets, PrintMeets}
-use Rattle.demands.specs.Run.{PrintsNeverShow}
+use Rattle.demands.specs.Run.{TypeMeets, PrintThenType, TypeThenPrint, PrintsNeverShow}
 use Rattle.demands.specs.Runs.{RunsNeverShow, FreshRunsNeverShow}
 use Rattle.demands.specs.Example.{PremisesMet, HistoriesUnseen, OneMoreCollection}
 use Rattle.demands.proofs.Uses as uses
+use Rattle.demands.proofs.Texts as texts
 use Rattle.demands.proofs.Histories as histories
 use Rattle.demands.proofs.Stores as stores
 
@@ -32,6 +34,9 @@ run-says κs ws top calls out = (tt, λ r v c a h. h)
 pub print-says : PrintSays
 print-says κs ws top i out = (tt, λ r v a h. h)
 
+pub type-says : TypeSays
+type-says κs ws top d bs = (tt, λ r v b h. h)
+
 -- ---- demands 1 and 2
 
 pub check-meets : CheckMeets
@@ -54,6 +59,15 @@ run-meets = uses.run-meets
 
 pub print-meets : PrintMeets
 print-meets = uses.print-meets
+
+pub type-meets : TypeMeets
+type-meets = texts.type-meets
+
+pub print-then-type : PrintThenType
+print-then-type = texts.print-then-type
+
+pub type-then-print : TypeThenPrint
+type-then-print = texts.type-then-print
 
 -- ---- demand 3
 

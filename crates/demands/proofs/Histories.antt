@@ -1,5 +1,5 @@
--- A history as a list of batches: a collection is a batch of one COLLECT, which is struck out again. So demand 3 of the
--- definitions is demand 3 of the code. Assumes nothing.
+-- A history as a list of batches and texts: a collection is a batch of one COLLECT, which is struck out again. So
+-- demand 3 of the definitions is demand 3 of the code. Assumes nothing.
 use mathlib.Core.Path.{_≡_, refl, sym, ap, ap₂, _∙_}
 use mathlib.Core.Bool.{Bool, true, false}
 use mathlib.Core.List.{List, [], _∷_, _++_}
@@ -11,12 +11,13 @@ use Rattle.meaning.specs.Limits.{firstHeapCell, callsLimit}
 use Rattle.meaning.specs.Sound.{capacity, Allowed}
 use Rattle.meaning.specs.Reach.{live}
 use Rattle.meaning.specs.Collected.{collected}
-use Rattle.meaning.specs.Verdicts.{Done, done}
+use Rattle.meaning.specs.Verdicts.{Verdict, Done, done}
 use Rattle.meaning.specs.Check.{lengthTest, collectIn}
 use Rattle.meaning.specs.Fresh.{fresh}
 use Rattle.meaning.specs.Operands.{ops, opAt, uses, wrong11, wrong12, wrong13, fault}
 use Rattle.meaning.specs.Call.{planOf, carryOut, perform, stepAfter, step}
 use Rattle.meaning.specs.Batch.{Outcome, runs, ended, AllowedCalls, batch}
+use Rattle.meaning.specs.Typed.{typeIn}
 use Rattle.meaning.proofs.check.Checking.{length-yes, yes-length}
 use Rattle.meaning.proofs.batch.Cases.{batch-run, batch-runs}
 use Rattle.meaning.proofs.batch.Batches.{runs-length}
@@ -25,13 +26,18 @@ use Rattle.collect.specs.Answers.{collectedIn, Collects}
 use Rattle.collect.specs.declared.Collected.{Collected}
 use Rattle.collect.specs.declared.Collected.the-variants as answer
 use Rattle.calls.specs.declared.Ran.the-variants as ran
-use Rattle.promises.specs.Requests.{requests, verdicts}
-use Rattle.promises.specs.Alike.{Lent, calls, requestsOf, NoneRefused, Served, served, strike, strikeAnswers}
+use Rattle.typing.specs.Answers.{typedIn, Types}
+use Rattle.typing.specs.declared.Typed.{Typed}
+use Rattle.typing.specs.declared.Typed.the-variants as text-answer
+use Rattle.typing.proofs.Final.{words-back}
+use Rattle.promises.specs.Requests.{Request, typed, requests, verdicts}
+use Rattle.promises.specs.Alike.{Lent, calls, text, requestsOf, NoneRefused, Served, served, strike, strikeAnswers}
 use Rattle.promises.proofs.table.Rules.{refuted}
+use Rattle.promises.proofs.unique.Outcomes.{done-parts}
 use Rattle.promises.proofs.Final.{collecting-keeps, alike-is-collected, collections-never-show}
 use Rattle.store.specs.Answers.{Makes}
 use Rattle.calls.specs.Answers.{Runs}
-use Rattle.demands.specs.Runs.{Step, run, collect, Happened, asked, answered, wordsAfter, topAfter}
+use Rattle.demands.specs.Runs.{Step, run, type, collect, Happened, asked, answered, wordsAfter, topAfter}
 use Rattle.demands.specs.Runs.{SameCollected, RunsNeverShow, FreshRunsNeverShow}
 use Rattle.demands.proofs.Lists.{strike-front, strikeAnswers-front, requests-many, verdicts-many}
 use Rattle.demands.proofs.Uses.{fresh-meets, refusal-not, collect-meets}
@@ -64,10 +70,11 @@ collects-call ws top n t v h =
     let m = collecting-keeps firstHeapCell (omega arith) ws top s .many in
     rw (b, collect-step ws top, m, c .1, c .2, c .3) refl
 
--- the batches of a history
+-- the batches and the texts of a history
 abbrev lents : List Step → List Lent
 lents [] = []
 lents (run cs out t v a ∷ hs) = calls cs out ∷ lents hs
+lents (type d bs r t v ∷ hs) = text d bs ∷ lents hs
 lents (collect n t v ∷ hs) = calls oneCall twoWords ∷ lents hs
 
 -- ---- as many answers as calls
@@ -89,7 +96,7 @@ many ws top cs out t v a h =
     requests-many (length cs / 4) cs (omega (arith, w))
     ∙ sym (ap (λ (l : List ℕ). length (verdicts l)) f ∙ verdicts-many (length cs / 4) q n)
 
--- ---- a history told by its batches
+-- ---- a history told by its batches and texts
 
 record Told (ws : List ℕ) (top : ℕ) (hs : List Step) : Type 0 where
   none : NoneRefused firstHeapCell ws top (lents hs)
@@ -115,6 +122,22 @@ none-next : (ws : List ℕ) (top : ℕ) (cs out : List ℕ) (t : ℕ) (v a : Lis
     → NoneRefused firstHeapCell ws top (calls cs out ∷ bs)
 none-next ws top cs out t v a bs h n = rw (← h) (refl, n)
 
+-- a text in front, likewise: its numbers are the same whatever the `top`
+verdict-same : (r : Typed) (top t : ℕ) (v : List ℕ) → typedIn r top v .verdict ≡ typedIn r t v .verdict
+verdict-same (text-answer.Done n) top t v = refl
+verdict-same (text-answer.Refused u) top t v = refl
+verdict-same text-answer.NoRegister top t v = refl
+verdict-same (text-answer.BadText f i) top t v = refl
+verdict-same (text-answer.NoRoom n) top t v = refl
+
+-- what the definition leaves and answers is what stands in the history
+typed-next : (ws : List ℕ) (top d : ℕ) (bs : List ℕ) (r : Typed) (t : ℕ) (v : List ℕ) → Types ws top d bs r v
+    → typedIn r top v .top ≡ t
+    → typeIn firstHeapCell ws top d bs ≡ record { verdict = typedIn r t v .verdict; words = v; top = t }
+typed-next ws top d bs r t v h e =
+    sym h ∙ done-parts (typedIn r top v) (record { verdict = typedIn r t v .verdict; words = v; top = t })
+    (verdict-same r top t v) (words-back r top v) e
+
 told : (ws : List ℕ) (top : ℕ) (hs : List Step) → Happened ws top hs → Told ws top hs
 told ws top [] h = record { none = tt; asks = refl; says = refl; words = refl; last = refl }
 told ws top (run cs out t v a ∷ hs) h =
@@ -129,6 +152,23 @@ told ws top (run cs out t v a ∷ hs) h =
           (asked hs) (answered hs) (k .says);
       words = ap (λ (q : Served). q .words) e ∙ k .words;
       last = ap (λ (q : Served). q .top) e ∙ k .last;
+    }
+told ws top (type d bs r t v ∷ hs) h =
+    let k = told v t hs (h .2) in
+    let e = typed-next ws top d bs r t v (h .0) (h .1) in
+    let q = served firstHeapCell v t (lents hs) in
+    let f : served firstHeapCell ws top (text d bs ∷ lents hs) ≡ record {
+      words = q .words;
+      top = q .top;
+      answers = typedIn r t v .verdict ∷ q .answers;
+    } = rw (e, served) refl in
+    record {
+      none = rw e (tt, k .none);
+      asks = ap (λ (l : List Request). typed d bs ∷ l) (k .asks);
+      says = ap (λ (x : Served). strikeAnswers (typed d bs ∷ requestsOf (lents hs)) (x .answers)) f
+          ∙ ap (λ (l : List Verdict). typedIn r t v .verdict ∷ l) (k .says);
+      words = ap (λ (x : Served). x .words) f ∙ k .words;
+      last = ap (λ (x : Served). x .top) f ∙ k .last;
     }
 told ws top (collect n t v ∷ hs) h =
     let k = told v t hs (h .1) in

@@ -1,11 +1,13 @@
 -- The proofs of the claims in specs/. In order:
 --   Uses       one use of a public function
+--   Texts      one use of `typing::type_in`, and texts back and forth
 --   Lists      lists of requests with their answers
 --   Histories  two histories of uses
 --   Stores     the example, computed
 --   Final      the claims one by one
 -- Assumes nothing.
 pub mod Uses
+pub mod Texts
 pub mod Lists
 pub mod Histories
 pub mod Stores

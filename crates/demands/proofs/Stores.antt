@@ -4,7 +4,7 @@ use mathlib.Core.List.{List}
 use Prim.Native.Nat.{ℕ, _+_, _*_}
 use native.Mathlib.Omega.{arith}
 use lib.ListN.{getD}
-use Rattle.meaning.specs.Limits.{limit, codeTest, callsLimit}
+use Rattle.meaning.specs.Limits.{limit, codeTest, depthLimit, callsLimit}
 use Rattle.meaning.specs.Sound.{at}
 use Rattle.meaning.specs.Reach.{reached, live}
 use Rattle.meaning.specs.Collected.{newAddress, collectedOf, collected}
@@ -14,6 +14,10 @@ use Rattle.meaning.specs.Actions.{put, copy, share, head, rest, openTerm, openF
 use Rattle.meaning.specs.Actions.{newSymbol, newBracket, newRunOf, newRun}
 use Rattle.meaning.specs.Call.{sought, planOf, lacks, roomWords, roomTop, withRoom, carryOut, perform, stepAfter, step}
 use Rattle.meaning.specs.Batch.{ended, callsTest, batchOf, batch}
+use Rattle.meaning.specs.Judge.{isDigit, withDigit, firstMove, laterMove, moreMove}
+use Rattle.meaning.specs.Reader.{atStart, isWhole, stopVerdict, read, blank}
+use Rattle.meaning.specs.Lay.{newCells}
+use Rattle.meaning.specs.Typed.{typedOf, typeIn}
 use Rattle.collect.specs.declared.Collected.the-variants as done
 use Rattle.promises.proofs.Final.{check-answers, alike-is-collected}
 use Rattle.collect.specs.Answers.{Collects}
@@ -32,16 +36,17 @@ record Computed : Type 0 where
       (wordsAfter second secondHistory)
 
 computed : Computed
-unfolding limit codeTest callsLimit at reached live newAddress collectedOf collected bracketTest termTest cellTest
-    lengthTest topTest verdictAt check collectIn ops opAt uses wrong11 wrong12 wrong13 fault put copy share head rest
-    openTerm openFirst codeTerm codeFirst newSymbol newBracket newRunOf newRun sought planOf lacks roomWords roomTop
-    withRoom carryOut perform stepAfter step ended callsTest batchOf batch
+unfolding limit codeTest depthLimit callsLimit at reached live newAddress collectedOf collected bracketTest termTest
+    cellTest lengthTest topTest verdictAt check collectIn ops opAt uses wrong11 wrong12 wrong13 fault put copy share
+    head rest openTerm openFirst codeTerm codeFirst newSymbol newBracket newRunOf newRun sought planOf lacks roomWords
+    roomTop withRoom carryOut perform stepAfter step ended callsTest batchOf batch isDigit withDigit firstMove
+    laterMove moreMove atStart isWhole stopVerdict read blank newCells typedOf typeIn
 computed = record {
   sound = refl;
   sound′ = refl;
   alike = refl;
-  happened = (refl, (refl, (refl, tt)));
-  happened′ = (refl, (refl, (refl, (refl, tt))));
+  happened = (refl, (refl, refl, (refl, (refl, (refl, tt)))));
+  happened′ = (refl, (refl, refl, (refl, (refl, (refl, (refl, tt))))));
   again = refl;
 }
 

@@ -2,6 +2,7 @@
 -- the definition, so they hold of what the function returned and left. In order:
 --   check-meets, fresh-meets   the check and a fresh store
 --   look-meets, span-meets     the look: the words returned, and those between the word numbers of a span
+--   sound-or-not               a store is sound or not
 --   refusal-not                the refusal of an unsound store has another status than 0
 --   collect-meets              collecting
 --   run-meets                  a batch
@@ -75,7 +76,7 @@ span-meets ws top i r h =
 -- ---- collecting
 
 -- a store is sound or not, as the check says
-sound-or-not : (ws : List ℕ) (top : ℕ) → Sound firstHeapCell ws top ⊎ Not (Sound firstHeapCell ws top)
+pub sound-or-not : (ws : List ℕ) (top : ℕ) → Sound firstHeapCell ws top ⊎ Not (Sound firstHeapCell ws top)
 sound-or-not ws top = go (check firstHeapCell ws top .status) refl
   where
     go : (n : ℕ) → check firstHeapCell ws top .status ≡ n

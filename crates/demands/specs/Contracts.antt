@@ -1,7 +1,7 @@
 -- What a caller knows once a public function is back: what its contract promises, over plain lists. `Asked` and
--- `Learnt` are what Rattle reads off the contract in the lib.rt of `store`, `collect`, `calls` or `text`: what a caller
--- must show, and what it may use. Each claim says that nothing is asked, and that this is learnt, whatever the
--- lifetimes κs are. ws and top are lent, r is returned, v are the words that are left. Assumes nothing.
+-- `Learnt` are what Rattle reads off the contract in the lib.rt of `store`, `collect`, `calls`, `text` or `typing`:
+-- what a caller must show, and what it may use. Each claim says that nothing is asked, and that this is learnt,
+-- whatever the lifetimes κs are. ws and top are lent, r is returned, v are the words that are left. Assumes nothing.
 use mathlib.Core.List.{List}
 use Prim.Native.Nat.{ℕ}
 use denote.Ref.{RefT, now}
@@ -17,6 +17,8 @@ use Rattle.calls.specs.Answers.{Runs}
 use Rattle.calls.specs.declared.Ran.{Ran}
 use Rattle.text.specs.Answers.{Prints}
 use Rattle.text.specs.declared.Printed.{Printed}
+use Rattle.typing.specs.Answers.{Types}
+use Rattle.typing.specs.declared.Typed.{Typed}
 use Rattle.store.proofs.check.Reads as check-contract
 use Rattle.store.proofs.fresh.Reads as fresh-contract
 use Rattle.store.proofs.look.Reads as look-contract
@@ -24,6 +26,7 @@ use Rattle.store.proofs.look_span.Reads as span-contract
 use Rattle.collect.proofs.collect.Reads as collect-contract
 use Rattle.calls.proofs.run.Reads as run-contract
 use Rattle.text.proofs.print.Reads as print-contract
+use Rattle.typing.proofs.type_in.Reads as type-contract
 
 -- a slice as it is lent, or as it is left
 abbrev pub Slice : Type 0
@@ -81,3 +84,12 @@ PrintSays =
     × ((r : Printed) (v a : Slice)
     → print-contract.Learnt κs (ws, (top, (i, (out, tt)))) r (v, (top, (i, (a, tt))))
     → Prints (now ws) top i (now out) r (now a))
+
+-- ---- `typing::type_in`, into register d, with a text bs, which is only read
+
+abbrev pub TypeSays : Type 0
+TypeSays =
+    (κs : Lfts 2) (ws : Slice) (top d : ℕ) (bs : Slice) → type-contract.Asked κs (ws, (top, (d, (bs, tt))))
+    × ((r : Typed) (v b : Slice)
+    → type-contract.Learnt κs (ws, (top, (d, (bs, tt)))) r (v, (top, (d, (b, tt))))
+    → Types (now ws) top d (now bs) r (now v))

@@ -10,6 +10,7 @@
 --   Printing    demands 1 and 2: a register printed
 --   Reading     demand 2: a text read, and where it is refused
 --   Typing      demands 1 and 2: a text typed into a register
+--   Holding     demand 2: what holds the new cells of a typed text
 --   Again       demand 2: printed and typed in again, typed in and printed again
 --   Program     what the program writes for what it reads;  ProgramRows  byte for byte
 --   Unique      no claim leaves a second outcome
@@ -26,6 +27,7 @@ pub mod Alike
 pub mod Printing
 pub mod Reading
 pub mod Typing
+pub mod Holding
 pub mod Again
 pub mod Program
 pub mod ProgramRows

@@ -39,7 +39,7 @@ answer-back (typed.BadText fault.TooDeep at) top vs = refl
 answer-back (typed.BadText fault.NotText at) top vs = refl
 answer-back (typed.NoRoom t) top vs = refl
 
-words-back : (r : Typed) (top : ℕ) (vs : List ℕ) → typedIn r top vs .words ≡ vs
+pub words-back : (r : Typed) (top : ℕ) (vs : List ℕ) → typedIn r top vs .words ≡ vs
 words-back (typed.Done t) top vs = refl
 words-back (typed.Refused u) top vs = refl
 words-back typed.NoRegister top vs = refl

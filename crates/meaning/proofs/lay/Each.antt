@@ -30,7 +30,7 @@ Each R c [] (y ∷ ys) = ⊥
 Each R c (x ∷ xs) [] = ⊥
 Each R c (x ∷ xs) (y ∷ ys) = R c x y × Each R (suc c) xs ys
 
-each-append : (R : ℕ → Cell → Cell → Type 0) (c : ℕ) (xs xs′ ys ys′ : List Cell) → Each R c xs xs′
+pub each-append : (R : ℕ → Cell → Cell → Type 0) (c : ℕ) (xs xs′ ys ys′ : List Cell) → Each R c xs xs′
     → Each R (c + length xs) ys ys′ → Each R c (xs ++ ys) (xs′ ++ ys′)
 each-append R c [] [] ys ys′ h k = rw (add-zero c) at k
 each-append R c [] (y ∷ xs′) ys ys′ h k = absurd h

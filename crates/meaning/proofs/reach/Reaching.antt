@@ -2,6 +2,7 @@
 --   or-left, or-right, or-cases   laws of `||`
 --   listed-reached                what is listed is reached
 --   listed-asc, listed-below      the list ascends, and its members are below `top`
+--   between-reg, between-term     what a register and an occupied heap cell hold
 --   reached-heap                  a reached cell is an occupied heap cell
 --   holder-above                  a reached bracket holds lower cells only
 --   reached-listed                what is reached is listed
@@ -142,12 +143,12 @@ module _ (F : ℕ) (k : ℕ → Cell) (top : ℕ) where
       go (inr j) r = r j
 
   module _ (g : SoundCells F k top) where
-    between-reg : (b : Cell) (c : ℕ) → BracketIn F top b → Between b c → (F ≤ c) × (c < top)
+    pub between-reg : (b : Cell) (c : ℕ) → BracketIn F top b → Between b c → (F ≤ c) × (c < top)
     between-reg (code a) c h q = absurd q
     between-reg empty c h q = absurd q
     between-reg (ends l r) c h q = (omega (arith, h .0, q .0), omega (arith, h .2, q .1))
 
-    between-term : (b : Cell) (x c : ℕ) → TermIn F x b → Between b c → (F ≤ c) × (c < x)
+    pub between-term : (b : Cell) (x c : ℕ) → TermIn F x b → Between b c → (F ≤ c) × (c < x)
     between-term (code a) x c h q = absurd q
     between-term empty x c h q = absurd q
     between-term (ends l r) x c h q = (omega (arith, h .0, q .0), omega (arith, h .2, q .1))

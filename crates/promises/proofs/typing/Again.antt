@@ -68,7 +68,7 @@ becomes-here : (f : ℕ → Expr) (d : ℕ) (x : Expr) → becomes f d x d ≡ x
 unfolding becomes
 becomes-here f d x = rw (eq-eqb d d refl) refl
 
-said-done : (F : ℕ) (ws : List ℕ) (top d : ℕ) (bs : List ℕ) (r : Done) → d < F → TypedIn F ws top d bs r
+pub said-done : (F : ℕ) (ws : List ℕ) (top d : ℕ) (bs : List ℕ) (r : Done) → d < F → TypedIn F ws top d bs r
     → r .verdict .status ≡ 0 → meaning (r .words) d ≡ said bs
 said-done F ws top d bs r h x q = x .registers d h ∙ rw q (becomes-here (meaning ws) d (said bs))
 
@@ -97,7 +97,7 @@ stop-nonzero x (inl e) z = omega arith
 stop-nonzero x (inr (inl e)) z = omega arith
 stop-nonzero x (inr (inr e)) z = omega arith
 
-type-done : (F : ℕ) (ws : List ℕ) (top d : ℕ) (bs : List ℕ) (r : Done) → TypeCases F ws top d bs r
+pub type-done : (F : ℕ) (ws : List ℕ) (top d : ℕ) (bs : List ℕ) (r : Done) → TypeCases F ws top d bs r
     → r .verdict .status ≡ 0 → Sound F ws top × (d < F) × Whole bs
 type-done F ws top d bs r (cases.unsound n) q = absurd (n q)
 type-done F ws top d bs r (cases.none s h) q = absurd (omega arith)
