@@ -3,7 +3,8 @@
 use Rattle.demands.specs.Contracts.{CheckSays, FreshSays, LookSays, SpanSays, CollectSays, RunSays, PrintSays}
 use Rattle.demands.specs.Contracts.{TypeSays}
 use Rattle.demands.specs.Run.{CheckMeets, FreshMeets, LookMeets, SpanMeets, CollectMeets, RunMeets, PrintMeets}
-use Rattle.demands.specs.Run.{TypeMeets, PrintThenType, TypeThenPrint, PrintsNeverShow}
+use Rattle.demands.specs.Run.{PrintsNeverShow}
+use Rattle.demands.specs.Texts.{TypeMeets, PrintThenType, TypeThenPrint}
 use Rattle.demands.specs.Runs.{RunsNeverShow, FreshRunsNeverShow}
 use Rattle.demands.specs.Example.{PremisesMet, HistoriesUnseen, OneMoreCollection}
 use Rattle.demands.proofs.Uses as uses

@@ -42,7 +42,7 @@ use Rattle.promises.proofs.table.Rules.{judged-number}
 use Rattle.promises.proofs.typing.Again.{type-done, said-done}
 use Rattle.promises.proofs.Final.{collecting-keeps, writes-back, type-answers, new-cells-only, printed-typed}
 use Rattle.promises.proofs.Final.{typed-printed}
-use Rattle.demands.specs.Run.{TypedDone, Typing, TypeMeets, PrintThenType, TypeThenPrint}
+use Rattle.demands.specs.Texts.{TypedDone, Typing, TypeMeets, PrintThenType, TypeThenPrint}
 use Rattle.demands.proofs.Uses.{sound-or-not, refusal-not}
 
 -- ---- refused

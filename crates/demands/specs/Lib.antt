@@ -2,10 +2,12 @@
 -- uses, by the contracts alone. proofs/Final.antt proves each claim. In order:
 --   Contracts  what the contracts say, over plain lists, and that they say it
 --   Run        demands 1 and 2: one use of a function
+--   Texts      demands 1 and 2: a text typed in, and texts back and forth
 --   Runs       demand 3: two histories, collections in between
 --   Example    two unequal stores and two histories that meet the premises of demand 3
 -- The first heap cell is the code's. Assumes nothing.
 pub mod Contracts
 pub mod Run
+pub mod Texts
 pub mod Runs
 pub mod Example
