@@ -6,7 +6,7 @@ ghost use Rattle.meaning.specs.Limits.{firstHeapCell};
 ghost use Rattle.meaning.specs.Operands.{opAt, names, isOperand, wrong11, wrong12, wrong13, fault};
 
 // How each operation uses d, a and b: 0 not at all, 1 as a register, 2 as a code.
-const USES: [[u32; 3]; 12] = [
+const USES: [[u8; 3]; 12] = [
     [1, 0, 0], // CLEAR d
     [1, 1, 0], // COPY d a
     [1, 2, 0], // SYMBOL d a
@@ -22,7 +22,7 @@ const USES: [[u32; 3]; 12] = [
 ];
 
 // A register word that names no register: status 11.
-fn is_no_register(u: u32, w: u32) -> bool
+fn is_no_register(u: u8, w: u32) -> bool
     ensures { λ r. ⌜ r ≡ wrong11 firstHeapCell u w ⌝ }
 {
     if u == 1 {
@@ -33,14 +33,14 @@ fn is_no_register(u: u32, w: u32) -> bool
 }
 
 // A word that the call does not use and that is not 0: status 12.
-fn is_stray(u: u32, w: u32) -> bool
+fn is_stray(u: u8, w: u32) -> bool
     ensures { λ r. ⌜ r ≡ wrong12 u w ⌝ }
 {
     if u == 0 { 0 < w } else { false }
 }
 
 // A code word that is no code: status 13.
-fn is_no_code(u: u32, w: u32) -> bool
+fn is_no_code(u: u8, w: u32) -> bool
     ensures { λ r. ⌜ r ≡ wrong13 u w ⌝ }
 {
     if u == 2 {
@@ -64,7 +64,7 @@ fn any(x: bool, y: bool, z: bool) -> bool
 }
 
 // Whether one of the words d, a and b, used as u, v and w say, gives the call status 11, 12 or 13.
-fn no_register(u: u32, v: u32, w: u32, d: u32, a: u32, b: u32) -> bool
+fn no_register(u: u8, v: u8, w: u8, d: u32, a: u32, b: u32) -> bool
     ensures { λ r. ⌜ r ≡ (wrong11 firstHeapCell u d || wrong11 firstHeapCell v a || wrong11 firstHeapCell w b) ⌝ }
 {
     any(
@@ -74,20 +74,20 @@ fn no_register(u: u32, v: u32, w: u32, d: u32, a: u32, b: u32) -> bool
     )
 }
 
-fn stray(u: u32, v: u32, w: u32, d: u32, a: u32, b: u32) -> bool
+fn stray(u: u8, v: u8, w: u8, d: u32, a: u32, b: u32) -> bool
     ensures { λ r. ⌜ r ≡ (wrong12 u d || wrong12 v a || wrong12 w b) ⌝ }
 {
     any(is_stray(u, d), is_stray(v, a), is_stray(w, b))
 }
 
-fn no_code(u: u32, v: u32, w: u32, d: u32, a: u32, b: u32) -> bool
+fn no_code(u: u8, v: u8, w: u8, d: u32, a: u32, b: u32) -> bool
     ensures { λ r. ⌜ r ≡ (wrong13 u d || wrong13 v a || wrong13 w b) ⌝ }
 {
     any(is_no_code(u, d), is_no_code(v, a), is_no_code(w, b))
 }
 
 // A register word that names register r.
-fn names(u: u32, w: u32, r: u32) -> bool
+fn names(u: u8, w: u32, r: u32) -> bool
     ensures { λ x. ⌜ x ≡ names u w r ⌝ }
 {
     if u == 1 { w == r } else { false }
