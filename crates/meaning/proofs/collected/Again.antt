@@ -1,31 +1,26 @@
--- After collecting, every occupied heap cell is reached; so collecting again changes nothing. In order:
---   full                  an ascending list of all numbers from lo up to lo + n is `upFrom lo n`
---   below-upFrom          how many of those are below c
---   lay-ext               the words laid are the same where the cells are
---   reached-kept          a reached cell is reached at its new address
---   all-reached           every occupied heap cell of the result is reached
---   reached-again         the list of its reached cells
---   live-kept             live stays when it is collected again, and with it `top`
---   collected-again       and so does every word
+-- After collecting, every occupied heap cell is reached. In order:
+--   full            an ascending list of all numbers from lo up to lo + n is `upFrom lo n`
+--   lay-ext         the words laid are the same where the cells are
+--   reached-kept    a reached cell is reached at its new address
+--   all-reached     every occupied heap cell of the result is reached
+--   reached-again   the list of its reached cells
+--   live-kept       live stays when it is collected again, and with it `top`
 -- Assumes nothing.
 use mathlib.Core.Path.{_≡_, refl, sym, ap, ap₂, _∙_, subst}
-use mathlib.Core.Logic.{_⊎_, inl, inr}
-use mathlib.Core.List.{List, [], _∷_, _++_}
-use Prim.Native.Nat.{ℕ, zero, suc, _+_, _-_, _*_, _≤_, _<_}
+use mathlib.Core.Logic.{inl, inr}
+use mathlib.Core.List.{List, [], _∷_}
+use Prim.Native.Nat.{ℕ, zero, suc, _+_, _-_, _≤_, _<_}
 use native.Mathlib.Nat.{le-refl}
 use native.Mathlib.Omega.{arith}
-use lib.Dec.{ltb}
-use lib.ListN.{length, getD, replicate}
-use borrow.Author.Tests.{lt-ltb, le-ltb}
+use lib.ListN.{length, getD}
 use Rattle.meaning.specs.Sound.{Cell, code, empty, ends, fst, snd, at, Sound}
 use Rattle.meaning.specs.Reach.{Between, Reached, byRegister, byBracket, reached, live}
-use Rattle.meaning.specs.Collected.{below, countIf, mapEnds, lay, upFrom, newAddress, collectedOf, collected, new}
+use Rattle.meaning.specs.Collected.{mapEnds, lay, upFrom, newAddress, collected, new}
 use Rattle.meaning.specs.Collected.{collectedTop}
-use Rattle.meaning.proofs.Lists.{lt-or-ge, In, Asc, asc-in, in-getD, below-getD, below-mono, below-low}
-use Rattle.meaning.proofs.sound.Cells.{TermIn, term-of-bracket, good}
+use Rattle.meaning.proofs.Lists.{In, Asc, asc-in, in-getD, below-getD, below-mono}
 use Rattle.meaning.proofs.reach.Reaching.{listed-iff, reached-asc, reached-below}
-use Rattle.meaning.proofs.collected.Laid.{upFrom-length, upFrom-getD, kept-low, kept-high, kept-length}
-use Rattle.meaning.proofs.collected.Collecting.{at-register, at-new, at-kth, collected-sound, length-collected}
+use Rattle.meaning.proofs.collected.Laid.{upFrom-length}
+use Rattle.meaning.proofs.collected.Collecting.{at-register, at-new, collected-sound}
 
 -- an ascending list that has every number from lo up to lo + n, and no other
 full-at : (lo x n : ℕ) (xs : List ℕ) → Asc lo (x ∷ xs) → In lo (x ∷ xs) → lo ≡ x
@@ -47,20 +42,6 @@ full lo (suc n) (x ∷ xs) a f b =
     (full (suc lo) n xs (rw e (a .1)) (λ c l h. tail-in c x xs (omega arith) (f c (omega arith) (omega arith)))
     (λ c i. let q = b c (inr i) in omega arith))
 
-pub below-upFrom : (lo n c : ℕ) → lo ≤ c → c ≤ lo + n → below c (upFrom lo n) ≡ c - lo
-below-upFrom lo zero c l h = omega arith
-below-upFrom lo (suc n) c l h = go (c - lo) refl (below-upFrom (suc lo) n c)
-  where
-    go : (d : ℕ) → c - lo ≡ d → (suc lo ≤ c → c ≤ suc lo + n → below c (upFrom (suc lo) n) ≡ c - suc lo)
-        → countIf (ltb lo c) (below c (upFrom (suc lo) n)) ≡ c - lo
-    go zero e r = rw (le-ltb lo c (omega arith)) (below-low (suc lo) c (upFrom (suc lo) n) (asc-up (suc lo) n)
-        (omega arith) ∙ sym e)
-      where
-        asc-up : (x m : ℕ) → Asc x (upFrom x m)
-        asc-up x zero = tt
-        asc-up x (suc m) = (le-refl x, asc-up (suc x) m)
-    go (suc d) e r = rw (lt-ltb lo c (omega arith)) (omega (arith, r (omega arith) (omega arith)))
-
 pub lay-ext : (k k′ : ℕ → Cell) (xs ys : List ℕ) → length xs ≡ length ys
     → ((j : ℕ) → j < length xs → k (getD xs j 0) ≡ k′ (getD ys j 0)) → lay k xs ≡ lay k′ ys
 lay-ext k k′ [] [] e h = refl
@@ -69,14 +50,6 @@ lay-ext k k′ (x ∷ xs) [] e h = absurd (omega arith)
 lay-ext k k′ (x ∷ xs) (y ∷ ys) e h =
     rw (h 0 (omega arith)) (ap (λ (r : List ℕ). fst (k′ y) ∷ snd (k′ y) ∷ r)
     (lay-ext k k′ xs ys (omega arith) (λ j l. h (suc j) (omega arith))))
-
-same-ends : (F n lim : ℕ) (b : Cell) → lim ≤ F + n → TermIn F lim b → mapEnds (newAddress F (upFrom F n)) b ≡ b
-unfolding newAddress
-same-ends F n lim (code a) h t = refl
-same-ends F n lim empty h t = refl
-same-ends F n lim (ends l r) h t =
-    ap₂ {C = Cell} (λ u v. ends u v) (omega (arith, below-upFrom F n l (t .0) (omega (arith, t .1, t .2)), t .0))
-    (omega (arith, below-upFrom F n r (omega (arith, t .0, t .1)) (omega (arith, t .2)), t .0, t .1))
 
 module _ (F : ℕ) (ws : List ℕ) (top : ℕ) (p : 0 < F) (s : Sound F ws top) where
   abbrev rs : List ℕ
@@ -121,52 +94,3 @@ module _ (F : ℕ) (ws : List ℕ) (top : ℕ) (p : 0 < F) (s : Sound F ws top) 
   pub live-kept : live F (collected F ws top) (collectedTop F ws top) ≡ live F ws top
   unfolding live
   live-kept = ap (λ (xs : List ℕ). length xs) reached-again ∙ upFrom-length F (length rs)
-
-  -- ---- collecting again
-
-  abbrev n : ℕ
-  n = live F ws top
-
-  abbrev again : ℕ → Cell
-  again c = mapEnds (newAddress F (upFrom F (live F ws top))) (at ws′ c)
-
-  again-low : (j : ℕ) → j < F
-      → again (getD (upFrom 0 F ++ upFrom F n) j 0) ≡ mapEnds (new F ws top) (at ws (getD (upFrom 0 F ++ rs) j 0))
-  again-low j h =
-      let s′ = collected-sound F ws top p s in
-      rw (kept-low F (upFrom F n) j h, kept-low F rs j h)
-      (same-ends F n (collectedTop F ws top) (at ws′ j) (omega arith)
-      (term-of-bracket F (collectedTop F ws top) (at ws′ j) (good F ws′ (collectedTop F ws top) p s′ .regs j h))
-      ∙ at-register F ws top p s j h)
-
-  again-high : (i : ℕ) → i < n
-      → again (getD (upFrom 0 F ++ upFrom F n) (F + i) 0)
-      ≡ mapEnds (new F ws top) (at ws (getD (upFrom 0 F ++ rs) (F + i) 0))
-  again-high i h =
-      let s′ = collected-sound F ws top p s in
-      rw (kept-high F (upFrom F n) i, kept-high F rs i, upFrom-getD F n i h)
-      (same-ends F n (F + i) (at ws′ (F + i)) (omega arith)
-      (good F ws′ (collectedTop F ws top) p s′ .heap (F + i) (omega arith) (omega arith))
-      ∙ at-kth F ws top p s i h)
-
-  again-cell : (j : ℕ) → j < F + n
-      → again (getD (upFrom 0 F ++ upFrom F n) j 0) ≡ mapEnds (new F ws top) (at ws (getD (upFrom 0 F ++ rs) j 0))
-  again-cell j h = go (lt-or-ge j F)
-    where
-      go : (j < F) ⊎ (F ≤ j)
-          → again (getD (upFrom 0 F ++ upFrom F n) j 0) ≡ mapEnds (new F ws top) (at ws (getD (upFrom 0 F ++ rs) j 0))
-      go (inl l) = again-low j l
-      go (inr l) =
-          subst (λ (x : ℕ). again (getD (upFrom 0 F ++ upFrom F n) x 0) ≡ mapEnds (new F ws top)
-          (at ws (getD (upFrom 0 F ++ rs) x 0))) {x = F + (j - F)} (omega arith)
-          (again-high (j - F) (omega arith))
-
-  -- collecting again changes no word, and by `live-kept` not `top`
-  pub collected-again : collected F (collected F ws top) (collectedTop F ws top) ≡ collected F ws top
-  unfolding collected collectedOf live
-  collected-again =
-      rw (reached-again, upFrom-length F (length rs), length-collected F ws top p s)
-      (ap (λ (x : List ℕ). x ++ replicate (length ws - 2 * (F + length rs)) 0)
-      (lay-ext again (λ c. mapEnds (new F ws top) (at ws c)) (upFrom 0 F ++ upFrom F n) (upFrom 0 F ++ rs)
-      (kept-length F (upFrom F n) ∙ (ap (λ (x : ℕ). F + x) (upFrom-length F n) ∙ sym (kept-length F rs)))
-      (λ j l. again-cell j (omega (arith, kept-length F (upFrom F n), upFrom-length F n)))))

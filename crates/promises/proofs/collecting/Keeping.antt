@@ -14,7 +14,8 @@ use Rattle.meaning.proofs.meaning.Terms.{Along}
 use Rattle.meaning.proofs.sound.Cells.{free-rule}
 use Rattle.meaning.proofs.reach.Reaching.{listed-iff, reached-asc}
 use Rattle.meaning.proofs.collected.Collecting.{at-register, at-new, collected-sound, length-collected, meaning-kept}
-use Rattle.meaning.proofs.collected.Again.{all-reached, live-kept, collected-again}
+use Rattle.meaning.proofs.collected.Again.{all-reached, live-kept}
+use Rattle.meaning.proofs.collected.Whole.{collected-again}
 use Rattle.promises.specs.Collecting.{LiveCounts, CollectingKeeps}
 use Rattle.meaning.proofs.twins.Pairs.{new-low, new-high, new-rises, along-register, along-heap}
 
