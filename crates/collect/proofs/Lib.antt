@@ -6,6 +6,7 @@
 --   chains, sweep, lower  what the functions make of the words
 --   Compacted  the passes one after the other, and the collected words
 --   Restored   the sweep that packs nothing
+--   Wanted     a collection that is wanted only where it frees enough
 --   Final      collecting's statement leaves no second outcome
 -- Assumes nothing.
 pub mod heap
@@ -14,4 +15,5 @@ pub mod Heaps
 pub mod Puts
 pub mod Compacted
 pub mod Restored
+pub mod Wanted
 pub mod Final

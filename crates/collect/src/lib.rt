@@ -16,6 +16,9 @@
 // Sweeps is a definition of specs/Passes.antt, the others of specs/Lowering.antt; the phases within the sweep are in
 // specs/Phases.antt.
 ghost use mathlib.Core.Path.{_≡_};
+ghost use mathlib.Core.Bool.{cond};
+ghost use Prim.Native.Nat.{_-_};
+ghost use lib.Dec.{ltb};
 ghost use Rattle.meaning.specs.Limits.{firstHeapCell};
 ghost use Rattle.meaning.specs.Sound.{Sound};
 ghost use Rattle.meaning.specs.Reach.{live};
@@ -51,6 +54,24 @@ pub fn live(ws: &mut [u32], top: usize) -> usize
 {
     let dead = sweep::sweep(ws, top, false);
     top - meaning::FIRST_HEAP_CELL - dead
+}
+
+// Collects a sound store if that frees as many cells as are wanted; else every word stays as it is. Gives the collected
+// store's `top` either way. The sweep that packs moves nothing before it has met an unreached cell: where one is enough
+// it tells and packs at once. Where more are wanted, a sweep that packs nothing tells first.
+pub fn collect_for(ws: &mut [u32], top: usize, wanted: usize) -> usize
+    requires { ⌜ Sound firstHeapCell (now ws) top ⌝ }
+    ensures { λ r. ⌜ (now (ws .exit) ≡ cond (ltb (top - r) wanted) (now (ws .entry))
+        (collected firstHeapCell (now (ws .entry)) top)) × (r ≡ collectedTop firstHeapCell (now (ws .entry)) top) ⌝ }
+{
+    if wanted <= 1 {
+        return collect_sound(ws, top);
+    }
+    let low = meaning::FIRST_HEAP_CELL + live(ws, top);
+    if top - low < wanted {
+        return low;
+    }
+    collect_sound(ws, top)
 }
 
 // What collecting answers: live and the new `top`, or why it is refused.
