@@ -9,10 +9,11 @@ use Rattle.meaning.specs.Sound.{at}
 use Rattle.meaning.specs.Reach.{reached, live}
 use Rattle.meaning.specs.Collected.{newAddress, collectedOf, collected}
 use Rattle.meaning.specs.Check.{bracketTest, termTest, cellTest, lengthTest, topTest, verdictAt, check, collectIn}
-use Rattle.meaning.specs.Operands.{ops, opAt, uses, wrong11, wrong12, wrong13, fault}
+use Rattle.meaning.specs.Operands.{ops, opAt, uses, names, isOperand, wrong11, wrong12, wrong13, fault}
 use Rattle.meaning.specs.Actions.{put, copy, share, head, rest, openTerm, openFirst, codeTerm, codeFirst}
 use Rattle.meaning.specs.Actions.{newSymbol, newBracket, newRunOf, newRun}
-use Rattle.meaning.specs.Call.{sought, planOf, lacks, roomWords, roomTop, withRoom, carryOut, perform, stepAfter, step}
+use Rattle.meaning.specs.Call.{keeps, sought, planOf, lacks, roomWords, roomTop, withRoom, carryOut, perform, stepAfter}
+use Rattle.meaning.specs.Call.{step}
 use Rattle.meaning.specs.Batch.{ended, callsTest, batchOf, batch}
 use Rattle.meaning.specs.Judge.{isDigit, withDigit, firstMove, laterMove, moreMove}
 use Rattle.meaning.specs.Reader.{atStart, isWhole, stopVerdict, read, blank}
@@ -38,9 +39,9 @@ record Computed : Type 0 where
 computed : Computed
 unfolding limit codeTest depthLimit callsLimit at reached live newAddress collectedOf collected bracketTest termTest
     cellTest lengthTest topTest verdictAt check collectIn ops opAt uses wrong11 wrong12 wrong13 fault put copy share
-    head rest openTerm openFirst codeTerm codeFirst newSymbol newBracket newRunOf newRun sought planOf lacks roomWords
-    roomTop withRoom carryOut perform stepAfter step ended callsTest batchOf batch isDigit withDigit firstMove
-    laterMove moreMove atStart isWhole stopVerdict read blank newCells typedOf typeIn
+    head rest openTerm openFirst codeTerm codeFirst newSymbol newBracket newRunOf newRun names isOperand keeps sought
+    planOf lacks roomWords roomTop withRoom carryOut perform stepAfter step ended callsTest batchOf batch isDigit
+    withDigit firstMove laterMove moreMove atStart isWhole stopVerdict read blank newCells typedOf typeIn
 computed = record {
   sound = refl;
   sound′ = refl;
@@ -70,7 +71,7 @@ pub premises-met : PremisesMet
 premises-met = (
   met,
   λ e. let z : _≡_ {A = ℕ} (F + 1) F = ap (λ (l : List ℕ). getD l 0 0) e in omega (arith, z),
-  λ e. let z : _≡_ {A = ℕ} 65 0 = ap (λ (l : List ℕ). getD l (2 * (F + 2)) 0) e in omega (arith, z),
+  λ e. let z : _≡_ {A = ℕ} 66 0 = ap (λ (l : List ℕ). getD l (2 * (F + 2)) 0) e in omega (arith, z),
 )
 
 -- ---- the demand, of these two

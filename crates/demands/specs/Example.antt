@@ -1,8 +1,8 @@
 -- Two stores that meet the premises of demand 3 and are not equal, each with a history of its own: they collect at
 -- different places, the first for a typed text, for which the second has room, the second for a JOIN, for which the
--- first has room, and by COLLECT, and both by `collect::collect`; and they end unequal again. All of it is computed, so
--- that the premises are seen to be met. The heap begins at the code's first heap cell F, and has room for four cells;
--- F + 2 and so on are cells. Assumes nothing.
+-- first has room, and by COLLECT, and both by `collect::collect` and for a JOIN that has room only in place of what its
+-- register held; and they end unequal again. All of it is computed, so that the premises are seen to be met. The heap
+-- begins at the code's first heap cell F, and has room for four cells; F + 2 and so on are cells. Assumes nothing.
 use mathlib.Core.Path.{_≡_}
 use mathlib.Core.Logic.{_≢_}
 use mathlib.Core.List.{List, [], _∷_, _++_}
@@ -40,12 +40,15 @@ three l upper =
     F ∷ bracketTo F ∷ (F + 1) ∷ bracketTo (F + 1) ∷ l ∷ bracketTo (F + 3) ∷ emptyRegisters (F - 3)
     ++ (65 ∷ 0 ∷ 66 ∷ 0 ∷ upper)
 
--- the upper two cells: those of the text (7), and those of 65 66
+-- the upper two cells: those of the text (7), those of 65 66, and those of 66 65
 abbrev pub seven : List ℕ
 seven = 7 ∷ 0 ∷ (F + 2) ∷ bracketTo (F + 2) ∷ []
 
 abbrev pub pair : List ℕ
 pair = 65 ∷ 0 ∷ 66 ∷ 0 ∷ []
+
+abbrev pub turned : List ℕ
+turned = 66 ∷ 0 ∷ 65 ∷ 0 ∷ []
 
 -- what the stores come to: with those two cells dead, and collected
 abbrev pub full : List ℕ → List ℕ
@@ -61,7 +64,7 @@ abbrev pub bytes : List ℕ
 bytes = 40 ∷ 55 ∷ 41 ∷ []
 
 -- SYMBOL 1 66; (7) typed into register 2, for which the store is collected; CLEAR 2; a collection; JOIN 2 0 1, WRAP 3 2
--- without room, LIVE, CLEAR 2, with two answer words to spare
+-- without room, LIVE, JOIN 2 1 0 in place of what register 2 held, CLEAR 2, with two answer words to spare
 abbrev pub firstHistory : List Step
 firstHistory =
     run (2 ∷ 1 ∷ 66 ∷ 0 ∷ []) (9 ∷ 9 ∷ []) (F + 3) (two (F + 1) (F + 2) (70 ∷ 0 ∷ 65 ∷ 0 ∷ 66 ∷ 0 ∷ 0 ∷ 0 ∷ []))
@@ -69,12 +72,12 @@ firstHistory =
     type 2 bytes (typed.Done (F + 4)) (F + 4) (three (F + 3) seven) ∷
     run (0 ∷ 2 ∷ 0 ∷ 0 ∷ []) (9 ∷ 9 ∷ []) (F + 4) (full seven) (0 ∷ 0 ∷ []) ∷
     collect 2 (F + 2) low ∷
-    run (4 ∷ 2 ∷ 0 ∷ 1 ∷ 3 ∷ 3 ∷ 2 ∷ 0 ∷ 10 ∷ 0 ∷ 0 ∷ 0 ∷ 0 ∷ 2 ∷ 0 ∷ 0 ∷ [])
-    (9 ∷ 9 ∷ 9 ∷ 9 ∷ 9 ∷ 9 ∷ 9 ∷ 9 ∷ 9 ∷ 9 ∷ []) (F + 4) (full pair) (0 ∷ 0 ∷ 16 ∷ 0 ∷ 0 ∷ 4 ∷ 0 ∷ 0 ∷ 0 ∷ 0 ∷ []) ∷
-    []
+    run (4 ∷ 2 ∷ 0 ∷ 1 ∷ 3 ∷ 3 ∷ 2 ∷ 0 ∷ 10 ∷ 0 ∷ 0 ∷ 0 ∷ 4 ∷ 2 ∷ 1 ∷ 0 ∷ 0 ∷ 2 ∷ 0 ∷ 0 ∷ [])
+    (9 ∷ 9 ∷ 9 ∷ 9 ∷ 9 ∷ 9 ∷ 9 ∷ 9 ∷ 9 ∷ 9 ∷ 9 ∷ 9 ∷ []) (F + 4) (full turned)
+    (0 ∷ 0 ∷ 16 ∷ 0 ∷ 0 ∷ 4 ∷ 0 ∷ 0 ∷ 0 ∷ 0 ∷ 0 ∷ 0 ∷ []) ∷ []
 
 -- SYMBOL 1 66; (7) typed into register 2, which has room; CLEAR 2, JOIN 2 0 1, for which the store is collected,
--- COLLECT; no call; WRAP 3 2, LIVE, CLEAR 2; a collection
+-- COLLECT; no call; WRAP 3 2, LIVE, JOIN 2 1 0, CLEAR 2; a collection
 abbrev pub secondHistory : List Step
 secondHistory =
     run (2 ∷ 1 ∷ 66 ∷ 0 ∷ []) (9 ∷ 9 ∷ []) (F + 2) low (0 ∷ 0 ∷ []) ∷
@@ -82,8 +85,8 @@ secondHistory =
     run (0 ∷ 2 ∷ 0 ∷ 0 ∷ 4 ∷ 2 ∷ 0 ∷ 1 ∷ 11 ∷ 0 ∷ 0 ∷ 0 ∷ []) (9 ∷ 9 ∷ 9 ∷ 9 ∷ 9 ∷ 9 ∷ []) (F + 4)
     (three (F + 2) pair) (0 ∷ 0 ∷ 0 ∷ 0 ∷ 0 ∷ 4 ∷ []) ∷
     run [] [] (F + 4) (three (F + 2) pair) [] ∷
-    run (3 ∷ 3 ∷ 2 ∷ 0 ∷ 10 ∷ 0 ∷ 0 ∷ 0 ∷ 0 ∷ 2 ∷ 0 ∷ 0 ∷ []) (9 ∷ 9 ∷ 9 ∷ 9 ∷ 9 ∷ 9 ∷ []) (F + 4) (full pair)
-    (16 ∷ 0 ∷ 0 ∷ 4 ∷ 0 ∷ 0 ∷ []) ∷
+    run (3 ∷ 3 ∷ 2 ∷ 0 ∷ 10 ∷ 0 ∷ 0 ∷ 0 ∷ 4 ∷ 2 ∷ 1 ∷ 0 ∷ 0 ∷ 2 ∷ 0 ∷ 0 ∷ []) (9 ∷ 9 ∷ 9 ∷ 9 ∷ 9 ∷ 9 ∷ 9 ∷ 9 ∷ [])
+    (F + 4) (full turned) (16 ∷ 0 ∷ 0 ∷ 4 ∷ 0 ∷ 0 ∷ 0 ∷ 0 ∷ []) ∷
     collect 2 (F + 2) low ∷
     []
 

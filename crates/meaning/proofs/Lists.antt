@@ -9,6 +9,7 @@
 --   below-suc, below-run       past a member one more, past a run of n members n more
 --   below-le                   lo and the count below c come to c at most
 --   asc-length                 there are no more members than numbers between
+--   asc-within                 nor more than a list has that has them all
 -- Assumes nothing.
 use mathlib.Core.Path.{_≡_, refl, sym, ap, _∙_}
 use mathlib.Core.Logic.{_⊎_, inl, inr}
@@ -126,3 +127,26 @@ pub asc-length : (lo hi : ℕ) (xs : List ℕ) → Asc lo xs → lo ≤ hi → (
 asc-length lo hi [] a h b = omega arith
 asc-length lo hi (x ∷ xs) a h b =
     omega (arith, a .0, asc-length (suc x) hi xs (a .1) (b x (inl refl)) (λ c i. b c (inr i)))
+
+pub asc-within : (lo : ℕ) (xs ys : List ℕ) → Asc lo xs → Asc lo ys → ((c : ℕ) → In c xs → In c ys)
+    → length xs ≤ length ys
+asc-within lo [] ys a b h = omega arith
+asc-within lo (x ∷ xs) [] a b h = absurd (h x (inl refl))
+asc-within lo (x ∷ xs) (y ∷ ys) a b h =
+    go (h x (inl refl)) (asc-within (suc x) xs ys (a .1)) (asc-within (suc y) (x ∷ xs) ys)
+  where
+    behind : (c : ℕ) → y < c → In c (y ∷ ys) → In c ys
+    behind c l (inl e) = absurd (omega arith)
+    behind c l (inr i) = i
+
+    go : (x ≡ y) ⊎ In x ys → (Asc (suc x) ys → ((c : ℕ) → In c xs → In c ys) → length xs ≤ length ys)
+        → (Asc (suc y) (x ∷ xs) → Asc (suc y) ys → ((c : ℕ) → In c (x ∷ xs) → In c ys) → suc (length xs) ≤ length ys)
+        → suc (length xs) ≤ suc (length ys)
+    go (inl e) r q =
+        let m = r (rw e (b .1)) (λ c i. behind c (omega (arith, asc-in (suc x) c xs (a .1) i)) (h c (inr i))) in
+        omega arith
+    go (inr i) r q =
+        let l = asc-in (suc y) x ys (b .1) i in
+        let m = q (l, a .1) (b .1)
+        (λ c k. behind c (omega (arith, asc-in x c (x ∷ xs) (le-refl x, a .1) k)) (h c k)) in
+        omega arith

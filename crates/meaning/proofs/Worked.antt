@@ -16,22 +16,22 @@ use Rattle.meaning.specs.Call.{keeps, sought, planOf, lacks, roomWords, 
 use Rattle.meaning.specs.Call.{stepAfter, step}
 use Rattle.meaning.specs.Program.{written, refusal, output, inputFault, program}
 use Rattle.meaning.specs.Rows.{verdictTest, doneTest, ranTest, rowTest, p1, p1Lines, p2, p3Heap, p3, p6, lone}
-use Rattle.meaning.specs.Rows.{rows}
-use Rattle.meaning.specs.Rows.{RowsRight}
+use Rattle.meaning.specs.Rows.{p11, p11Store, two, rows, RowsRight}
 use Rattle.meaning.specs.Text.{leftAfter, tooDeep, printed, printIn}
 use Rattle.meaning.specs.Judge.{isDigit, withDigit, firstMove, laterMove, moreMove}
 use Rattle.meaning.specs.Reader.{atStart, isWhole, stopVerdict, read, blank}
 use Rattle.meaning.specs.Lay.{newCells}
 use Rattle.meaning.specs.Typed.{typedOf, typeIn}
 use Rattle.meaning.specs.TextRows.{printTest, typeTest, textRowTest, t1, t1Store, nest, t11, t11Store, dead}
-use Rattle.meaning.specs.TextRows.{refuses, textRows, TextRowsRight}
+use Rattle.meaning.specs.TextRows.{behind, held, refuses, textRows, TextRowsRight}
 
 pub rows-right : RowsRight firstHeapCell
 unfolding limit codeTest programCells programBytes at reached live newAddress collectedOf collected
     bracketTest termTest cellTest lengthTest topTest verdictAt check fresh collectIn ops opAt uses wrong11 wrong12
     wrong13 fault put copy share head rest openTerm openFirst codeTerm codeFirst newSymbol newBracket newRunOf newRun
     names isOperand keeps sought planOf lacks roomWords roomTop withRoom carryOut perform stepAfter step decimal
-    written refusal output inputFault program verdictTest doneTest ranTest rowTest p1 p1Lines p2 p3Heap p3 p6 lone rows
+    written refusal output inputFault program verdictTest doneTest ranTest rowTest p1 p1Lines p2 p3Heap p3 p6 lone
+    p11 p11Store two rows
 rows-right = tt
 
 pub text-rows-right : TextRowsRight firstHeapCell
@@ -39,5 +39,5 @@ unfolding limit codeTest depthLimit at meaning bracketTest termTest cellTest len
     filled leftAfter tooDeep printed printIn verdictTest p6 lone printTest textRowTest t1 t1Store nest textRows
     isDigit withDigit firstMove laterMove moreMove atStart isWhole stopVerdict read blank put reached live newAddress
     collectedOf collected fresh sought lacks roomWords roomTop withRoom carryOut newCells typedOf typeIn typeTest t11
-    t11Store dead refuses
+    t11Store dead behind held refuses
 text-rows-right = tt

@@ -24,10 +24,10 @@ pub data Plan : Type 0 where
 unfoldable pub keeps : Op → ℕ → ℕ → ℕ → Bool
 keeps o d a b = cond (eqb (useD o) 1) (isOperand o d a b) true
 
--- The store in which room is sought, with register d kept or not: d's old expression counts in either case, so that it
--- is the store itself.
+-- The store in which room is sought. Where register d is not kept it is empty there: its old expression is about to go,
+-- and does not count.
 unfoldable pub sought : Bool → ℕ → List ℕ → List ℕ
-sought kept d ws = ws
+sought kept d ws = cond kept ws (put ws d empty)
 
 -- and for the call o d a b
 abbrev pub soughtBy : Op → ℕ → ℕ → ℕ → List ℕ → List ℕ

@@ -20,7 +20,7 @@
 --   Judge      the judgement of a byte of a text that is read
 --   Reader     a text read: where it stops, or the expression that it denotes
 --   Typed      a register typed in
---   Rows       the worked stores P1 to P8, as one table
+--   Rows       the worked stores P1 to P12, as one table
 --   TextRows   the texts to try, as one table
 -- Everything is over the first heap cell F as a parameter. In a signature `ws` are the store's words and `c` is a cell.
 -- Names of laws end in -same, -other (after a cell is put), -length, -kept (unchanged), -mono, -step (one turn),

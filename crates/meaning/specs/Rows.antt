@@ -1,4 +1,4 @@
--- The rows of SCOPE 7.1, P1 to P8, as one table with one test of a row. The rows are for a heap that begins at cell F.
+-- The rows of SCOPE 7.1, P1 to P12, as one table with one test of a row. The rows are for a heap that begins at cell F.
 -- Assumes nothing.
 use mathlib.Core.Bool.{Bool, true, false, _&&_}
 use mathlib.Core.List.{List, [], _∷_, _++_}
@@ -81,6 +81,20 @@ p6 F l r = emptyRegisters F ++ (65 ∷ 0 ∷ 66 ∷ 0 ∷ l ∷ bracketTo r ∷ 
 unfoldable pub lone : ℕ → ℕ → List ℕ
 lone F a = F ∷ bracketTo F ∷ emptyRegisters (F - 1) ++ (a ∷ 0 ∷ [])
 
+-- SYMBOL 0 65, SYMBOL 1 66, SYMBOL 2 67, COPY 3 2, JOIN 2 1 0, and what they leave where there are four heap cells
+unfoldable pub p11 : List ℕ
+p11 =
+    2 ∷ 0 ∷ 65 ∷ 0 ∷ 2 ∷ 1 ∷ 66 ∷ 0 ∷ 2 ∷ 2 ∷ 67 ∷ 0 ∷ 1 ∷ 3 ∷ 2 ∷ 0 ∷ 4 ∷ 2 ∷ 1 ∷ 0 ∷ []
+
+unfoldable pub p11Store : ℕ → List ℕ
+p11Store F =
+    F ∷ bracketTo F ∷ (1 + F) ∷ bracketTo (1 + F) ∷ (2 + F) ∷ bracketTo (2 + F) ∷ (2 + F) ∷ bracketTo (2 + F) ∷
+    emptyRegisters (F - 4) ++ (65 ∷ 0 ∷ 66 ∷ 0 ∷ 67 ∷ 0 ∷ 0 ∷ 0 ∷ [])
+
+-- register 0 on 65 and register 1 on 66 and 67, from cell c on
+unfoldable pub two : ℕ → ℕ → List ℕ
+two F c = c ∷ bracketTo c ∷ (1 + c) ∷ bracketTo (2 + c) ∷ emptyRegisters (F - 2)
+
 unfoldable pub rows : ℕ → List Row
 rows F =
     -- P1
@@ -107,6 +121,21 @@ rows F =
     runsTo (lone F 7) (1 + F) (5 ∷ 0 ∷ 0 ∷ 0 ∷ []) (0 ∷ 0 ∷ []) (lone F 7) (1 + F) ∷
     -- P8
     runsTo (fresh F F) F (12 ∷ 99 ∷ 0 ∷ 0 ∷ []) (10 ∷ 0 ∷ []) (fresh F F) F ∷
+    -- P9: SYMBOL 0 65, SYMBOL 0 66, for which the old symbol goes; WRAP 0 0, for which it counts
+    runsTo (fresh F (1 + F)) F (2 ∷ 0 ∷ 65 ∷ 0 ∷ 2 ∷ 0 ∷ 66 ∷ 0 ∷ 3 ∷ 0 ∷ 0 ∷ 0 ∷ []) (0 ∷ 0 ∷ 0 ∷ 0 ∷ 16 ∷ 0 ∷ [])
+    (lone F 66) (1 + F) ∷
+    -- P10: SYMBOL 0 65, SYMBOL 1 66, JOIN 0 0 1, JOIN 1 0 1: d counts as the one operand and as the other
+    runsTo (fresh F (3 + F)) F (2 ∷ 0 ∷ 65 ∷ 0 ∷ 2 ∷ 1 ∷ 66 ∷ 0 ∷ 4 ∷ 0 ∷ 0 ∷ 1 ∷ 4 ∷ 1 ∷ 0 ∷ 1 ∷ [])
+    (0 ∷ 0 ∷ 0 ∷ 0 ∷ 16 ∷ 0 ∷ 16 ∷ 0 ∷ [])
+    (F ∷ bracketTo F ∷ (1 + F) ∷ bracketTo (1 + F) ∷ emptyRegisters (F - 2) ++ (65 ∷ 0 ∷ 66 ∷ 0 ∷ 0 ∷ 0 ∷ [])) (2 + F) ∷
+    -- P11: JOIN 2 1 0 is refused while register 3 holds d's cell, and keeps d; CLEAR 3, and it is done in that place
+    runsTo (fresh F (4 + F)) F p11 (0 ∷ 0 ∷ 0 ∷ 0 ∷ 0 ∷ 0 ∷ 0 ∷ 0 ∷ 16 ∷ 0 ∷ []) (p11Store F) (3 + F) ∷
+    runsTo (p11Store F) (3 + F) (0 ∷ 3 ∷ 0 ∷ 0 ∷ 4 ∷ 2 ∷ 1 ∷ 0 ∷ []) (0 ∷ 0 ∷ 0 ∷ 0 ∷ [])
+    (F ∷ bracketTo F ∷ (1 + F) ∷ bracketTo (1 + F) ∷ (2 + F) ∷ bracketTo (3 + F) ∷ emptyRegisters (F - 3) ++
+    (65 ∷ 0 ∷ 66 ∷ 0 ∷ 66 ∷ 0 ∷ 65 ∷ 0 ∷ [])) (4 + F) ∷
+    -- P12: JOIN 0 1 1 behind a dead symbol: 16 leaves the store collected, register 0 counted
+    runsTo (two F (1 + F) ++ (70 ∷ 0 ∷ 65 ∷ 0 ∷ 66 ∷ 0 ∷ 67 ∷ 0 ∷ [])) (4 + F) (4 ∷ 0 ∷ 1 ∷ 1 ∷ []) (16 ∷ 0 ∷ [])
+    (two F F ++ (65 ∷ 0 ∷ 66 ∷ 0 ∷ 67 ∷ 0 ∷ 0 ∷ 0 ∷ [])) (3 + F) ∷
     -- of the rows of SCOPE 7.2: CLEAR of the last register, of one more, and with a third word of 1
     runsTo (fresh F F) F (0 ∷ (F - 1) ∷ 0 ∷ 0 ∷ 0 ∷ F ∷ 0 ∷ 0 ∷ 0 ∷ 0 ∷ 1 ∷ 0 ∷ []) (0 ∷ 0 ∷ 11 ∷ 0 ∷ 12 ∷ 0 ∷ [])
     (fresh F F) F ∷

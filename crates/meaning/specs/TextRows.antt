@@ -1,4 +1,4 @@
--- Texts to try (SCOPE 7.1, T1 to T21), as one table with one test of a row. The rows are for a heap that begins at
+-- Texts to try (SCOPE 7.1, T1 to T24), as one table with one test of a row. The rows are for a heap that begins at
 -- cell F. Assumes nothing.
 use mathlib.Core.Bool.{Bool, true, _&&_}
 use mathlib.Core.List.{List, [], _∷_, _++_}
@@ -62,6 +62,14 @@ t11Store F =
 -- a dead symbol and room for no other cell
 unfoldable pub dead : ℕ → ℕ → List ℕ
 dead F a = emptyRegisters F ++ (a ∷ 0 ∷ [])
+
+-- a dead symbol, then one that register 0 holds, and room for no other cell
+unfoldable pub behind : ℕ → List ℕ
+behind F = (1 + F) ∷ bracketTo (1 + F) ∷ emptyRegisters (F - 1) ++ (70 ∷ 0 ∷ 65 ∷ 0 ∷ [])
+
+-- one symbol that registers 0 and 1 hold
+unfoldable pub held : ℕ → List ℕ
+held F = F ∷ bracketTo F ∷ F ∷ bracketTo F ∷ emptyRegisters (F - 2) ++ (65 ∷ 0 ∷ [])
 
 -- a text that is refused by itself, in a fresh store without room: its status and offset, and nothing changes
 unfoldable pub refuses : ℕ → List ℕ → ℕ → ℕ → TextRow
@@ -146,7 +154,15 @@ textRows F =
     (emptyRegisters (F - 1) ++ (F ∷ bracketTo F ∷ 7 ∷ 0 ∷ [])) (1 + F) ∷
     types (t1Store F) (5 + F) F (120 ∷ []) 20 0 (t1Store F) (5 + F) ∷
     -- T21: that one in a damaged store
-    types (p6 F F (2 + F)) (3 + F) F (120 ∷ []) 3 (2 + F) (p6 F F (2 + F)) (3 + F) ∷ []
+    types (p6 F F (2 + F)) (3 + F) F (120 ∷ []) 3 (2 + F) (p6 F F (2 + F)) (3 + F) ∷
+    -- T22: `66` where the register's old symbol fills the heap
+    types (lone F 65) (1 + F) 0 (54 ∷ 54 ∷ []) 0 0 (lone F 66) (1 + F) ∷
+    -- T23: the same where another register holds that symbol too
+    types (held F) (1 + F) 0 (54 ∷ 54 ∷ []) 16 0 (held F) (1 + F) ∷
+    -- T24: `1 2` and `1 2 3` where the old symbol and a dead one fill the heap; 16 keeps the old one and drops the dead
+    types (behind F) (2 + F) 0 (49 ∷ 32 ∷ 50 ∷ []) 0 0
+    (F ∷ bracketTo (1 + F) ∷ emptyRegisters (F - 1) ++ (1 ∷ 0 ∷ 2 ∷ 0 ∷ [])) (2 + F) ∷
+    types (behind F) (2 + F) 0 (49 ∷ 32 ∷ 50 ∷ 32 ∷ 51 ∷ []) 16 0 (lone F 65 ++ (0 ∷ 0 ∷ [])) (1 + F) ∷ []
 
 -- every row holds
 abbrev pub TextRowsRight : ℕ → Type 0

@@ -3,6 +3,7 @@
 use Rattle.promises.specs.Table.{CheckAnswers, FreshAnswers, CollectAnswers, LookAnswers, BatchAnswers}
 use Rattle.promises.specs.Table.{CallAnswers}
 use Rattle.promises.specs.Collecting.{LiveCounts, CollectingKeeps}
+use Rattle.promises.specs.Room.{RoomInWords, RoomNotLess}
 use Rattle.promises.specs.Calls.{CallsDo, BatchesRun}
 use Rattle.promises.specs.Outright.{CallsOutright}
 use Rattle.promises.specs.Alike.{AlikeIsCollected, CollectionsNeverShow}
@@ -19,6 +20,7 @@ use Rattle.promises.specs.Unique.{OneCall, OnePrint, OneType, OneProgram
 use Rattle.promises.specs.OwnWords.{FaultsInWords, FaultRows, OneFault}
 use Rattle.promises.proofs.table.Tables as tables
 use Rattle.promises.proofs.collecting.Keeping as keeping
+use Rattle.promises.proofs.room.Seeking as seeking
 use Rattle.promises.proofs.calls.Calling as calling
 use Rattle.promises.proofs.outright.Twelve as twelve
 use Rattle.promises.proofs.alike.Alikes as alikes
@@ -68,6 +70,12 @@ faults-in-words = faults.faults-in-words
 
 pub fault-rows : FaultRows
 fault-rows = faults.fault-rows
+
+pub room-in-words : RoomInWords
+room-in-words = seeking.room-in-words
+
+pub room-not-less : RoomNotLess
+room-not-less = seeking.room-not-less
 
 pub calls-do : CallsDo
 calls-do = calling.calls-do

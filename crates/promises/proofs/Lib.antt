@@ -4,6 +4,7 @@ pub mod table
 pub mod collecting
 pub mod typing
 pub mod ownwords
+pub mod room
 pub mod calls
 pub mod outright
 pub mod alike

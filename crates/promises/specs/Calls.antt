@@ -24,7 +24,7 @@ use Rattle.promises.specs.Typing.{TypedIn}
 
 -- ---- room for the n new cells that the call needs
 
--- there is none: F + live + n exceeds the capacity; live counts d's old expression too
+-- there is none: F + live + n exceeds the capacity; live is taken in the store in which room is sought (Room)
 abbrev pub lacking : ℕ → List ℕ → ℕ → ℕ → ℕ → ℕ → ℕ → ℕ → Bool
 lacking F ws top o d a b n = ltb (capacity ws) (F + liveForRoom F ws top o d a b + n)
 

@@ -4,6 +4,7 @@
 --   Collecting  demand 2: what a collection keeps, and where
 --   OwnWords    demand 2: statuses 10 to 13
 --   Cells       demand 2: what a call leaves in the cells
+--   Room        demand 2: the store in which room is sought
 --   Calls       demand 2: what each call does, and a batch call by call
 --   Outright    demand 2: what each of the twelve does
 --   Alike       demand 3: collections never show
@@ -21,6 +22,7 @@ pub mod Requests
 pub mod Collecting
 pub mod OwnWords
 pub mod Cells
+pub mod Room
 pub mod Calls
 pub mod Outright
 pub mod Alike

@@ -1,6 +1,5 @@
 -- Demand 2, the twelve outright: on a sound store each operation, by its number and with operands that are right, does
--- to
--- expressions what SCOPE 4.1 says. In order:
+-- to expressions what SCOPE 4.1 says, where there is room as 4.4 says. In order:
 --   Sets, SetsInRoom, Refuses   what may come of a call
 --   Outright                    the twelve
 -- Assumes nothing.
@@ -15,7 +14,7 @@ use Rattle.meaning.specs.Reach.{live}
 use Rattle.meaning.specs.Collected.{collected}
 use Rattle.meaning.specs.Verdicts.{Done, done, refused, only}
 use Rattle.meaning.specs.Call.{step}
-use Rattle.meaning.specs.Effect.{liveForRoom}
+use Rattle.promises.specs.Room.{without}
 
 -- done, with value 0: register d denotes x, and every other register what it denoted
 pub record Sets (F : ℕ) (ws : List ℕ) (d : ℕ) (x : Expr) (r : Done) : Type 0 where
@@ -37,17 +36,26 @@ pub record Outright (F : ℕ) (ws : List ℕ) (top : ℕ) : Type 0 where
   -- CLEAR d, COPY d a
   pub clear : (d : ℕ) → d < F → Sets F ws d nothing (step F ws top 0 d 0 0)
   pub copy : (d a : ℕ) → d < F → a < F → Sets F ws d (meaning ws a) (step F ws top 1 d a 0)
-  -- SYMBOL d a, WRAP d a: one new cell
+  -- SYMBOL d a: one new cell; live is taken with d empty
   pub symbols : (d a : ℕ) → d < F → IsCode a
-      → SetsInRoom F ws (liveForRoom F ws top 2 d a 0) d 1 (symbol a nothing) (step F ws top 2 d a 0)
-  pub wrap : (d a : ℕ) → d < F → a < F
-      → SetsInRoom F ws (liveForRoom F ws top 3 d a 0) d 1 (parens (meaning ws a) nothing) (step F ws top 3 d a 0)
-  -- JOIN d a b: no new cell where one of the two is empty, else as many as both have terms
+      → SetsInRoom F ws (live F (without d ws) top) d 1 (symbol a nothing) (step F ws top 2 d a 0)
+  -- WRAP d a: one new cell; live is taken with d empty unless a is d
+  pub wrap : (d a : ℕ) → d < F → a < F → d ≢ a
+      → SetsInRoom F ws (live F (without d ws) top) d 1 (parens (meaning ws a) nothing) (step F ws top 3 d a 0)
+  pub wrapOwn : (d : ℕ) → d < F
+      → SetsInRoom F ws (live F ws top) d 1 (parens (meaning ws d) nothing) (step F ws top 3 d d 0)
+  -- JOIN d a b: no new cell where one of the two is empty, else as many as both have terms; live is taken with d empty
+  -- unless a or b is d
   pub joinShares : (d a b : ℕ) → d < F → a < F → b < F
       → (terms (meaning ws a) ≡ 0) ⊎ (terms (meaning ws b) ≡ 0)
       → Sets F ws d (append (meaning ws a) (meaning ws b)) (step F ws top 4 d a b)
   pub joinCopies : (d a b : ℕ) → d < F → a < F → b < F → terms (meaning ws a) ≢ 0 → terms (meaning ws b) ≢ 0
-      → SetsInRoom F ws (liveForRoom F ws top 4 d a b) d (terms (meaning ws a) + terms (meaning ws b))
+      → d ≢ a → d ≢ b
+      → SetsInRoom F ws (live F (without d ws) top) d (terms (meaning ws a) + terms (meaning ws b))
+      (append (meaning ws a) (meaning ws b)) (step F ws top 4 d a b)
+  pub joinOwn : (d a b : ℕ) → d < F → a < F → b < F → terms (meaning ws a) ≢ 0 → terms (meaning ws b) ≢ 0
+      → (d ≡ a) ⊎ (d ≡ b)
+      → SetsInRoom F ws (live F ws top) d (terms (meaning ws a) + terms (meaning ws b))
       (append (meaning ws a) (meaning ws b)) (step F ws top 4 d a b)
   -- HEAD d a: the first term
   pub headNone : (d a : ℕ) → d < F → a < F → meaning ws a ≡ nothing → Refuses ws top 14 (step F ws top 5 d a 0)

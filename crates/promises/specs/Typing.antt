@@ -39,7 +39,7 @@ Whole bs = isWhole (reads blank bs .place) ≡ true
 -- ---- the status and value in a sound store
 
 -- 20, then the text's refusal with the offset of its byte (Reading), then 16 exactly when F + live + a cell for each
--- term on all levels exceeds the capacity, where live counts d's old expression too; else 0
+-- term on all levels exceeds the capacity, where live is taken with d empty (`texts` of Room); else 0
 pub data TypedAs (F : ℕ) (ws : List ℕ) (top d : ℕ) (bs : List ℕ) : Verdict → Type 0 where
   noRegister : F ≤ d → TypedAs F ws top d bs (only 20)
   noText : (v : Verdict) → d < F → Not (Whole bs) → RefusedText bs v → TypedAs F ws top d bs v

@@ -166,7 +166,7 @@ joined with nothing/1 2 0 65 0,4 1 0 2,4 3 2 0,1 4 3 0,10 0 0 0,8 0 4 0",
 pub fn room() {
     tables::rows(
         b"no heap cell/0 2 0 1 0,3 0 0 0,4 0 0 0
-the old expression counts/1 2 0 65 0,2 0 66 0,9 0 0 0
+the old expression goes/1 2 0 65 0,2 0 66 0,9 0 0 0
 and is dead afterwards/2 2 0 65 0,2 0 66 0,9 0 0 0
 no room, and collected/2 2 0 65 0,2 0 66 0,4 1 0 0,10 0 0 0
 just room, once collected/2 2 0 65 0,2 0 66 0,3 1 0 0,10 0 0 0",

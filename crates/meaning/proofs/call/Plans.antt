@@ -1,7 +1,4 @@
 -- A plan carried out: what a call does where it acts, it does to the store; and the rule for room. In order:
---   sought-length, sought-kept   the store in which room is sought: as long, and where d is kept the store itself
---   sought-other, sought-sound   no cell but d differs, and it is sound
---   sought-meaning               what its registers denote
 --   planLacks, planTop           is there no room for a plan, and `top` when it is done
 --   topAfter, WordsAfter         `top` and the words after a call, by its status
 --   PlanMeets                    what carrying out a plan has to give for its effect
@@ -12,7 +9,6 @@
 --   carry-meets                  a plan whose action does so gives what it has to
 -- Assumes nothing.
 use mathlib.Core.Path.{_≡_, refl, sym, _∙_}
-use mathlib.Core.Logic.{_≢_}
 use mathlib.Core.Bool.{Bool, true, false, cond}
 use mathlib.Core.List.{List}
 use Prim.Native.Nat.{ℕ, zero, suc, _+_, _-_, _*_, _/_, _≤_, _<_}
@@ -21,46 +17,17 @@ use native.Mathlib.Omega.{arith}
 use lib.Dec.{ltb, eqb}
 use lib.ListN.{length}
 use borrow.Author.Tests.{ltb-false, le-ltb, ne-eqb}
-use Rattle.words.specs.Cell.{firstWord, secondWord}
 use Rattle.meaning.specs.Sound.{at, Sound, capacity}
 use Rattle.meaning.specs.Meaning.{meaning}
 use Rattle.meaning.specs.Reach.{live}
 use Rattle.meaning.specs.Collected.{collected, collectedTop}
 use Rattle.meaning.specs.Verdicts.{Done, only, refused}
-use Rattle.meaning.specs.Call.{Plan, plain, inCollected, laying, sought, lacks, roomWords, roomTop, withRoom}
+use Rattle.meaning.specs.Call.{Plan, plain, inCollected, laying, lacks, roomWords, roomTop, withRoom}
 use Rattle.meaning.specs.Call.{carryOut}
 use Rattle.meaning.specs.Effect.{Effect, orElse, after, answer}
 use Rattle.meaning.proofs.reach.Reaching.{live-le}
 use Rattle.meaning.proofs.collected.Collecting.{collected-sound, length-collected, meaning-kept}
 use Rattle.meaning.proofs.effect.Effects.{Denote, Acts}
-
--- ---- the store in which room is sought, by laws: nothing else unfolds it
-
-pub sought-length : (kept : Bool) (d : ℕ) (ws : List ℕ) → length (sought kept d ws) ≡ length ws
-unfolding sought
-sought-length kept d ws = refl
-
--- where d is kept it is the store
-pub sought-kept : (d : ℕ) (ws : List ℕ) → sought true d ws ≡ ws
-unfolding sought
-sought-kept d ws = refl
-
--- no cell but d differs
-pub sought-other : (kept : Bool) (d : ℕ) (ws : List ℕ) (c : ℕ) → c ≢ d
-    → (firstWord (sought kept d ws) c ≡ firstWord ws c) × (secondWord (sought kept d ws) c ≡ secondWord ws c)
-unfolding sought
-sought-other kept d ws c n = (refl, refl)
-
-module _ (F : ℕ) (ws : List ℕ) (top : ℕ) (p : 0 < F) (s : Sound F ws top) where
-  pub sought-sound : (kept : Bool) (d : ℕ) → (kept ≡ false → d < F) → Sound F (sought kept d ws) top
-  unfolding sought
-  sought-sound kept d l = s
-
-  -- a register that is not d, or is kept, denotes in it what it denotes
-  pub sought-meaning : (kept : Bool) (d : ℕ) → (kept ≡ false → d < F) → (i : ℕ) → i < F → (i ≡ d → kept ≡ true)
-      → meaning (sought kept d ws) i ≡ meaning ws i
-  unfolding sought
-  sought-meaning kept d l i h k = refl
 
 -- ---- what carrying out a plan has to give
 

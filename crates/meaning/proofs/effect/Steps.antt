@@ -35,7 +35,8 @@ use Rattle.meaning.proofs.effect.Building.{join-both-acts}
 use Rattle.meaning.proofs.operands.Uses.{keeps-a, keeps-b, unkept-register, WordsRight, right, is-register}
 use Rattle.meaning.proofs.operands.Uses.{is-code}
 use Rattle.meaning.proofs.operands.Uses.{fault-small}
-use Rattle.meaning.proofs.call.Plans.{sought-sound, sought-length, sought-meaning, planLacks, planTop, topAfter}
+use Rattle.meaning.proofs.call.Sought.{sought-sound, sought-length, sought-meaning}
+use Rattle.meaning.proofs.call.Plans.{planLacks, planTop, topAfter}
 use Rattle.meaning.proofs.call.Plans.{WordsAfter, PlanMeets, PlanDoes, carry-meets}
 
 -- ---- a call whose own words are right

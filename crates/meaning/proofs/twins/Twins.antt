@@ -4,10 +4,10 @@
 --   Twin                               two such stores
 --   twin-self, twin-flip, twin-trans   a store and itself;  the other way round;  by a third
 --   twin-collected                     a store, collected or not, and the store
---   sought-twin                        the stores in which twins seek room are twins
 --   Steady                             an action answers the same in a store and in that store collected
 --   twin-live, twin-size               live and the sizes of registers are the same in twins
 --   via, via-collected                 a steady action in twins, and any action in twins once collected
+--   sought-twin                        the stores in which twins seek room are twins
 --   Builds                             an action for n new cells, steady where the registers denote what they do in v
 --   room-twin                          such an action in twins, once room is sought
 -- Assumes nothing.
@@ -18,18 +18,20 @@ use Prim.Native.Nat.{ℕ, _+_, _*_, _≤_, _<_}
 use native.Mathlib.Omega.{arith}
 use lib.Dec.{ltb}
 use lib.ListN.{length}
-use Rattle.meaning.specs.Sound.{at, Sound, capacity, size}
+use Rattle.meaning.specs.Sound.{empty, at, Sound, capacity, size}
 use Rattle.meaning.specs.Meaning.{meaning}
 use Rattle.meaning.specs.Reach.{live}
 use Rattle.meaning.specs.Collected.{collected, collectedTop}
-use Rattle.meaning.specs.Verdicts.{Done, refused, only}
+use Rattle.meaning.specs.Verdicts.{Done, done, refused, only}
+use Rattle.meaning.specs.Actions.{put}
 use Rattle.meaning.specs.Call.{sought, lacks, roomWords, roomTop, withRoom}
 use Rattle.meaning.proofs.collected.Collecting.{collected-sound, length-collected}
+use Rattle.meaning.proofs.actions.Writing.{length-put, sound-register}
 use Rattle.meaning.proofs.effect.Effects.{Denote}
 use Rattle.meaning.proofs.call.Plans.{room-sound, room-denote, room-fits}
 use Rattle.meaning.proofs.twins.Canons.{canon, length-canon, same-collected}
 use Rattle.meaning.proofs.twins.Pairs.{canon-collected}
-use Rattle.meaning.proofs.twins.Agree.{Agree, size-register}
+use Rattle.meaning.proofs.twins.Agree.{Agree, size-register, clear-same}
 
 pub record Twin (F : ℕ) (ws : List ℕ) (top : ℕ) (ws′ : List ℕ) (top′ : ℕ) : Type 0 where
   pub one : Sound F ws top
@@ -60,12 +62,6 @@ twin-collected F ws top p s true =
           F ws top p s;
     }
 twin-collected F ws top p s false = twin-self F ws top s
-
--- the store in which room is sought, by the one law that unfolds it here: twins have twins
-pub sought-twin : (F : ℕ) (ws : List ℕ) (top : ℕ) (ws′ : List ℕ) (top′ : ℕ) → 0 < F → Twin F ws top ws′ top′
-    → (kept : Bool) (d : ℕ) → (kept ≡ false → d < F) → Twin F (sought kept d ws) top (sought kept d ws′) top′
-unfolding sought
-sought-twin F ws top ws′ top′ p t kept d l = t
 
 -- ---- actions
 
@@ -98,6 +94,20 @@ module _ (F : ℕ) (ws : List ℕ) (top : ℕ) (ws′ : List ℕ) (top′ : ℕ)
   via-collected act =
       let c = same-collected F ws top ws′ top′ (t .len) (t .same) in rw (c .0, c .1)
       (record { verdict = refl; same = refl })
+
+-- ---- the store in which room is sought, by the one law that unfolds it here: twins have twins
+
+pub sought-twin : (F : ℕ) (ws : List ℕ) (top : ℕ) (ws′ : List ℕ) (top′ : ℕ) → 0 < F → Twin F ws top ws′ top′
+    → (kept : Bool) (d : ℕ) → (kept ≡ false → d < F) → Twin F (sought kept d ws) top (sought kept d ws′) top′
+unfolding sought
+sought-twin F ws top ws′ top′ p t true d l = t
+sought-twin F ws top ws′ top′ p t false d l = record {
+  one = sound-register F ws top p (t .one) d (l refl) empty tt;
+  two = sound-register F ws′ top′ p (t .two) d (l refl) empty tt;
+  len = length-put ws d empty ∙ (t .len ∙ sym (length-put ws′ d empty));
+  same = via F ws top ws′ top′ p t (λ v u. done (put v d empty) u 0) (clear-same F ws top p (t .one) d (l refl))
+      (clear-same F ws′ top′ p (t .two) d (l refl)) .same;
+}
 
 -- ---- n new cells, room sought in v: an action that answers the same wherever the registers denote what they do in v
 

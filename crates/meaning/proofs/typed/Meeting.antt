@@ -17,7 +17,8 @@ use Rattle.meaning.specs.Effect.{typing}
 use Rattle.meaning.specs.Text.{Readable}
 use Rattle.meaning.specs.Reader.{reads, blank, isWhole, expression}
 use Rattle.meaning.specs.Typed.{typePlan}
-use Rattle.meaning.proofs.call.Plans.{sought-sound, sought-length, sought-meaning, PlanMeets, PlanDoes}
+use Rattle.meaning.proofs.call.Sought.{sought-sound, sought-length, sought-meaning}
+use Rattle.meaning.proofs.call.Plans.{PlanMeets, PlanDoes}
 use Rattle.meaning.proofs.call.Plans.{carry-meets}
 use Rattle.meaning.proofs.lay.Each.{Coded}
 use Rattle.meaning.proofs.lay.Denoting.{text-acts}

@@ -26,7 +26,8 @@ use Rattle.meaning.proofs.effect.Effects.{Denote}
 use Rattle.meaning.proofs.effect.Stepping.{size-terms}
 use Rattle.meaning.proofs.sound.Cells.{BracketIn, good}
 use Rattle.meaning.proofs.operands.Uses.{WordsRight, is-register, is-code, keeps-a, keeps-b}
-use Rattle.meaning.proofs.call.Plans.{sought-kept, sought-other, planTop}
+use Rattle.meaning.proofs.call.Sought.{sought-kept, sought-other}
+use Rattle.meaning.proofs.call.Plans.{planTop}
 use Rattle.meaning.proofs.effect.Steps.{sound-by, length-by, size-a, size-b}
 use Rattle.promises.specs.Cells.{dCell, newCell, Leaves}
 use Rattle.promises.proofs.calls.Rooms.{stays, room-top, room-leaves}

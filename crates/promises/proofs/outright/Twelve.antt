@@ -20,11 +20,13 @@ use Rattle.meaning.specs.Reach.{live}
 use Rattle.meaning.specs.Collected.{collected}
 use Rattle.meaning.specs.Verdicts.{Done, done}
 use Rattle.meaning.specs.Operands.{ops, opAt, uses, wrong11, wrong12, wrong13, fault}
-use Rattle.meaning.specs.Call.{joinNeed, step}
+use Rattle.meaning.specs.Call.{joinNeed, soughtBy, step}
 use Rattle.meaning.specs.Effect.{effect, sets, becomes, liveForRoom, callStatus}
 use Rattle.meaning.proofs.operands.Uses.{right}
 use Rattle.meaning.proofs.effect.Steps.{no-need, step-meets}
+use Rattle.promises.specs.Room.{without}
 use Rattle.promises.specs.Outright.{Sets, SetsInRoom, Refuses, CallsOutright}
+use Rattle.promises.proofs.room.Seeking.{room-in-words}
 use Rattle.promises.proofs.calls.Rooms.{stays}
 use Rattle.promises.proofs.calls.Calling.{calls-do}
 
@@ -93,8 +95,9 @@ module _ (F : ℕ) (p : 0 < F) (ws : List ℕ) (top : ℕ) (s : Sound F ws top) 
           step-meets F ws top p s o d a b .status
           ∙ rw (f, e, lt-ltb (capacity ws) (F + liveForRoom F ws top o d a b + n) l) refl
 
-      in-room : d < F → SetsInRoom F ws (liveForRoom F ws top o d a b) d n x r
-      in-room h = record { room = sets-d h; noRoom = no-room }
+      -- with room sought in v
+      in-room : (v : List ℕ) → soughtBy (opAt o) d a b ws ≡ v → d < F → SetsInRoom F ws (live F v top) d n x r
+      in-room v q h = rw (← q) (record { room = sets-d h; noRoom = no-room })
 
     -- without new cells there is always room
     sets-now : (x : Expr) → effect F ws top o d a b ≡ sets 0 (meaning ws) d x 0 → d < F → Sets F ws d x r
@@ -146,14 +149,22 @@ unfolding opAt ops
 calls-outright F p ws top s = record {
   clear = λ d h. sets-now F p ws top s 0 d 0 0 (fault-d F d h) nothing refl h;
   copy = λ d a h k. sets-now F p ws top s 1 d a 0 (fault-da F d a h k .0) (meaning ws a) refl h;
-  symbols = λ d a h k. in-room F p ws top s 2 d a 0 (fault-code F d a h k) 1 (symbol a nothing) refl h;
-  wrap = λ d a h k. in-room F p ws top s 3 d a 0 (fault-da F d a h k .1) 1 (parens (meaning ws a) nothing) refl h;
+  symbols = λ d a h k. in-room F p ws top s 2 d a 0 (fault-code F d a h k) 1 (symbol a nothing) refl (without d ws)
+      (room-in-words ws d a 0 .symbols) h;
+  wrap = λ d a h k n. in-room F p ws top s 3 d a 0 (fault-da F d a h k .1) 1 (parens (meaning ws a) nothing) refl
+      (without d ws) (room-in-words ws d a 0 .wraps n) h;
+  wrapOwn = λ d h. in-room F p ws top s 3 d d 0 (fault-da F d d h h .1) 1 (parens (meaning ws d) nothing) refl ws
+      (room-in-words ws d d 0 .wrapsOwn refl) h;
   joinShares = λ d a b h k l q. sets-now F p ws top s 4 d a b (fault-dab F d a b h k l)
       (append (meaning ws a) (meaning ws b))
       (rw (join-none (terms (meaning ws a)) (terms (meaning ws b)) q) refl) h;
-  joinCopies = λ d a b h k l x y. in-room F p ws top s 4 d a b (fault-dab F d a b h k l)
+  joinCopies = λ d a b h k l x y n m. in-room F p ws top s 4 d a b (fault-dab F d a b h k l)
       (terms (meaning ws a) + terms (meaning ws b)) (append (meaning ws a) (meaning ws b))
-      (rw (join-some (terms (meaning ws a)) (terms (meaning ws b)) x y) refl) h;
+      (rw (join-some (terms (meaning ws a)) (terms (meaning ws b)) x y) refl) (without d ws)
+      (room-in-words ws d a b .joins n m) h;
+  joinOwn = λ d a b h k l x y q. in-room F p ws top s 4 d a b (fault-dab F d a b h k l)
+      (terms (meaning ws a) + terms (meaning ws b)) (append (meaning ws a) (meaning ws b))
+      (rw (join-some (terms (meaning ws a)) (terms (meaning ws b)) x y) refl) ws (room-in-words ws d a b .joinsOwn q) h;
   headNone = λ d a h k z. refuses F p ws top s 5 d a 0 (fault-da F d a h k .2) 13 (rw z refl) (omega arith);
   headSymbol = λ d a c e h k z.
       sets-now F p ws top s 5 d a 0 (fault-da F d a h k .2) (symbol c nothing) (rw z refl) h;

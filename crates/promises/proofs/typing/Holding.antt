@@ -23,7 +23,7 @@ use Rattle.meaning.specs.Typed.{typeIn}
 use Rattle.meaning.proofs.Lists.{lt-or-ge}
 use Rattle.meaning.proofs.sound.Cells.{good}
 use Rattle.meaning.proofs.reach.Reaching.{between-reg, between-term}
-use Rattle.meaning.proofs.call.Plans.{sought-sound}
+use Rattle.meaning.proofs.call.Sought.{sought-sound}
 use Rattle.meaning.proofs.lay.Places.{deep-length, laid-length, after}
 use Rattle.meaning.proofs.lay.Holding.{holder, Holds, last-holds, laid-holds}
 use Rattle.meaning.proofs.lay.Denoting.{each-at}

@@ -29,7 +29,8 @@ use Rattle.meaning.specs.Typed.{typePlan, typeIn}
 use Rattle.meaning.proofs.sound.Cells.{term-of-bracket}
 use Rattle.meaning.proofs.check.Checking.{sound-check}
 use Rattle.meaning.proofs.actions.Writing.{at-put, at-put-other}
-use Rattle.meaning.proofs.call.Plans.{sought-length, sought-other, sought-sound, planLacks, planTop, PlanMeets}
+use Rattle.meaning.proofs.call.Sought.{sought-length, sought-other, sought-sound}
+use Rattle.meaning.proofs.call.Plans.{planLacks, planTop, PlanMeets}
 use Rattle.meaning.proofs.lay.Each.{Coded}
 use Rattle.meaning.proofs.lay.Denoting.{laid-more, laid-at, laid-in}
 use Rattle.meaning.proofs.typed.Cases.{TypeCases, unsound, none, stopped, whole, type-cases}

@@ -4,7 +4,7 @@ use native.Mathlib.Omega.{arith}
 use borrow.Author.Needs.{needs}
 use Rattle.meaning.specs.Limits.{firstHeapCell}
 use Rattle.meaning.specs.Actions.{newRun}
-use Rattle.meaning.proofs.call.Plans.{sought-meaning}
+use Rattle.meaning.proofs.call.Sought.{sought-meaning}
 use Rattle.store.proofs.Sounds.{firstHeapCell-pos}
 use Rattle.build.proofs.Rooms.{room-roomy, room-does, room-refuses, room-size}
 use Rattle.calls.proofs.building.join_full.Statement.{statement}
