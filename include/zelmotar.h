@@ -154,7 +154,7 @@ enum {
     ZELMOTAR_BAD_CODE = 13,      /* SYMBOL, or a text, with a code over 268,435,455 */
     ZELMOTAR_EMPTY = 14,         /* HEAD, REST, OPEN or FIRST on an empty register */
     ZELMOTAR_WRONG_KIND = 15,    /* OPEN on a symbol, or FIRST on a bracket */
-    ZELMOTAR_NO_ROOM = 16        /* no room for the new cells; the store is left collected */
+    ZELMOTAR_NO_ROOM = 16        /* no room for the new cells; no expression changes, and the store is left collected */
 };
 
 /* Status of a print: ZELMOTAR_DONE; or one of ZELMOTAR_BAD_LENGTH to ZELMOTAR_DAMAGED, with its value; or one of
@@ -173,7 +173,8 @@ enum {
 };
 
 /* Operations. A call is four words: operation, d, a, b. Words that are not named here must be 0. Registers
- * may coincide. A shared expression takes no new cells. */
+ * may coincide. A shared expression takes no new cells. No CLEAR is needed before a register is overwritten: what d
+ * held does not count where room is sought, unless the call reads it. */
 enum {
     ZELMOTAR_CLEAR = 0,  /* d        register d becomes empty */
     ZELMOTAR_COPY = 1,   /* d a      d becomes a, shared */
@@ -244,9 +245,11 @@ ZELMOTAR_USE_RESULT zelmotar_reply zelmotar_collect(uint32_t *words, size_t n, s
  * after those of the last call become 0. The call list is not written.
  * The check is made once for the batch. A call then takes the same time on every store, but for JOIN, which takes
  * time with the cells that it copies, and for LIVE, COLLECT and each call that collects, which go over the
- * occupied cells as zelmotar_collect does.
+ * occupied cells as zelmotar_collect does; one that collects to make room does so twice at most.
  * New cells are laid from top upward. Only where they would not fit is the store collected, and only if
- * they do not fit then is the call refused with ZELMOTAR_NO_ROOM.
+ * they do not fit then is the call refused with ZELMOTAR_NO_ROOM. What register d held until then does not count
+ * and goes in that collection, unless d is an operand register too, as in WRAP 0 0; cells that another register
+ * reaches count and stay. A call that is refused so leaves the store collected, and d keeps what it held.
  * Answers ZELMOTAR_DONE with value 0 and the new top once every call has its answer, refused ones too;
  * else one of ZELMOTAR_BAD_LENGTH to ZELMOTAR_SHORT_ANSWERS, and then no call is run and top comes back as it
  * came. A batch of no calls is done and changes no word of the store. */
@@ -283,9 +286,10 @@ ZELMOTAR_USE_RESULT zelmotar_text zelmotar_print(const uint32_t *words, size_t n
  * Each term takes one new cell, those inside brackets too; none is shared. They are laid from top upward: of an
  * expression first what its brackets hold, from left to right and each by the same rule, then its own terms side by
  * side. Only where they would not fit is the store collected, and only if they do not fit then is the text refused
- * with ZELMOTAR_NO_ROOM. What the register held until then counts as live. A text of no bytes never collects.
- * After the check it takes time with the bytes that it reads, and goes over the occupied cells as zelmotar_collect does
- * where it collects.
+ * with ZELMOTAR_NO_ROOM. What the register held until then does not count and goes in that collection, but for cells
+ * that another register reaches; so it need not be emptied first. A text of no bytes never collects.
+ * After the check it takes time with the bytes that it reads, and goes over the occupied cells as zelmotar_collect
+ * does, twice at most, where it collects.
  * Answers ZELMOTAR_DONE with value 0 and the new top. Else the register keeps its expression, and so does every other,
  * and the status is, in this order: ZELMOTAR_BAD_LENGTH, ZELMOTAR_BAD_TOP or ZELMOTAR_DAMAGED as zelmotar_check has it,
  * with its value; ZELMOTAR_NO_REGISTER with value 0; ZELMOTAR_BAD_CODE, ZELMOTAR_TOO_DEEP or ZELMOTAR_NOT_TEXT, with

@@ -63,7 +63,7 @@ int main(void)
     type("(7  1 12)", ZELMOTAR_NOT_TEXT);        /* one blank too many */
     type("(7 1 4294967295)", ZELMOTAR_BAD_CODE); /* at the digit that makes it too large */
     type("8 2", ZELMOTAR_DONE);                  /* the cells of the line before are dead now */
-    type("(8 2) 3", ZELMOTAR_DONE);              /* and have gone, as there was no other room */
+    type("(8 2) 3", ZELMOTAR_DONE);              /* and have gone with those of 8 2, as there was no other room */
     type("(7 1 12) (8 2 13)", ZELMOTAR_NO_ROOM);
     return 0;
 }

@@ -98,14 +98,26 @@ fn all_live(capacity: usize) -> Lent {
     lists(capacity, 1)
 }
 
-/// The last two symbols of the store above, taken from their list: one is dead, the other is all
-/// that the last scratch register holds. A new symbol for that register takes the room of the dead
-/// one, and then the old one is dead.
-fn one_dead(capacity: usize) -> Lent {
+/// The last symbol of the store above, taken from its list, is all that the last scratch register
+/// holds. Each new symbol for that register takes its room.
+fn one_own(capacity: usize) -> Lent {
     let (mut words, top) = all_live(capacity);
     let list_of_last = ((top - FIRST_HEAP_CELL) / 4 - 1) % KEPT;
-    plain::put(&mut words, list_of_last, Cell::Bracket(top - 4, top - 3));
-    plain::put(&mut words, SCRATCH[3] as usize, Cell::Bracket(top - 1, top - 1));
+    plain::put(&mut words, list_of_last, Cell::Bracket(top - 4, top - 2));
+    plain::put(&mut words, TYPED, Cell::Bracket(top - 1, top - 1));
+    (words, top)
+}
+
+/// A store with what register 0 holds in the last scratch register too.
+fn copied((mut words, top): Lent) -> Lent {
+    words.copy_within(0..2, 2 * TYPED);
+    (words, top)
+}
+
+/// A store with what register 0 holds in the last scratch register instead.
+fn moved(store: Lent) -> Lent {
+    let (mut words, top) = copied(store);
+    plain::put(&mut words, 0, Cell::Empty);
     (words, top)
 }
 
@@ -223,6 +235,8 @@ enum Work<'a> {
     Collect,
     /// A batch of one LIVE call.
     Live,
+    /// A batch of one call.
+    Call(&'a [u32]),
     /// A batch of many calls.
     Run(&'a [u32]),
     /// Register 0 printed into so many bytes.
@@ -239,6 +253,7 @@ impl<'a> Work<'a> {
             Work::Look => "look",
             Work::Collect => "collect",
             Work::Live => "live",
+            Work::Call(_) => "call",
             Work::Run(_) => "run",
             Work::Print(_) => "print",
             Work::Type(_) => "type",
@@ -250,7 +265,7 @@ impl<'a> Work<'a> {
         const LIVE: [u32; 4] = Call::Live.words();
         match self {
             Work::Live => &LIVE,
-            Work::Run(calls) => calls,
+            Work::Call(calls) | Work::Run(calls) => calls,
             _ => &[],
         }
     }
@@ -266,7 +281,7 @@ impl<'a> Work<'a> {
                 seen(from, to)
             }),
             Work::Collect => Box::new(move |words, top, _| told(raw::collect(words, top))),
-            Work::Live | Work::Run(_) => Box::new(move |words, top, answers| {
+            Work::Live | Work::Call(_) | Work::Run(_) => Box::new(move |words, top, answers| {
                 told(raw::run(words, top, self.calls(), answers))
             }),
             Work::Print(bytes) => {
@@ -293,7 +308,7 @@ impl<'a> Work<'a> {
                 seen(from, to)
             }),
             Work::Collect => Box::new(move |words, top, _| store.collect(words, top)),
-            Work::Live | Work::Run(_) => {
+            Work::Live | Work::Call(_) | Work::Run(_) => {
                 Box::new(move |words, top, answers| store.run(words, top, self.calls(), answers))
             }
             Work::Print(bytes) => {
@@ -456,8 +471,24 @@ fn stores() {
     rows(Work::Live, &stores);
     rows(Work::Run(&day_calls()), &[("day from its start", empty_store(1024))]);
     rows(Work::Run(&mixed_calls()), &stores[1..4]);
-    let full = [("forced", one_dead(4096)), ("no room", all_live(4096))];
+    let full = [("forced", one_own(4096)), ("no room", all_live(4096))];
     rows(Work::Run(&symbol_calls()), &full);
+}
+
+/// One call or text that collects a full store for a register that holds something, and a collection alone.
+fn forced() {
+    table("One call or text that has to collect a full store.", "cell or byte");
+    let [.., d] = SCRATCH;
+    let symbol = Call::Symbol { d, code: 65 };
+    let store = moved(half_dead(4096));
+    row(Work::Collect, "half dead", &store, true);
+    for call in [symbol, Call::Wrap { d, a: 1 }, Call::Join { d, a: 1, b: 2 }] {
+        row(Work::Call(&call.words()), &format!("{call}, half dead"), &store, true);
+    }
+    row(Work::Type(&symbols(100)), "100 symbols, half dead", &store, true);
+    let full = copied(all_live(4096));
+    row(Work::Collect, "all live", &full, true);
+    row(Work::Call(&symbol.words()), &format!("{symbol}, all live, no room"), &full, true);
 }
 
 /// Register 0 of some stores, printed whole into a long text space, or as far as it fits.
@@ -586,6 +617,7 @@ fn main() {
     let told = |wanted: &str| env::args().any(|word| word == wanted);
     if !told("growth") {
         stores();
+        forced();
         prints();
         types();
     }

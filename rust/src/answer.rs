@@ -99,7 +99,8 @@ pub enum Fault {
     Empty,
     /// 15: `Open` on a symbol, or `First` on a bracket.
     Kind,
-    /// 16: there is no room, though the store has been collected.
+    /// 16: there is no room for the new cells; [`Call`] says what counts. The store has been collected, and
+    /// every register has its expression.
     Room,
 }
 
@@ -172,7 +173,8 @@ pub enum Refusal {
         /// The place of the digit in the text, from 0.
         offset: usize,
     },
-    /// 16: there is no room for a typed text, though the store has been collected.
+    /// 16: there is no room for a typed text, not even without what its register held. The store has been
+    /// collected, and every register has its expression.
     NoRoom,
     /// 20: the register to be printed or typed in is over 15.
     NoRegister,

@@ -10,6 +10,11 @@ use crate::Fault;
 /// of range is no error here: the store refuses the call and says so in its
 /// [`Answer`](crate::Answer).
 ///
+/// Where the new cells of a call do not fit, the store collects itself. What `d` held until then does not
+/// count and goes, unless the call reads `d` too; cells that another register reaches count and stay. So a
+/// register need not be cleared before it is overwritten. If the new cells do not fit even then, the call is
+/// refused with [`Fault::Room`], and `d` keeps what it held.
+///
 /// ```
 /// use zelmotar::Call;
 ///
@@ -17,6 +22,22 @@ use crate::Fault;
 /// assert_eq!(Call::Length { a: 7 }.words(), [8, 0, 7, 0]);
 /// assert_eq!(Call::Length { a: 7 }.to_string(), "LENGTH 7");
 /// assert_eq!(Call::try_from([8, 0, 7, 0]), Ok(Call::Length { a: 7 }));
+/// ```
+///
+/// In a store with one heap cell:
+///
+/// ```
+/// use zelmotar::{Answer, Call, Fault, Store};
+///
+/// # fn main() -> Result<(), zelmotar::Refusal> {
+/// let answers = Store::new(17)?.run(&[
+///     Call::Symbol { d: 0, code: 65 },
+///     Call::Symbol { d: 0, code: 66 },
+///     Call::Wrap { d: 0, a: 0 },
+/// ])?;
+/// assert_eq!(answers, [Answer::Done, Answer::Done, Answer::Refused(Fault::Room)]);
+/// # Ok(())
+/// # }
 /// ```
 #[derive(Clone, Copy, Debug, PartialEq, Eq, Hash)]
 pub enum Call {
@@ -32,14 +53,15 @@ pub enum Call {
         /// The register that is read.
         a: u32,
     },
-    /// Register `d` becomes one symbol. It needs one new cell.
+    /// Register `d` becomes one symbol. It needs one new cell; what `d` held does not count.
     Symbol {
         /// The register that changes.
         d: u32,
         /// The code of the symbol, at most [`MAX_CODE`](crate::MAX_CODE).
         code: u32,
     },
-    /// Register `d` becomes one bracket around the expression of `a`. It needs one new cell.
+    /// Register `d` becomes one bracket around the expression of `a`. It needs one new cell; what `d` held
+    /// counts only where `a` is the same register.
     Wrap {
         /// The register that changes.
         d: u32,
@@ -49,7 +71,7 @@ pub enum Call {
     /// Register `d` becomes the terms of `a`, then those of `b`.
     ///
     /// If one of the two is empty the other one is shared. Else it needs a new cell for each term
-    /// of both.
+    /// of both; what `d` held counts only where `a` or `b` is the same register.
     Join {
         /// The register that changes.
         d: u32,

@@ -190,7 +190,7 @@ impl<W: AsRef<[u32]> + AsMut<[u32]>> Store<W> {
     /// A refused call does not stop the calls after it; with [`run_all`](Store::run_all) it does. So the
     /// answers are to be looked at, though the compiler, which warns of one that is dropped, does not
     /// warn of a vector of them. The store collects itself where a call would not fit otherwise, and
-    /// only there.
+    /// only there; [`Call`] says what counts then.
     ///
     /// # Errors
     ///
@@ -438,8 +438,8 @@ impl<W: AsRef<[u32]> + AsMut<[u32]>> Store<W> {
     /// Only a text as [`print`](Store::print) writes it is read: codes in decimal without leading zeros,
     /// one blank between two terms and none elsewhere, and at most [`MAX_DEPTH`](crate::MAX_DEPTH) brackets
     /// open at one place. A text of no bytes makes the register empty. The store collects itself where the
-    /// new cells would not fit otherwise, and only there; what the register held is kept until it is set,
-    /// and counts.
+    /// new cells would not fit otherwise, and only there. What the register held does not count then and
+    /// goes, but for cells that another register reaches; so it need not be emptied first.
     ///
     /// # Errors
     ///
@@ -468,7 +468,11 @@ impl<W: AsRef<[u32]> + AsMut<[u32]>> Store<W> {
     /// assert_eq!(store.type_in(1, b"268435456"), Err(Refusal::BadCode { offset: 8 }));
     /// assert_eq!(store.type_in(2, b"65"), Err(Refusal::NoRoom));
     /// assert_eq!(store.type_in(16, b"65"), Err(Refusal::NoRegister));
+    /// assert_eq!(store.type_in(1, b"1 2 3 4 5 6"), Err(Refusal::NoRoom));
     /// assert_eq!(store.print(1, &mut [0; 13])?, "65 (66 67) ()");
+    ///
+    /// store.type_in(1, b"1 2 3 4 5")?; // What it held makes room.
+    /// assert_eq!(store.print(1, &mut [0; 13])?, "1 2 3 4 5");
     /// # Ok(())
     /// # }
     /// ```

@@ -55,6 +55,10 @@ fn a_text_typed_into_an_array() {
     assert_eq!(store.type_str(0, "65 66"), Err(Refusal::NoRoom));
     assert_eq!(store.type_str(0, "65"), Ok(()));
     assert_eq!((store.top(), store.print(0, &mut [7; 2])), (20, Ok("65")));
+    // What register 1 holds makes room for as many cells.
+    assert_eq!(store.type_str(1, "1 2 3 4"), Err(Refusal::NoRoom));
+    assert_eq!(store.type_str(1, "1 2 3"), Ok(()));
+    assert_eq!((store.top(), store.print(1, &mut [7; 5])), (20, Ok("1 2 3")));
 }
 
 #[test]

@@ -5,8 +5,8 @@
  * Each list stands once right after such a page and once right before one, and so does each list of a random
  * case, for all seven functions; a list that a function only reads stands in pages that cannot be written. All
  * have to answer and to leave what they do in plain memory. The rows of texts of SCOPE 7.1 are printed and typed there
- * too, and every text of up to two bytes is typed. That the pages do fault is tried first, in processes of their own.
- * For Linux and its like. */
+ * too, every text of up to two bytes is typed, and calls are run for which room is short. That the pages do fault is
+ * tried first, in processes of their own. For Linux and its like. */
 #define _DEFAULT_SOURCE
 #include <signal.h>
 #include <sys/mman.h>
@@ -185,7 +185,14 @@ static void prints(size_t reg, size_t text_n, uint32_t status, uint32_t value, c
     }
 }
 
-/* A store with register d on l to r; empty with both 0. Cells are put from 16 on. */
+/* Sets register d to l to r; empty with both 0. */
+static void hold(size_t d, uint32_t l, uint32_t r)
+{
+    ZELMOTAR_FIRST_WORD(c.words, d) = l;
+    ZELMOTAR_SECOND_WORD(c.words, d) = ZELMOTAR_BRACKET + r;
+}
+
+/* A store with register d on l to r. Cells are put from 16 on. */
 static void start_with(size_t cells, size_t d, uint32_t l, uint32_t r)
 {
     zelmotar_reply answer;
@@ -193,8 +200,7 @@ static void start_with(size_t cells, size_t d, uint32_t l, uint32_t r)
     answer = zelmotar_fresh(c.words, c.words_n);
     EXPECT(answer.status == ZELMOTAR_DONE);
     c.top = answer.top;
-    ZELMOTAR_FIRST_WORD(c.words, d) = l;
-    ZELMOTAR_SECOND_WORD(c.words, d) = ZELMOTAR_BRACKET + r;
+    hold(d, l, r);
 }
 
 /* One of 100 cells. */
@@ -351,12 +357,30 @@ static void typed_rows_of_room(void)
     types(&full, 0, "9", 0, 0);
     start_with(16, 0, 0, 0);
     refuses(0, "1", 16, 0);
-    fill(16, 16); /* what the register holds counts, though it is about to go */
-    refuses(0, "9", 16, 0);
     fill(0, 0); /* a text of no bytes does not collect, and one that is refused by itself does not */
     refuses(0, "", 0, 0), refuses(0, "1 1 ", 23, 4), refuses(0, "1 268435456", 13, 10);
-    start_with(18, 0, 0, 0), put(7, 0), full = c; /* nor does one for which there is room */
+    start_with(18, 0, 16, 16), put(7, 0), full = c; /* nor does one for which there is room */
     start_with(18, 0, 17, 17), put(7, 0), put(9, 0);
+    types(&full, 0, "9", 0, 0);
+}
+
+/* Rows in which there is no room beside what the register holds. */
+static void typed_rows_of_overwriting(void)
+{
+    fill(16, 16), start_with(17, 0, 16, 16), put(9, 0); /* it goes if there is room without it, */
+    types(&full, 0, "9", 0, 0);
+    refuses(0, "1 1", 16, 0), refuses(1, "9", 16, 0); /* is kept if there is none, and goes for no other register */
+    hold(1, 16, 16), refuses(0, "9", 16, 0);          /* what another register reaches counts */
+    start_with(18, 0, 17, 17), put(7, 0), put(8, 0), full = c; /* with a dead cell: collected, and it is kept */
+    start_with(18, 0, 16, 16), put(8, 0);
+    types(&full, 0, "1 1 1", 16, 0);
+    start_with(18, 0, 16, 17), put(1, 0), put(2, 0); /* both go, even if one would do */
+    types(&full, 0, "1 2", 0, 0);
+    start_with(18, 0, 16, 16), put(9, 0);
+    types(&full, 0, "9", 0, 0);
+    start_with(18, 0, 16, 17), hold(1, 17, 17), put(7, 0), put(8, 0), full = c; /* of two cells one stays */
+    refuses(0, "1 1", 16, 0);
+    start_with(18, 0, 17, 17), hold(1, 16, 16), put(8, 0), put(9, 0);
     types(&full, 0, "9", 0, 0);
 }
 
@@ -383,6 +407,82 @@ static void typed_rows_of_refusals(void)
     refuses(16, "x", 2, 0);
     c.words_n = 30;
     refuses(16, "x", 1, 0);
+}
+
+/* A call on a store: its status, with value 0, and the case's store as the one that it leaves. */
+static void runs(const struct test_case *before, uint32_t operation, uint32_t d, uint32_t a, uint32_t b,
+                 uint32_t status)
+{
+    const zelmotar_reply expected = {ZELMOTAR_DONE, 0, c.top};
+    uint32_t call[4];
+    spell(call, operation, d, a, b);
+    for (place = LOW; place <= HIGH; place++) {
+        uint32_t *words = lend(STORE, before->words, before->words_n, PROT_READ | PROT_WRITE);
+        const uint32_t *calls = lend(CALLS, call, 4, PROT_READ);
+        uint32_t *answers = lend(ANSWERS, NULL, 2, PROT_READ | PROT_WRITE);
+        doing = "zelmotar_run";
+        EXPECT(same(zelmotar_run(words, before->words_n, before->top, calls, 4, answers, 2), expected));
+        memcpy(plain[STORE], c.words, c.words_n * sizeof *c.words);
+        plain[ANSWERS][0] = status, plain[ANSWERS][1] = 0;
+        expect_same(STORE, c.words_n), expect_same(CALLS, 4), expect_same(ANSWERS, 2);
+    }
+}
+
+static void rows_of_symbols(void)
+{
+    start_with(17, 0, 16, 16), put(65, 0), full = c;
+    runs(fresh_one(17), ZELMOTAR_SYMBOL, 0, 65, 0, 0);
+    start_with(17, 0, 16, 16), put(66, 0); /* what the register holds goes */
+    runs(&full, ZELMOTAR_SYMBOL, 0, 66, 0, 0);
+    runs(&c, ZELMOTAR_WRAP, 0, 0, 0, 16); /* but not where it is read, or where another is set */
+    runs(&c, ZELMOTAR_SYMBOL, 1, 66, 0, 16);
+    hold(1, 16, 16), runs(&c, ZELMOTAR_SYMBOL, 0, 66, 0, 16); /* what another register reaches counts */
+    start_with(17, 0, 16, 16), put(0, 0);                     /* a code that is the register's number */
+    runs(&full, ZELMOTAR_SYMBOL, 0, 0, 0, 0);
+    start_with(18, 0, 16, 16), put(65, 0), full = c; /* where there is room nothing goes, */
+    start_with(18, 0, 17, 17), put(65, 0), put(66, 0);
+    runs(&full, ZELMOTAR_SYMBOL, 0, 66, 0, 0);
+    full = c, start_with(18, 0, 16, 16), put(67, 0); /* and else both cells, even if one would do */
+    runs(&full, ZELMOTAR_SYMBOL, 0, 67, 0, 0);
+}
+
+static void rows_of_brackets(void)
+{
+    start_with(18, 0, 16, 16), hold(1, 17, 17), put(7, 0), put(8, 0), full = c;
+    runs(&c, ZELMOTAR_WRAP, 0, 0, 0, 16), runs(&c, ZELMOTAR_WRAP, 1, 1, 0, 16), runs(&c, ZELMOTAR_WRAP, 2, 0, 0, 16);
+    start_with(18, 0, 17, 17), hold(1, 16, 16), put(8, 0), put(ZELMOTAR_BRACKET_CELL(16, 16)); /* 7 goes, 8 moves */
+    runs(&full, ZELMOTAR_WRAP, 0, 1, 0, 0);
+    start_with(18, 0, 16, 16), hold(1, 17, 17), put(7, 0), put(ZELMOTAR_BRACKET_CELL(16, 16)); /* 8 goes */
+    runs(&full, ZELMOTAR_WRAP, 1, 0, 0, 0);
+    start_with(18, 0, 17, 17), put(7, 0), put(8, 0), full = c; /* a dead cell goes for a register that is read */
+    start_with(18, 0, 17, 17), put(8, 0), put(ZELMOTAR_BRACKET_CELL(16, 16));
+    runs(&full, ZELMOTAR_WRAP, 0, 0, 0, 0);
+}
+
+/* A store of so many cells, with registers 0, 1 and 2 as 1, 2 and 3 4. */
+static void start_of_joins(size_t cells)
+{
+    start_with(cells, 0, 16, 16), hold(1, 17, 17), hold(2, 18, 19);
+    put(1, 0), put(2, 0), put(3, 0), put(4, 0);
+}
+
+static void rows_of_joins(void)
+{
+    start_of_joins(21), full = c; /* register 2 is read, first or second, and counts */
+    runs(&c, ZELMOTAR_JOIN, 2, 2, 0, 16), runs(&c, ZELMOTAR_JOIN, 2, 0, 2, 16), runs(&c, ZELMOTAR_JOIN, 3, 0, 1, 16);
+    ZELMOTAR_CODE(c.words, 18) = 1, ZELMOTAR_CODE(c.words, 19) = 2; /* it is not read, and what it holds goes */
+    runs(&full, ZELMOTAR_JOIN, 2, 0, 1, 0);
+    start_of_joins(20), full = c; /* with an empty side it shares, and nothing goes */
+    hold(2, 16, 16), runs(&full, ZELMOTAR_JOIN, 2, 0, 3, 0), runs(&full, ZELMOTAR_JOIN, 2, 3, 0, 0);
+    start_of_joins(20), hold(3, 19, 19); /* what a third register reaches counts, */
+    runs(&c, ZELMOTAR_JOIN, 2, 0, 1, 16);
+    start_of_joins(21), hold(3, 19, 19), full = c; /* and stays */
+    start_with(21, 0, 16, 16), hold(1, 17, 17), hold(2, 19, 20), hold(3, 18, 18);
+    put(1, 0), put(2, 0), put(4, 0), put(1, 0), put(2, 0);
+    runs(&full, ZELMOTAR_JOIN, 2, 0, 1, 0);
+    start_with(20, 0, 17, 18), hold(2, 19, 19), put(9, 0), put(1, 0), put(2, 0), put(3, 0), full = c;
+    start_with(20, 0, 16, 17), hold(2, 18, 18), put(1, 0), put(2, 0), put(3, 0); /* 9 is dead and goes, 3 is kept */
+    runs(&full, ZELMOTAR_JOIN, 2, 0, 0, 16);
 }
 
 /* Types a text into a register of a small store with a word on either side, and holds it against the second reader and
@@ -514,8 +614,12 @@ int main(int count_given, char **list)
     typed_rows_of_terms();
     typed_rows_of_depth();
     typed_rows_of_room();
+    typed_rows_of_overwriting();
     typed_rows_of_bytes();
     typed_rows_of_refusals();
+    rows_of_symbols();
+    rows_of_brackets();
+    rows_of_joins();
     every_short_text();
     for (; left > 0; left--) {
         make_case(&c);

@@ -148,7 +148,8 @@ static void statuses_of_typing(void)
     memset(typed, '(', ZELMOTAR_MAX_DEPTH), memset(typed + ZELMOTAR_MAX_DEPTH, ')', ZELMOTAR_MAX_DEPTH);
     typed[2 * ZELMOTAR_MAX_DEPTH] = '\0';
     EXPECT(type(1, typed) == ZELMOTAR_DONE && top == 18 + ZELMOTAR_MAX_DEPTH && holds(1, top - 1, top - 1));
-    EXPECT(type(1, typed) == ZELMOTAR_NO_ROOM && value == 0 && top == 18 + ZELMOTAR_MAX_DEPTH);
+    EXPECT(type(1, typed) == ZELMOTAR_DONE && top == 18 + ZELMOTAR_MAX_DEPTH && holds(1, top - 1, top - 1));
+    EXPECT(type(2, typed) == ZELMOTAR_NO_ROOM && value == 0 && top == 18 + ZELMOTAR_MAX_DEPTH);
     memset(typed, '(', sizeof typed - 1);
     EXPECT(type(1, typed) == ZELMOTAR_TOO_DEEP && value == ZELMOTAR_MAX_DEPTH);
     for (n = 0; n < ZELMOTAR_REGISTERS; n++)

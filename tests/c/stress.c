@@ -11,7 +11,9 @@
 #include "typed.h"
 
 static struct test_case c;
-static unsigned roomy, collected; /* texts laid in a store as it was, and in one that was collected for them */
+/* Texts laid in a store as it was, in one that was collected for them, and in one that has room only without what their
+ * register held; and those for which there was none, though their register held something. */
+static unsigned roomy, collected, replacing, kept;
 
 /* A list of its own with the given words; malloc's own words if none are given. */
 static uint32_t *lend(const uint32_t *words, size_t n)
@@ -128,6 +130,22 @@ static void stress_prints(void)
         EXPECT(stress_print(answer.length - 1).status == ZELMOTAR_SHORT_SPACE);
 }
 
+/* Counts the case's text by where it had room. */
+static void count_room(uint32_t status)
+{
+    size_t need = need_of(c.typed, c.typed_n), cells = c.words_n / 2;
+    if (status == ZELMOTAR_NO_ROOM)
+        kept += !ZELMOTAR_IS_EMPTY(c.words, c.reg);
+    else if (status != ZELMOTAR_DONE)
+        return;
+    else if (need <= cells - c.top)
+        roomy++;
+    else if (ZELMOTAR_REGISTERS + reached_without(c.words, c.top, SIZE_MAX) + need <= cells)
+        collected++;
+    else
+        replacing++;
+}
+
 /* The case's text typed in: the answer, every word, and the text as it was. What was typed is printed with the same
  * bytes. */
 static zelmotar_typed stress_type(void)
@@ -138,10 +156,9 @@ static zelmotar_typed stress_type(void)
     EXPECT(same_typed(answer, expected_type(expected, c.words_n, c.top, c.reg, c.typed, c.typed_n)));
     EXPECT(memcmp(words, expected, c.words_n * sizeof *words) == 0 && memcmp(text, c.typed, c.typed_n) == 0);
     typed_met[answer.status]++;
-    if (answer.status == ZELMOTAR_DONE) {
-        need_of(text, c.typed_n) > c.words_n / 2 - c.top ? collected++ : roomy++;
+    count_room(answer.status);
+    if (answer.status == ZELMOTAR_DONE)
         expect_printed(words, c.words_n, answer.top, c.reg, text, c.typed_n);
-    }
     free(words), free(expected), free(text);
     return answer;
 }
@@ -158,7 +175,8 @@ static void stress_endless(void)
     EXPECT(stress_print(MOST_TEXT).status == ZELMOTAR_TOO_DEEP);
 }
 
-/* The most terms that any store has room for, and one more; and the last byte of that text out of order. */
+/* The most terms that any store has room for, in a fresh one and in the place of as many; one more; and the last byte
+ * of that text out of order. */
 static void stress_full(void)
 {
     const size_t most = ZELMOTAR_MAX_WORDS / 2 - ZELMOTAR_REGISTERS;
@@ -169,6 +187,9 @@ static void stress_full(void)
     type_byte(&c, '7');
     while (c.typed_n < 2 * most - 1)
         type_byte(&c, ' '), type_byte(&c, '7');
+    answer = stress_type();
+    EXPECT(answer.status == ZELMOTAR_DONE && answer.top == ZELMOTAR_MAX_WORDS / 2);
+    c.top = zelmotar_type(c.words, c.words_n, c.top, c.reg, c.typed, c.typed_n).top;
     answer = stress_type();
     EXPECT(answer.status == ZELMOTAR_DONE && answer.top == ZELMOTAR_MAX_WORDS / 2);
     type_byte(&c, ' '), type_byte(&c, '7');
@@ -197,6 +218,6 @@ int main(int count_given, char **list)
         (void)stress_type();
     }
     expect_all_met();
-    EXPECT(roomy > 0 && collected > 0);
+    EXPECT(roomy > 0 && collected > 0 && replacing > 0 && kept > 0);
     return expect_end();
 }

@@ -3,7 +3,8 @@
  *
  * Neither is recursive. The reader judges a byte by the one to its left, the brackets that are open there and the code
  * that it goes on with. The layer keeps the terms that have no cell yet in a list, and lays those of a bracket when it
- * closes. Whether the store is sound, and what a collection leaves of it, is the library's own. */
+ * closes. Whether there is room is told by a count of the cells that are reached. Whether the store is sound, and what
+ * a collection leaves of it, is the library's own. */
 #ifndef TYPED_H
 #define TYPED_H
 
@@ -118,6 +119,39 @@ static inline size_t lay_text(uint32_t *words, size_t top, size_t reg, const uin
     return top;
 }
 
+/* Marks the cells that a register or cell holds. */
+static inline void mark_held(const uint32_t *words, size_t holder, unsigned char *marked)
+{
+    size_t c;
+    if (ZELMOTAR_IS_BRACKET(words, holder) && !ZELMOTAR_IS_EMPTY(words, holder))
+        for (c = ZELMOTAR_LEFT(words, holder); c <= ZELMOTAR_RIGHT(words, holder); c++)
+            marked[c] = 1;
+}
+
+/* The heap cells that are reached while register reg counts as empty; all that are reached where it is no register. All
+ * that hold a cell are registers or stand above it. */
+static inline size_t reached_without(const uint32_t *words, size_t top, size_t reg)
+{
+    unsigned char marked[ZELMOTAR_MAX_WORDS / 2] = {0};
+    size_t reached = 0, c;
+    for (c = 0; c < ZELMOTAR_REGISTERS; c++)
+        if (c != reg)
+            mark_held(words, c, marked);
+    for (c = top - 1; c >= ZELMOTAR_REGISTERS; c--)
+        if (marked[c])
+            reached++, mark_held(words, c, marked);
+    return reached;
+}
+
+/* Collects a store that has no room above `top` for what register reg becomes, and gives the new `top`. What the
+ * register holds goes if there is room without it, and else is kept. */
+static inline size_t collect_for(uint32_t *words, size_t n, size_t top, size_t reg, size_t need)
+{
+    if (ZELMOTAR_REGISTERS + reached_without(words, top, reg) + need <= n / 2)
+        ZELMOTAR_FIRST_WORD(words, reg) = 0, ZELMOTAR_SECOND_WORD(words, reg) = ZELMOTAR_BRACKET;
+    return zelmotar_collect(words, n, top).top;
+}
+
 static inline zelmotar_typed typed_answer(uint32_t status, size_t value, size_t top)
 {
     zelmotar_typed answer;
@@ -141,7 +175,7 @@ static inline zelmotar_typed expected_type(uint32_t *words, size_t n, size_t top
         return typed_answer(judgement.status, judgement.at, top);
     need = need_of(text, text_n);
     if (need > n / 2 - top)
-        top = zelmotar_collect(words, n, top).top;
+        top = collect_for(words, n, top, reg, need);
     if (need > n / 2 - top)
         return typed_answer(ZELMOTAR_NO_ROOM, 0, top);
     return typed_answer(ZELMOTAR_DONE, 0, lay_text(words, top, reg, text, text_n));

@@ -282,11 +282,15 @@ mod tests {
 
     #[test]
     fn a_text_that_makes_the_store_collect_says_so() {
-        let (text, _) = said(b"TYPE 0 1 2\nTYPE 0\nTYPE 0 3 4 5\n", false);
-        assert!(
-            text.ends_with("done; register 0: 3 4 5; collected, and 2 dead cells went\n"),
-            "{text}"
-        );
+        for (typed, went) in [
+            ("TYPE 0 1 2\nTYPE 0\nTYPE 0 3 4 5\n", "2 dead cells went"),
+            ("TYPE 0 1 2\nTYPE 0 3 4 5\n", "2 cells of its old expression went"),
+            ("TYPE 0 1\nTYPE 0 2\nTYPE 0 3 4 5\n", "1 dead cell and 1 of its old expression went"),
+        ] {
+            let (text, _) = said(typed.as_bytes(), false);
+            let last = format!("done; register 0: 3 4 5; collected, and {went}\n");
+            assert!(text.ends_with(&last), "{text}");
+        }
     }
 
     #[test]

@@ -11,7 +11,7 @@ use crate::call::Call;
 use crate::expression;
 use crate::input;
 use crate::outcome::{Ended, Outcome, Stop};
-use crate::steps::{self, Step};
+use crate::steps::{self, Freed, Step};
 use crate::{dump, outcome};
 
 /// The letters of an expression that stands beside a call.
@@ -123,17 +123,22 @@ pub fn line(store: &Store, call: &Call, step: Step) -> String {
     head + &left(store, set, freed)
 }
 
-/// What is said after an answer: the register that was set, and how many dead cells went if the store was
-/// collected.
-pub fn left(store: &Store, set: Option<usize>, freed: Option<usize>) -> String {
+/// What is said after an answer: the register that was set, and which cells went if the store was collected.
+pub fn left(store: &Store, set: Option<usize>, freed: Option<Freed>) -> String {
     let set = set.map_or(String::new(), |register| {
         format!("; register {register}: {}", expression::register(store, register, BESIDE))
     });
-    set + &match freed {
-        None => String::new(),
-        Some(0) => "; collected, and no cell was dead".to_string(),
-        Some(1) => "; collected, and 1 dead cell went".to_string(),
-        Some(cells) => format!("; collected, and {cells} dead cells went"),
+    set + &freed.map_or(String::new(), |freed| format!("; collected, and {}", went(freed)))
+}
+
+/// Which cells went in a collection. Where some of an old expression did, its register has just been named.
+fn went(Freed { dead, old }: Freed) -> String {
+    let cells = |count| if count == 1 { "cell" } else { "cells" };
+    match (dead, old) {
+        (0, 0) => "no cell was dead".to_string(),
+        (dead, 0) => format!("{dead} dead {} went", cells(dead)),
+        (0, old) => format!("{old} {} of its old expression went", cells(old)),
+        (dead, old) => format!("{dead} dead {} and {old} of its old expression went", cells(dead)),
     }
 }
 

@@ -6,6 +6,7 @@
 use zelmotar::{raw, Refusal, Store};
 
 use crate::call::Call;
+use crate::cells;
 
 /// What became of one call.
 #[derive(Clone, Copy, Debug, PartialEq, Eq)]
@@ -14,8 +15,17 @@ pub struct Step {
     pub status: u32,
     /// The value.
     pub value: u32,
-    /// How many dead cells went, if the store was collected.
-    pub freed: Option<usize>,
+    /// Which cells went, if the store was collected.
+    pub freed: Option<Freed>,
+}
+
+/// How many cells went in a collection, and why.
+#[derive(Clone, Copy, Debug, PartialEq, Eq)]
+pub struct Freed {
+    /// Cells that were dead before.
+    pub dead: usize,
+    /// Cells that only the set register's old expression reached.
+    pub old: usize,
 }
 
 /// A fresh store of some capacity.
@@ -44,21 +54,21 @@ pub fn verdict(store: &Store, calls: &[u32]) -> (u32, u32) {
 /// Runs one call on a sound store.
 ///
 /// A call collects exactly where it is COLLECT and done, or needs more cells than are free above
-/// `top`; then it is done, or refused for room. What went is what `top` lacks after it.
+/// `top`; then it is done, or refused for room.
 pub fn step(store: &mut Store, call: &Call) -> Step {
-    let (before, need) = (store.top(), need(store, call));
+    let (before, need) = (Before::of(store), need(store, call));
     let mut answer = [0; 2];
     store.run_words(&call.words, &mut answer).expect("one call on a sound store is not refused");
     let [status, value] = answer;
     let asked = call.words[0] == 11 && status == 0;
-    let forced = matches!(status, 0 | 16) && before + need > store.capacity();
+    let forced = matches!(status, 0 | 16) && before.top + need > store.capacity();
     let laid = if status == 0 { need } else { 0 };
-    let freed = (asked || forced).then(|| before + laid - store.top());
+    let freed = (asked || forced).then(|| before.freed(store, laid));
     Step { status, value, freed }
 }
 
-/// Types a text into a register: what the library answers, and how many dead cells went if the store was
-/// collected for it.
+/// Types a text into a register: what the library answers, and which cells went if the store was collected
+/// for it.
 ///
 /// A text collects exactly where nothing but room may refuse it and it needs more cells than are free above
 /// `top`.
@@ -66,13 +76,32 @@ pub fn type_in(
     store: &mut Store,
     register: usize,
     text: &[u8],
-) -> (Result<(), Refusal>, Option<usize>) {
-    let (before, need) = (store.top(), terms(text));
+) -> (Result<(), Refusal>, Option<Freed>) {
+    let (before, need) = (Before::of(store), terms(text));
     let answer = store.type_in(register, text);
     let (done, full) = (answer.is_ok(), answer == Err(Refusal::NoRoom));
     let laid = if done { need } else { 0 };
-    let forced = (done || full) && before + need > store.capacity();
-    (answer, forced.then(|| before + laid - store.top()))
+    let forced = (done || full) && before.top + need > store.capacity();
+    (answer, forced.then(|| before.freed(store, laid)))
+}
+
+/// A sound store before something is done to it.
+struct Before {
+    top: usize,
+    dead: usize,
+}
+
+impl Before {
+    fn of(store: &Store) -> Before {
+        let dead = cells::reached(store).iter().filter(|&&is_reached| !is_reached).count();
+        Before { top: store.top(), dead }
+    }
+
+    /// Which cells went in the collection, if so many were laid after it. What went is what `top` lacks now,
+    /// and the dead cells are among it.
+    fn freed(&self, store: &Store, laid: usize) -> Freed {
+        Freed { dead: self.dead, old: self.top + laid - store.top() - self.dead }
+    }
 }
 
 /// The number of terms of an expression's text on all levels, and so of the new cells that it needs: one for
@@ -105,12 +134,55 @@ mod tests {
         Call::read(b"CALL", &numbers.each_ref().map(|number| number.as_bytes())).unwrap()
     }
 
+    /// A sound store. Half of them have no dead cell, and two free ones at most.
+    fn made(random: &mut Random) -> Store {
+        let capacity = make::capacity(random);
+        let (words, top) = make::sound(random, capacity, make::Runs::Short);
+        let store = Store::from_parts(words, top);
+        if random.one_in(2) {
+            return store;
+        }
+        let (mut words, top) = collected(&store).0.into_parts();
+        words.truncate(2 * (top + random.below(3)));
+        Store::from_parts(words, top)
+    }
+
     /// The store after a collection, and how many cells went.
     fn collected(store: &Store) -> (Store, usize) {
         let mut after = store.clone();
         after.collect().unwrap();
         let freed = store.top() - after.top();
         (after, freed)
+    }
+
+    /// The store with register `d` empty.
+    fn without(store: &Store, d: u32) -> Store {
+        let (mut words, top) = store.clone().into_parts();
+        words[2 * d as usize..][..2].copy_from_slice(&[0, 1 << 31]);
+        Store::from_parts(words, top)
+    }
+
+    /// The store that is collected for a call if it is then done: what `d` holds goes, unless the call reads
+    /// it.
+    fn sought(store: &Store, call: &Call) -> Store {
+        match call.words {
+            [2, d, ..] => without(store, d),
+            [3, d, a, _] if a != d => without(store, d),
+            [4, d, a, b] if a != d && b != d => without(store, d),
+            _ => store.clone(),
+        }
+    }
+
+    /// Which of five things was told: not collected, or collected and which cells went, none of them, the
+    /// dead, the old expression's, or both.
+    fn kind(freed: Option<Freed>) -> usize {
+        match freed.map(|Freed { dead, old }| (dead > 0, old > 0)) {
+            None => 0,
+            Some((false, false)) => 1,
+            Some((true, false)) => 2,
+            Some((false, true)) => 3,
+            Some((true, true)) => 4,
+        }
     }
 
     #[test]
@@ -122,36 +194,34 @@ mod tests {
         let mut store = fresh(batch.capacity).unwrap();
         let steps: Vec<Step> = batch.calls.iter().map(|call| step(&mut store, call)).collect();
         let freed: Vec<_> = steps.iter().map(|step| step.freed).collect();
-        assert_eq!(freed, [None, None, None, Some(0), None, None, Some(2), None, None]);
+        let told = |dead| Some(Freed { dead, old: 0 });
+        assert_eq!(freed, [None, None, None, told(0), None, None, told(2), None, None]);
         assert_eq!((steps[8].status, steps[8].value, store.top()), (0, 3, 19));
     }
 
     #[test]
     fn what_is_said_of_collecting_is_what_the_words_show() {
         let mut random = Random::of("steps");
-        let mut seen = [0; 3];
-        for _ in 0..20_000 {
-            let capacity = make::capacity(&mut random);
-            let (words, top) = make::sound(&mut random, capacity, make::Runs::Any);
-            let before = Store::from_parts(words, top);
+        let mut seen = [0; 5];
+        for _ in 0..60_000 {
+            let before = made(&mut random);
+            let top = before.top();
             let call = call(make::call(&mut random));
             let mut after = before.clone();
             let told = step(&mut after, &call);
-            let (mut packed, dead) = collected(&before);
-            match told.freed {
+            seen[kind(told.freed)] += 1;
+            let Some(freed) = told.freed else {
                 // not collected: no occupied cell has moved or gone
-                None => {
-                    assert_eq!(before.words()[32..2 * top], after.words()[32..2 * top], "{call}");
-                    seen[0] += 1;
-                }
-                // collected: as if a collection had come just before the call
-                Some(freed) => {
-                    let again = step(&mut packed, &call);
-                    assert_eq!((again.status, again.value), (told.status, told.value), "{call}");
-                    assert_eq!((&packed, freed), (&after, dead), "{call}");
-                    seen[if freed > 0 { 1 } else { 2 }] += 1;
-                }
-            }
+                assert_eq!(before.words()[32..2 * top], after.words()[32..2 * top], "{call}");
+                continue;
+            };
+            // collected: as if a collection had come just before the call
+            let dead = collected(&before).1;
+            let full = told.status == 16;
+            let (mut packed, gone) = collected(&if full { before } else { sought(&before, &call) });
+            let again = step(&mut packed, &call);
+            assert_eq!((again.status, again.value), (told.status, told.value), "{call}");
+            assert_eq!((&packed, freed), (&after, Freed { dead, old: gone - dead }), "{call}");
         }
         assert!(seen.iter().all(|&count| count > 100), "{seen:?}");
     }
@@ -159,37 +229,39 @@ mod tests {
     #[test]
     fn what_is_said_of_collecting_for_a_text_is_what_the_words_show() {
         let mut random = Random::of("texts in steps");
-        let mut seen = [0; 4];
+        let mut seen = [[0; 5]; 2];
         for _ in 0..20_000 {
-            let (text, capacity) = (make::text(&mut random), make::capacity(&mut random));
-            let (mut words, top) = make::sound(&mut random, capacity, make::Runs::Any);
+            let (text, (mut words, top)) =
+                (make::text(&mut random), made(&mut random).into_parts());
             make::crowd(&mut random, &mut words, top, terms(&text));
             let before = Store::from_parts(words, top);
             let mut after = before.clone();
             let (answer, told) = type_in(&mut after, 0, &text);
-            if answer.is_ok() {
-                assert_eq!(after.top() + told.unwrap_or(0), top + terms(&text));
-            }
-            let (packed, dead) = collected(&before);
-            match (told, answer) {
-                (None, _) => {
-                    assert_eq!(before.words()[32..2 * top], after.words()[32..2 * top]);
-                    seen[0] += 1;
-                }
-                (Some(freed), Err(Refusal::NoRoom)) => {
-                    assert_eq!((&packed, dead), (&after, freed));
-                    seen[1] += 1;
-                }
-                (Some(freed), answer) => {
+            seen[usize::from(answer.is_err())][kind(told)] += 1;
+            let Some(freed) = told else {
+                assert_eq!(before.words()[32..2 * top], after.words()[32..2 * top]);
+                continue;
+            };
+            let (kept, dead) = collected(&before);
+            let (packed, gone) = collected(&without(&before, 0));
+            match answer {
+                Ok(()) => {
                     let live = 2 * packed.top();
                     assert_eq!(packed.words()[32..live], after.words()[32..live]);
-                    assert_eq!((answer, dead), (Ok(()), freed));
-                    seen[if freed > 0 { 2 } else { 3 }] += 1;
+                    assert_eq!(freed, Freed { dead, old: gone - dead });
+                    assert_eq!(after.top(), packed.top() + terms(&text));
+                }
+                refused => {
+                    assert_eq!((refused, &kept), (Err(Refusal::NoRoom), &after));
+                    assert_eq!(freed, Freed { dead, old: 0 });
                 }
             }
         }
-        // Where no cell is dead a collection makes no room, so the last never comes.
-        assert!(seen[..3].iter().all(|&count| count > 500) && seen[3] == 0, "{seen:?}");
+        // A collection in which nothing goes makes no room, and what a register holds goes only if there is.
+        let [done, refused] = seen;
+        assert!([0, 2, 3, 4].iter().all(|&kind| done[kind] > 100) && done[1] == 0, "{seen:?}");
+        assert!(refused[..3].iter().all(|&count| count > 100), "{seen:?}");
+        assert_eq!(refused[3..], [0, 0]);
     }
 
     #[test]

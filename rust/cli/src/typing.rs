@@ -45,7 +45,7 @@ pub fn sentence(store: &Store, register: usize, text: &[u8], refusal: Refusal) -
     let why = match refusal {
         Refusal::BadCode { .. } => format!("it is over {MAX_CODE}"),
         Refusal::NoRoom => {
-            let (need, free) = (steps::terms(text), store.capacity() - store.top());
+            let (need, free) = (steps::terms(text), room(store, register));
             format!("the text needs {need} new cells, and {free} can be had")
         }
         Refusal::NoRegister => format!("{register}, and they are 0 to {}", REGISTERS - 1),
@@ -60,6 +60,15 @@ pub fn sentence(store: &Store, register: usize, text: &[u8], refusal: Refusal) -
         }
         None => format!("{refusal}: {why}"),
     }
+}
+
+/// How many new cells can be had for a text in a register of a sound store: what the register holds does not
+/// count.
+fn room(store: &Store, register: usize) -> usize {
+    let mut without = store.clone();
+    without.type_in(register, b"").expect("a text of no bytes needs no room");
+    without.collect().expect("a sound store is collected");
+    without.capacity() - without.top()
 }
 
 /// What is wrong with a text that is none: a byte of it, or that it has no more.
@@ -101,6 +110,20 @@ mod tests {
             says(0, &[b'('; 70]),
             "21 at byte 64: brackets are nested too deep: over 64 would be open here"
         );
+    }
+
+    #[test]
+    fn what_the_register_holds_can_be_had_and_what_others_hold_cannot() {
+        let mut store = Store::new(20).unwrap();
+        store.type_str(0, "1 2").unwrap();
+        store.type_str(1, "(3)").unwrap();
+        for (register, free) in [(0, 2), (1, 2), (2, 0)] {
+            let refusal = store.type_str(register, "4 5 6").unwrap_err();
+            assert_eq!(
+                sentence(&store, register, b"4 5 6", refusal),
+                format!("no room: the text needs 3 new cells, and {free} can be had")
+            );
+        }
     }
 
     #[test]

@@ -84,6 +84,30 @@ fn every_status_of_a_call_is_said_in_words() {
 }
 
 #[test]
+fn which_cells_went_is_said() {
+    let calls = "SYMBOL 0 65\nSYMBOL 0 66\nSYMBOL 0 67\nWRAP 0 0\n";
+    let one = tool(&[&"run", &made("one.batch", format!("CAPACITY 17\n{calls}"))]);
+    for line in [
+        "SYMBOL 0 65               0          0   done; register 0: 65\n",
+        "SYMBOL 0 66               0          0   done; register 0: 66; \
+         collected, and 1 cell of its old expression went\n",
+        "WRAP 0 0                 16          0   no room; collected, and no cell was dead\n",
+        "top 17\nregister 0: 67\n",
+    ] {
+        ends(&one, 0, line);
+    }
+    let two = tool(&[&"run", &made("two.batch", format!("CAPACITY 18\n{calls}"))]);
+    for line in [
+        "SYMBOL 0 66               0          0   done; register 0: 66\n",
+        "SYMBOL 0 67               0          0   done; register 0: 67; \
+         collected, and 1 dead cell and 1 of its old expression went\n",
+        "WRAP 0 0                  0          0   done; register 0: (67)\n",
+    ] {
+        ends(&two, 0, line);
+    }
+}
+
+#[test]
 fn exit_codes() {
     let first = tracked("examples/first.batch");
     let fine = made("fine.batch", "CAPACITY 20\nLIVE\n");
@@ -246,11 +270,11 @@ fn a_text_is_typed_into_a_register_of_a_dump() {
     ends(&typed, 0, "# 24 cells\nTOP 24\n");
     assert_eq!(fed(&typed.stdout, &[&"print", &"-", &"1"]).stdout, b"5\n");
     assert_eq!(fed(&typed.stdout, &[&"print", &"-", &"0"]).stdout, b"(66 67 68) (65 66 67)\n");
-    // Register 0 with its own text: two brackets hold three symbols each, and nothing is shared then.
-    let empty = tool(&[&"type", &p2, &"0", &""]);
-    ends(&empty, 0, "TOP 23\n");
+    ends(&tool(&[&"type", &p2, &"0", &""]), 0, "TOP 23\n");
+    // Register 0 with its own text: two brackets hold three symbols each, and nothing is shared then. All
+    // eight heap cells are for it, as what it holds goes.
     let text = "(66 67 68) (65 66 67)";
-    let again = fed(&empty.stdout, &[&"type", &"-", &"0", &text]);
+    let again = tool(&[&"type", &p2, &"0", &text]);
     ends(&again, 0, "TOP 24\n");
     assert_eq!(fed(&again.stdout, &[&"print", &"-", &"0"]).stdout, format!("{text}\n").as_bytes());
 
@@ -268,7 +292,8 @@ fn a_text_that_is_refused_leaves_no_dump() {
     for (register, text, sentence) in [
         ("0", "5 x", "23 at byte 2: no text of an expression: `x` cannot stand here\n"),
         ("0", "268435456", "13 at byte 8: the code is too large: it is over 268435455\n"),
-        ("0", "1 2 3", "no room: the text needs 3 new cells, and 2 can be had\n"),
+        ("1", "1 2 3", "no room: the text needs 3 new cells, and 2 can be had\n"),
+        ("0", "1 2 3 4 5 6 7 8 9", "no room: the text needs 9 new cells, and 8 can be had\n"),
         ("16", "x", "no register has that number: 16, and they are 0 to 15\n"),
     ] {
         let output = tool(&[&"type", &p2, &register, &text]);
@@ -276,7 +301,7 @@ fn a_text_that_is_refused_leaves_no_dump() {
         assert!(output.stdout.is_empty());
     }
     let kept = made("kept.dump", fs::read(&p2).unwrap());
-    ends(&tool(&[&"type", &kept, &"0", &"1 2 3", &"--dump", &kept]), 3, "no room");
+    ends(&tool(&[&"type", &kept, &"1", &"1 2 3", &"--dump", &kept]), 3, "no room");
     assert_eq!(fs::read(&kept).unwrap(), fs::read(&p2).unwrap());
     let names = "type takes a dump file, a register and a text, and here are";
     ends(&tool(&[&"type", &p2, &"0"]), 2, &format!("{names} 2"));

@@ -5,6 +5,8 @@
 //! there a few calls fill the store, and room runs out. Stores for printing nest brackets about as
 //! deep as may be, or share so much that their text could never be written out. Texts for typing are
 //! those of an expression, then spoilt or cut; and stores for them have about as much room as they need.
+//! Stores in which room is short hold little that is dead, and are as long as new cells can just be laid in
+//! them, or just not.
 
 use crate::plain::{self, put, Cell, BRACKET, FIRST_HEAP_CELL, MAX_CELLS, MAX_CODE, MAX_DEPTH};
 use crate::random::Random;
@@ -88,6 +90,46 @@ pub fn sound(random: &mut Random, capacity: usize, runs: Runs) -> (Vec<u32>, usi
     (words, top)
 }
 
+/// Takes the first or the last term off one register, if that has more than one.
+fn shorten(random: &mut Random, words: &mut [u32]) {
+    let register = random.below(FIRST_HEAP_CELL);
+    if let Some(Cell::Bracket(l, r)) = Cell::read(words[2 * register], words[2 * register + 1]) {
+        if l < r {
+            let shorter = random.pick(&[Cell::Bracket(l + 1, r), Cell::Bracket(l, r - 1)]);
+            put(words, register, shorter);
+        }
+    }
+}
+
+/// A sound store of about so many cells, none of them free and few dead as a rule: its words and `top`. Nearly
+/// all of the registers `held` have something in them, cells of their own or those of others.
+fn packed(random: &mut Random, capacity: usize, held: &[usize]) -> (Vec<u32>, usize) {
+    let runs = random.pick(&[Runs::Short, Runs::Recent, Runs::Any]);
+    let (mut words, mut top) = sound(random, capacity, runs);
+    words.truncate(2 * top);
+    for &register in held.iter().cycle().skip(random.below(held.len())).take(held.len()) {
+        let ends = match random.below(16) {
+            0 => None,
+            1..=7 => run(random, top, Runs::Short),
+            _ => {
+                let l = top;
+                top += random.within(1..=3);
+                words.resize(2 * top, 0);
+                (l..top).for_each(|c| put(&mut words, c, heap_cell(random, c, runs)));
+                Some((l, top - 1))
+            }
+        };
+        put(&mut words, register, ends.map_or(Cell::Empty, |(l, r)| Cell::Bracket(l, r)));
+    }
+    if !random.one_in(4) {
+        top = plain::collect(&mut words, top).top;
+        words.truncate(2 * top);
+        // And then the odd cell dies, wherever it lies.
+        (0..random.below(6)).for_each(|_| shorten(random, &mut words));
+    }
+    (words, top)
+}
+
 /// A word that is likely to break a rule only just.
 fn telling_word(random: &mut Random, top: usize) -> u32 {
     let near = random.pick(&[0, 1, 15, 16, 17, top.wrapping_sub(1) as u32, top as u32, MAX_CODE]);
@@ -156,6 +198,20 @@ pub fn call(random: &mut Random) -> [u32; 4] {
         8 | 9 => [operation, 0, a, 0],
         10 | 11 => [operation, 0, 0, 0],
         _ => [operation, d, a, 0],
+    }
+}
+
+/// A call that lays new cells, by its operation: 2, 3 or 4. One operand in four is the register that it sets.
+fn building_call(random: &mut Random, operation: u32) -> [u32; 4] {
+    let d = random.below(FIRST_HEAP_CELL) as u32;
+    let [a, b] = [(); 2].map(|()| match random.below(4) {
+        0 => d,
+        _ => random.below(FIRST_HEAP_CELL) as u32,
+    });
+    match operation {
+        2 => [2, d, code(random), 0],
+        3 => [3, d, a, 0],
+        _ => [4, d, a, b],
     }
 }
 
@@ -399,6 +455,13 @@ pub fn text(random: &mut Random) -> Vec<u8> {
     text
 }
 
+/// A text of an expression with at most so many terms on all levels. Only for room can it be refused.
+fn short_text(random: &mut Random, most: usize) -> Vec<u8> {
+    let (mut text, mut left) = (Vec::new(), most);
+    put_terms(random, &mut text, &mut left, 3, 0);
+    text
+}
+
 /// A byte that is likely to stand in a text, or any.
 fn telling_byte(random: &mut Random) -> u8 {
     match random.below(8) {
@@ -436,4 +499,49 @@ pub fn crowd(random: &mut Random, words: &mut Vec<u32>, top: usize, need: usize)
     };
     let capacity = (edge + random.below(4)).saturating_sub(2);
     words.resize(2 * capacity.clamp(top, MAX_CELLS), 0);
+}
+
+/// Gives a sound store so many cells that `need` new ones for register `d` do not fit as it is, and just fit or
+/// just do not once it is collected, with `d` as it is or empty; or, now and then, that they just fit as it is.
+fn tighten(random: &mut Random, words: &mut Vec<u32>, top: usize, need: usize, d: usize) {
+    let counted = match random.below(12) {
+        0 => return words.resize(2 * (top + need), 0),
+        1..=4 => plain::live(words, top),
+        _ => plain::live_without(words, top, d),
+    };
+    let capacity = FIRST_HEAP_CELL + counted + need - random.pick(&[0, 0, 1, 2]);
+    words.resize(2 * capacity.min(top + need - 1).max(top), 0);
+}
+
+/// A nearly full store, made of one of about so many cells, and a call that lays new cells in it, by its
+/// operation: words, `top` and call.
+pub fn tight_call(
+    random: &mut Random,
+    capacity: usize,
+    operation: u32,
+) -> (Vec<u32>, usize, [u32; 4]) {
+    let call = building_call(random, operation);
+    let [_, d, a, b] = call.map(|word| word as usize);
+    let held = match operation {
+        2 => vec![d],
+        3 => vec![d, a],
+        _ => vec![d, a, b],
+    };
+    let (mut words, top) = packed(random, capacity, &held);
+    let need = plain::need(&words, &call);
+    tighten(random, &mut words, top, need, d);
+    (words, top, call)
+}
+
+/// The same for a text of at most so many terms: words, `top`, the register that it is typed into and the text.
+pub fn tight_text(
+    random: &mut Random,
+    capacity: usize,
+    most: usize,
+) -> (Vec<u32>, usize, usize, Vec<u8>) {
+    let (d, text) = (random.below(FIRST_HEAP_CELL), short_text(random, most));
+    let (mut words, top) = packed(random, capacity, &[d]);
+    let need = plain::read(&text).expect("nothing in it is refused").0.len();
+    tighten(random, &mut words, top, need, d);
+    (words, top, d, text)
 }

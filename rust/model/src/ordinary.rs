@@ -198,7 +198,7 @@ impl<C: Checks, M: Marks> Ordinary<C, M> {
             return Typed { status, value, top };
         }
         let mut top = top;
-        let status = match self.room(words, &mut top, self.tree.count()) {
+        let status = match self.room(words, &mut top, self.tree.count(), register, false) {
             Err(status) => status,
             Ok(()) => {
                 let cell = self.tree.lay(words, &mut top);
@@ -209,12 +209,17 @@ impl<C: Checks, M: Marks> Ordinary<C, M> {
         Typed { status, value: 0, top }
     }
 
-    /// Collects a sound store and gives the new `top`.
-    fn compact(&mut self, words: &mut [u32], top: usize) -> usize {
-        self.marks.mark(words, top);
+    /// Packs the marked cells low and gives the new `top`.
+    fn pack(&mut self, words: &mut [u32], top: usize) -> usize {
         // An address is written before it is read, so what an earlier collection left may stay.
         self.place.resize(self.place.len().max(top), 0);
         slide(&mut words[..2 * top], &mut self.place[..top], &self.marks)
+    }
+
+    /// Collects a sound store and gives the new `top`.
+    fn compact(&mut self, words: &mut [u32], top: usize) -> usize {
+        self.marks.mark(words, top);
+        self.pack(words, top)
     }
 
     /// Collecting alone.
@@ -227,16 +232,35 @@ impl<C: Checks, M: Marks> Ordinary<C, M> {
         Reply { status: 0, value: (top - FIRST_HEAP_CELL) as u32, top }
     }
 
-    /// Makes room for `need` cells, collecting if it must.
-    fn room(&mut self, words: &mut [u32], top: &mut usize, need: usize) -> Result<(), u32> {
+    /// Makes room for `need` cells, collecting if it must. Unless `d` is `kept` it is emptied first, and set
+    /// again where there is no room all the same.
+    fn room(
+        &mut self,
+        words: &mut [u32],
+        top: &mut usize,
+        need: usize,
+        d: usize,
+        kept: bool,
+    ) -> Result<(), u32> {
         let capacity = words.len() / 2;
-        if *top + need > capacity {
-            *top = self.compact(words, *top);
-            if *top + need > capacity {
-                return Err(16);
-            }
+        if *top + need <= capacity {
+            return Ok(());
         }
-        Ok(())
+        let old = pair(words, d);
+        let sought = if kept { old } else { EMPTY };
+        set(words, d, sought);
+        let live = self.marks.mark(words, *top);
+        let fits = FIRST_HEAP_CELL + live + need <= capacity;
+        if !fits && sought != old {
+            set(words, d, old);
+            self.marks.mark(words, *top);
+        }
+        *top = self.pack(words, *top);
+        if fits {
+            Ok(())
+        } else {
+            Err(16)
+        }
     }
 
     /// Lays one cell; it is read after room is made, since a collection may mend it.
@@ -245,9 +269,10 @@ impl<C: Checks, M: Marks> Ordinary<C, M> {
         words: &mut [u32],
         top: &mut usize,
         d: usize,
+        kept: bool,
         cell: impl FnOnce(&[u32]) -> [u32; 2],
     ) -> Result<(), u32> {
-        self.room(words, top, 1)?;
+        self.room(words, top, 1, d, kept)?;
         let cell = cell(words);
         set(words, *top, cell);
         set(words, d, on(*top, *top));
@@ -270,10 +295,10 @@ impl<C: Checks, M: Marks> Ordinary<C, M> {
             set(words, d, cell);
             return Ok(());
         };
-        self.room(words, top, ar - al + br - bl + 2)?;
+        self.room(words, top, ar - al + br - bl + 2, d, d == a || d == b)?;
         let start = *top;
         for source in [a, b] {
-            let (l, r) = ends(words, source).expect("a collection empties no register");
+            let (l, r) = ends(words, source).expect("an operand is not emptied");
             words.copy_within(2 * l..2 * r + 2, 2 * *top);
             *top += r - l + 1;
         }
@@ -291,8 +316,8 @@ impl<C: Checks, M: Marks> Ordinary<C, M> {
         match call[0] {
             0 => set(words, d, EMPTY),
             1 => set(words, d, pair(words, a)),
-            2 => self.lay(words, top, d, |_| [call[2], 0])?,
-            3 => self.lay(words, top, d, |words| pair(words, a))?,
+            2 => self.lay(words, top, d, false, |_| [call[2], 0])?,
+            3 => self.lay(words, top, d, d == a, |words| pair(words, a))?,
             4 => self.join(words, top, d, a, b)?,
             8 => return Ok(ends(words, a).map_or(0, |(l, r)| r - l + 1)),
             10 => return Ok(self.marks.mark(words, *top)),

@@ -252,11 +252,10 @@ pub fn print(words: &[u32], top: usize, register: usize, space: &mut [u8]) -> Te
     }
 }
 
-/// For each address below `top`, whether a heap cell there is reached. The store is sound.
-pub fn reached(words: &[u32], top: usize) -> Vec<bool> {
+/// For each address below `top`, whether one of the registers reaches a heap cell there. The store is sound.
+fn reached_from(words: &[u32], top: usize, registers: impl Iterator<Item = usize>) -> Vec<bool> {
     let mut seen = vec![false; top];
-    let mut runs: Vec<_> =
-        (0..FIRST_HEAP_CELL).filter_map(|register| ends(words, register)).collect();
+    let mut runs: Vec<_> = registers.filter_map(|register| ends(words, register)).collect();
     while let Some((l, r)) = runs.pop() {
         for (c, seen) in (l..).zip(&mut seen[l..=r]) {
             if !*seen {
@@ -268,9 +267,20 @@ pub fn reached(words: &[u32], top: usize) -> Vec<bool> {
     seen
 }
 
+/// For each address below `top`, whether a heap cell there is reached. The store is sound.
+pub fn reached(words: &[u32], top: usize) -> Vec<bool> {
+    reached_from(words, top, 0..FIRST_HEAP_CELL)
+}
+
 /// The number of reached heap cells of a sound store.
 pub fn live(words: &[u32], top: usize) -> usize {
     reached(words, top).iter().filter(|&&seen| seen).count()
+}
+
+/// The number of heap cells of a sound store that are reached still if register `d` is empty.
+pub fn live_without(words: &[u32], top: usize, d: usize) -> usize {
+    let others = (0..FIRST_HEAP_CELL).filter(|&register| register != d);
+    reached_from(words, top, others).iter().filter(|&&seen| seen).count()
 }
 
 /// Collects a sound store and gives the new `top`.
@@ -370,7 +380,7 @@ fn length(words: &[u32], register: u32) -> usize {
 }
 
 /// The number of new cells that an unrefused call needs.
-fn need(words: &[u32], call: &[u32]) -> usize {
+pub fn need(words: &[u32], call: &[u32]) -> usize {
     match call[0] {
         2 | 3 => 1,
         4 => match (length(words, call[2]), length(words, call[3])) {
@@ -379,6 +389,31 @@ fn need(words: &[u32], call: &[u32]) -> usize {
         },
         _ => 0,
     }
+}
+
+/// Whether the register that a call sets is one of its operand registers too.
+fn reads_what_it_sets(call: &[u32]) -> bool {
+    let operands = OPERANDS[call[0] as usize];
+    (1..3).any(|i| operands[i] == Operand::Register && call[i + 1] == call[1])
+}
+
+/// Makes room for `need` new cells that register `d` is to hold, and says whether there is room.
+///
+/// Only where they do not fit above `top` is the store collected. What `d` holds counts if it is `kept`, as
+/// an operand is; else it is about to go, and room is sought in the store with `d` empty. Where there is none
+/// the store is collected as it is.
+fn room(words: &mut [u32], top: &mut usize, need: usize, d: usize, kept: bool) -> bool {
+    let capacity = words.len() / 2;
+    if *top + need <= capacity {
+        return true;
+    }
+    let counted = if kept { live(words, *top) } else { live_without(words, *top, d) };
+    let fits = FIRST_HEAP_CELL + counted + need <= capacity;
+    if fits && !kept {
+        put(words, d, Cell::Empty);
+    }
+    *top = compact(words, *top);
+    fits
 }
 
 /// Lays `cells` from `top` upward and sets register `d` on them.
@@ -451,14 +486,11 @@ pub fn step(words: &mut [u32], top: &mut usize, call: &[u32]) -> (u32, u32) {
     if refused != 0 {
         return (refused, 0);
     }
-    let (need, capacity) = (need(words, call), words.len() / 2);
-    if *top + need > capacity {
-        *top = compact(words, *top);
+    let need = need(words, call);
+    match room(words, top, need, call[1] as usize, reads_what_it_sets(call)) {
+        true => (0, perform(words, top, call)),
+        false => (16, 0),
     }
-    if *top + need > capacity {
-        return (16, 0);
-    }
-    (0, perform(words, top, call))
 }
 
 /// What comes before the next byte of a text.
@@ -583,11 +615,8 @@ pub fn type_in(words: &mut [u32], top: usize, register: usize, text: &[u8]) -> T
         Ok(read) => read,
         Err((status, value)) => return Typed { status, value, top },
     };
-    let (mut top, capacity) = (top, words.len() / 2);
-    if top + cells.len() > capacity {
-        top = compact(words, top);
-    }
-    if top + cells.len() > capacity {
+    let mut top = top;
+    if !room(words, &mut top, cells.len(), register, false) {
         return Typed { status: 16, value: 0, top };
     }
     for (c, &cell) in (top..).zip(&cells) {

@@ -235,6 +235,15 @@ fn height(extents: &[Extent], expression: &[Name]) -> usize {
     expression.iter().map(|&name| extents[name as usize].height).max().unwrap_or(0)
 }
 
+/// How many cells of a store are reached before a call or a text that sets register d.
+#[derive(Clone, Copy, Debug)]
+pub struct Live {
+    /// Those that any register reaches.
+    pub all: usize,
+    /// Those that another register than d reaches.
+    pub others: usize,
+}
+
 /// Sixteen registers of expressions.
 #[derive(Clone, Debug)]
 pub struct Trees {
@@ -252,11 +261,11 @@ impl Trees {
         Trees { pool, registers }
     }
 
-    /// One call: its status and value. `live` is the number of reached cells before it.
+    /// One call: its status and value. `live` is what is reached before it.
     ///
-    /// Room depends on `live` and `capacity` alone. A store that still has room below its capacity
+    /// Room depends on the call, `live` and `capacity` alone. A store that still has room below its capacity
     /// is not collected, yet it would not be refused if it were, as 16 + live is at most `top`.
-    pub fn step(&mut self, call: [u32; 4], live: usize, capacity: usize) -> (u32, u32) {
+    pub fn step(&mut self, call: [u32; 4], live: Live, capacity: usize) -> (u32, u32) {
         match self.effect(call, live, capacity) {
             Ok(Effect::Becomes(d, expression)) => {
                 self.registers[d as usize] = expression;
@@ -288,12 +297,12 @@ impl Trees {
         Ok(text)
     }
 
-    /// A text typed into a register: its status and value. `live` is the number of reached cells before it.
+    /// A text typed into a register: its status and value. `live` is what is reached before it.
     pub fn type_in(
         &mut self,
         register: usize,
         text: &[u8],
-        live: usize,
+        live: Live,
         capacity: usize,
     ) -> (u32, usize) {
         if register >= self.registers.len() {
@@ -302,7 +311,7 @@ impl Trees {
         match self.pool.read(text) {
             Err(refused) => refused,
             // No text of no terms is refused: 16 + live is at most the capacity.
-            Ok(typed) if 16 + live + self.pool.all_terms(&typed) > capacity => (16, 0),
+            Ok(typed) if 16 + live.others + self.pool.all_terms(&typed) > capacity => (16, 0),
             Ok(typed) => {
                 self.registers[register] = typed;
                 (0, 0)
@@ -311,32 +320,40 @@ impl Trees {
     }
 
     /// What a call does, or the number that refuses it.
-    fn effect(&mut self, call: [u32; 4], live: usize, capacity: usize) -> Result<Effect, u32> {
+    fn effect(&mut self, call: [u32; 4], live: Live, capacity: usize) -> Result<Effect, u32> {
         well_formed(call)?;
         let [operation, d, a, b] = call;
-        let room = |need: usize| if 16 + live + need > capacity { Err(16u32) } else { Ok(()) };
+        // What d alone holds goes when d is set, but not before the call has read it.
+        let room = |need: usize, read: &[u32]| {
+            let counted = if read.contains(&d) { live.all } else { live.others };
+            if 16 + counted + need > capacity {
+                Err(16u32)
+            } else {
+                Ok(())
+            }
+        };
         let of = |register: u32| self.registers[register as usize].clone();
         Ok(match operation {
             0 => Effect::Becomes(d, Expression::new()),
             1 => Effect::Becomes(d, of(a)),
             2 => {
-                room(1)?;
+                room(1, &[])?;
                 Effect::Becomes(d, vec![self.pool.name(Term::Symbol(a))])
             }
             3 => {
-                room(1)?;
+                room(1, &[a])?;
                 let inside = of(a);
                 Effect::Becomes(d, vec![self.pool.name(Term::Parens(inside))])
             }
             4 => {
                 let (before, after) = (of(a), of(b));
                 if !before.is_empty() && !after.is_empty() {
-                    room(before.len() + after.len())?;
+                    room(before.len() + after.len(), &[a, b])?;
                 }
                 Effect::Becomes(d, [before, after].concat())
             }
             8 => Effect::Tells(of(a).len()),
-            10 | 11 => Effect::Tells(live),
+            10 | 11 => Effect::Tells(live.all),
             _ => return self.effect_on_first(operation, d, &of(a)),
         })
     }

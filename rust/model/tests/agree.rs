@@ -3,7 +3,7 @@
 use zelmotar_model::ordinary::{self, Better, Checks, Marks, Ordinary, Usual, WithBits};
 use zelmotar_model::plain::{self, Cell, Typed, FIRST_HEAP_CELL};
 use zelmotar_model::random::Random;
-use zelmotar_model::trees::{Name, Pool, Term, Trees};
+use zelmotar_model::trees::{Live, Name, Pool, Term, Trees};
 use zelmotar_model::{make, make::Runs};
 
 /// Cells reached by the words of the definition: registers first, then whatever lies between the
@@ -49,6 +49,86 @@ fn collected_by_definition(words: &[u32], top: usize) -> Vec<u32> {
     after
 }
 
+/// Words and `top` of a store.
+type Lent = (Vec<u32>, usize);
+
+/// The number of reached cells, by the words of the definition.
+fn live_by_definition(words: &[u32], top: usize) -> usize {
+    reached_by_definition(words, top).iter().filter(|&&reached| reached).count()
+}
+
+/// The store in which so many new cells for register `d` are laid, by the words of the definition.
+///
+/// # Errors
+///
+/// The store that is left where there is no room for them.
+fn with_room_by_definition(
+    words: &[u32],
+    top: usize,
+    need: usize,
+    d: usize,
+    operands: &[usize],
+) -> Result<Lent, Lent> {
+    let capacity = words.len() / 2;
+    if top + need <= capacity {
+        return Ok((words.to_vec(), top));
+    }
+    let collected =
+        |words: &[u32]| (collected_by_definition(words, top), 16 + live_by_definition(words, top));
+    let mut sought = words.to_vec();
+    if !operands.contains(&d) {
+        sought[2 * d..2 * d + 2].copy_from_slice(&[0, 1 << 31]);
+    }
+    match 16 + live_by_definition(&sought, top) + need <= capacity {
+        true => Ok(collected(&sought)),
+        false => Err(collected(words)),
+    }
+}
+
+/// The cells of a register, in order.
+fn held(words: &[u32], register: usize) -> Vec<[u32; 2]> {
+    let (l, second) = (words[2 * register] as usize, words[2 * register + 1]);
+    let run = if second == 1 << 31 { 0..0 } else { l..(second - (1 << 31)) as usize + 1 };
+    run.map(|c| [words[2 * c], words[2 * c + 1]]).collect()
+}
+
+/// SYMBOL, WRAP or JOIN by the words of the definition, in a sound store: its status.
+fn built_by_definition(lent: &mut Lent, call: [u32; 4]) -> u32 {
+    let [operation, d, a, b] = call.map(|word| word as usize);
+    let (operands, need) = match operation {
+        2 => (vec![], 1),
+        3 => (vec![a], 1),
+        _ => (vec![a, b], held(&lent.0, a).len() + held(&lent.0, b).len()),
+    };
+    for (empty, shared) in [(a, b), (b, a)] {
+        if operation == 4 && held(&lent.0, empty).is_empty() {
+            lent.0.copy_within(2 * shared..2 * shared + 2, 2 * d);
+            return 0;
+        }
+    }
+    let (mut words, top) = match with_room_by_definition(&lent.0, lent.1, need, d, &operands) {
+        Err(left) => {
+            *lent = left;
+            return 16;
+        }
+        Ok(found) => found,
+    };
+    let new = match operation {
+        2 => vec![[call[2], 0]],
+        3 => vec![[words[2 * a], words[2 * a + 1]]],
+        _ => [held(&words, a), held(&words, b)].concat(),
+    };
+    words[2 * top..2 * (top + need)].copy_from_slice(new.as_flattened());
+    words[2 * d..2 * d + 2].copy_from_slice(&around(top, top + need));
+    *lent = (words, top + need);
+    0
+}
+
+/// What is reached before register `d` is set.
+fn live(words: &[u32], top: usize, d: usize) -> Live {
+    Live { all: plain::live(words, top), others: plain::live_without(words, top, d) }
+}
+
 #[test]
 fn random_sound_stores_are_sound() {
     let mut random = Random::of("sound stores");
@@ -67,9 +147,8 @@ fn plain_collects_as_the_definition_says() {
         let capacity = random.within(16..=48);
         let runs = random.pick(&[Runs::Short, Runs::Any]);
         let (mut words, top) = make::sound(&mut random, capacity, runs);
-        let (expected, reached) =
-            (collected_by_definition(&words, top), reached_by_definition(&words, top));
-        let live = reached.iter().filter(|&&reached| reached).count();
+        let (expected, live) =
+            (collected_by_definition(&words, top), live_by_definition(&words, top));
         let reply = plain::collect(&mut words, top);
         assert_eq!(
             (reply.status, reply.value as usize, reply.top),
@@ -101,10 +180,10 @@ fn plain_calls_mean_what_trees_say() {
         let mut trees = Trees::denoted_by(&words, top);
         let count = random.below(25);
         for call in make::calls(&mut random, count).chunks(4) {
-            let live = plain::live(&words, top);
+            let live = live(&words, top, call[1] as usize);
             let expected = trees.step(call.try_into().unwrap(), live, capacity);
             let got = plain::step(&mut words, &mut top, call);
-            assert_eq!(got, expected, "{call:?} with {live} live cells of {capacity}");
+            assert_eq!(got, expected, "{call:?} with {live:?} of {capacity}");
             assert_eq!(trees.pool.denoted(&words, top), trees.registers, "{call:?}");
             assert_eq!(plain::check(&words, top).status, 0, "{call:?}");
         }
@@ -241,8 +320,6 @@ fn laid_by_definition(
 /// Typing by the words of the definition, in a sound store.
 fn typed_by_definition(words: &mut Vec<u32>, top: usize, register: usize, text: &[u8]) -> Typed {
     let mut pool = Pool::default();
-    let live = reached_by_definition(words, top).iter().filter(|&&reached| reached).count();
-    let (capacity, mut new_top) = (words.len() / 2, top);
     if register > 15 {
         return Typed { status: 20, value: 0, top };
     }
@@ -251,16 +328,18 @@ fn typed_by_definition(words: &mut Vec<u32>, top: usize, register: usize, text: 
         Ok(expression) => expression,
     };
     let need = pool.all_terms(&expression);
-    if need > 0 && top + need > capacity {
-        *words = collected_by_definition(words, top);
-        new_top = 16 + live;
+    match with_room_by_definition(words, top, need, register, &[]) {
+        Err((left, top)) => {
+            *words = left;
+            Typed { status: 16, value: 0, top }
+        }
+        Ok((found, mut top)) => {
+            *words = found;
+            let cell = laid_by_definition(&pool, &expression, words, &mut top);
+            words[2 * register..2 * register + 2].copy_from_slice(&cell);
+            Typed { status: 0, value: 0, top }
+        }
     }
-    if need > 0 && 16 + live + need > capacity {
-        return Typed { status: 16, value: 0, top: new_top };
-    }
-    let cell = laid_by_definition(&pool, &expression, words, &mut new_top);
-    words[2 * register..2 * register + 2].copy_from_slice(&cell);
-    Typed { status: 0, value: 0, top: new_top }
 }
 
 /// A store, a register and a text for it: one of an expression, spoilt or cut.
@@ -305,7 +384,7 @@ fn plain_types_what_trees_say() {
     for _ in 0..20_000 {
         let (mut words, top, register, text) = typeable(&mut random);
         let mut trees = Trees::denoted_by(&words, top);
-        let (live, capacity) = (plain::live(&words, top), words.len() / 2);
+        let (live, capacity) = (live(&words, top, register), words.len() / 2);
         let expected = trees.type_in(register, &text, live, capacity);
         let got = plain::type_in(&mut words, top, register, &text);
         let shown = String::from_utf8_lossy(&text);
@@ -425,6 +504,77 @@ fn the_quick_store_is_the_plain_store() {
         same_as_plain(&mut bits, &words, top, &calls, &answers);
         same_as_plain(&mut better, &words, top, &calls, &answers);
     }
+}
+
+/// What came of a call or a text for which the store is collected. 0: there is room beside what register d
+/// holds; 1: in place of it; 2: there is none as d is read; 3: there is none.
+fn came(status: u32, reads_d: bool, live: Live, need: usize, capacity: usize) -> usize {
+    let fits = |live: usize| 16 + live + need <= capacity;
+    match (status, reads_d, fits(live.all), fits(live.others)) {
+        (0, _, true, _) => 0,
+        (0, false, false, true) => 1,
+        (16, true, false, true) => 2,
+        (16, _, false, false) => 3,
+        _ => panic!("answered {status} with {live:?} and {need} to come of {capacity}"),
+    }
+}
+
+#[test]
+fn calls_find_room_as_the_definition_says() {
+    let mut random = Random::of("room for calls");
+    let mut met = [0; 4];
+    for _ in 0..40_000 {
+        let (capacity, operation) = (random.within(16..=40), random.pick(&[2, 3, 4, 4]));
+        let (words, top, call) = make::tight_call(&mut random, capacity, operation);
+        let [_, d, a, b] = call.map(|word| word as usize);
+        let need = plain::need(&words, &call);
+        let (live, capacity) = (live(&words, top, d), words.len() / 2);
+
+        let mut trees = Trees::denoted_by(&words, top);
+        let mut expected = (words.clone(), top);
+        let status = built_by_definition(&mut expected, call);
+        let mut left = (words.clone(), top);
+        assert_eq!(plain::step(&mut left.0, &mut left.1, &call), (status, 0), "{call:?} {words:?}");
+        assert_eq!(left, expected, "{call:?} {words:?}");
+        assert_eq!(trees.step(call, live, capacity), (status, 0), "{call:?} {words:?}");
+        assert_eq!(trees.pool.denoted(&left.0, left.1), trees.registers, "{call:?} {words:?}");
+        same_as_plain(&mut Usual::default(), &words, top, &call, &[7; 2]);
+        same_as_plain(&mut Better::default(), &words, top, &call, &[7; 2]);
+        if top + need > capacity {
+            let reads_d = operation == 3 && d == a || operation == 4 && (d == a || d == b);
+            met[came(status, reads_d, live, need, capacity)] += 1;
+        }
+    }
+    assert!(met.iter().all(|&count| count > 2_000), "{met:?}");
+}
+
+#[test]
+fn texts_find_room_as_the_definition_says() {
+    let mut random = Random::of("room for texts");
+    let (mut usual, mut better) = (Usual::default(), Better::default());
+    let mut met = [0; 4];
+    for _ in 0..20_000 {
+        let (capacity, most) = (random.within(16..=40), random.pick(&[1, 3, 10]));
+        let (words, top, d, text) = make::tight_text(&mut random, capacity, most);
+        let need = plain::read(&text).expect("nothing in it is refused").0.len();
+        let (live, capacity) = (live(&words, top, d), words.len() / 2);
+
+        let mut trees = Trees::denoted_by(&words, top);
+        let mut ours = [(); 3].map(|()| words.clone());
+        let mut expected = words.clone();
+        let told = typed_by_definition(&mut expected, top, d, &text);
+        assert_eq!(plain::type_in(&mut ours[0], top, d, &text), told);
+        assert_eq!(usual.type_in(&mut ours[1], top, d, &text), told);
+        assert_eq!(better.type_in(&mut ours[2], top, d, &text), told);
+        assert!(ours.iter().all(|ours| *ours == expected), "{words:?}");
+        assert_eq!(trees.type_in(d, &text, live, capacity), (told.status, 0));
+        assert_eq!(trees.pool.denoted(&expected, told.top), trees.registers);
+        if top + need > capacity {
+            // A text reads no register.
+            met[came(told.status, false, live, need, capacity)] += 1;
+        }
+    }
+    assert!([0, 1, 3].iter().all(|&i| met[i] > 1_000), "{met:?}");
 }
 
 #[test]

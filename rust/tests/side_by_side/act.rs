@@ -44,6 +44,14 @@ fn text(random: &mut Random) -> Vec<u8> {
 }
 
 impl Act {
+    /// The second word of a call or the register of a text, which is the register that is set if one is.
+    pub fn sets(&self) -> usize {
+        match self {
+            Act::Call(call) => call[1] as usize,
+            Act::Text(register, _) => *register,
+        }
+    }
+
     /// Asks the library: the status and the value of the call or of the text, and the new `top`.
     ///
     /// # Errors

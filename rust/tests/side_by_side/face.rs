@@ -403,10 +403,17 @@ fn a_typed_text_sets_one_register_and_moves_top() {
     let mut store = fresh(21);
     assert_eq!(store.type_in(1, b"65 (66 67) ()"), Ok(()));
     assert_eq!((store.top(), store.look(1).to_string()), (21, "65 (66 67) ()".into()));
-    // The register's old expression counts, so there is no room for a new one beside it.
+    // What the register holds makes room for as many cells, but not where another register holds it too.
     let before = store.clone();
-    assert_eq!(store.type_str(1, "1"), Err(Refusal::NoRoom));
+    assert_eq!(store.type_str(1, "1 2 3 4 5 6"), Err(Refusal::NoRoom));
+    assert_eq!(store.type_str(2, "1"), Err(Refusal::NoRoom));
     assert_eq!(store, before);
+    assert_eq!(store.call(Call::Copy { d: 2, a: 1 }), Ok(Answer::Done));
+    assert_eq!(store.type_str(1, "1"), Err(Refusal::NoRoom));
+    assert_eq!((store.top(), store.look(1).to_string()), (21, "65 (66 67) ()".into()));
+    assert_eq!(store.call(Call::Clear { d: 2 }), Ok(Answer::Done));
+    assert_eq!(store.type_str(1, "1 2 3 (4)"), Ok(()));
+    assert_eq!((store.top(), store.look(1).to_string()), (21, "1 2 3 (4)".into()));
     assert_eq!(store.type_str(1, ""), Ok(()));
     assert_eq!((store.top(), store.look(1).len()), (21, 0));
     // Now all five cells are dead, and a collection makes room for four.
@@ -425,7 +432,11 @@ fn the_longest_text_that_there_is_room_for() {
     assert_eq!(store.type_str(0, &(text.clone() + " 1")), Err(Refusal::NoRoom));
     assert_eq!(store.type_str(0, &text), Ok(()));
     assert_eq!(store.top(), MAX_CELLS);
-    assert_eq!(store.print_string(0, usize::MAX), Ok(text));
+    assert_eq!(store.print_string(0, usize::MAX).as_ref(), Ok(&text));
+    // As long a text takes its place.
+    let other = vec!["()"; MAX_CELLS - 16].join(" ");
+    assert_eq!(store.type_str(0, &other), Ok(()));
+    assert_eq!(store.print_string(0, usize::MAX), Ok(other));
     // A text far longer than any store is judged to its end all the same.
     let long = "7 ".repeat(500_000);
     assert_eq!(store.type_str(1, &long), Err(Refusal::NotText { offset: 1_000_000 }));

@@ -9,6 +9,7 @@
 //! - [`batches`]: random stores, sound and damaged, with random lists and answer spaces.
 //! - [`prints`]: random registers, printed into text spaces of every length.
 //! - [`types`]: random texts, typed into stores that have about as much room as they need.
+//! - [`room`]: calls and texts on nearly full stores, where what a register holds makes room or does not.
 //! - [`meaning`]: call for call, and text for text, against expressions with no addresses.
 //! - [`alike`]: stores that differ in dead cells, collections and cuts between batches only.
 //! - [`bytes`]: raw bytes as store, calls, answer space and text.
@@ -26,6 +27,7 @@ mod guarded;
 mod meaning;
 mod pages;
 mod prints;
+mod room;
 mod shrink;
 mod tally;
 mod terms;

@@ -1,13 +1,13 @@
 //! Call for call, and text for text, against expressions with no addresses.
 //!
 //! Each call is a batch of its own, so that what the registers denote is seen after every one. The
-//! number of live cells before a call or a text is counted by the model, from the words as the library left
-//! them.
+//! numbers of live cells before a call or a text, in all and without the register that is set, are counted by
+//! the model, from the words as the library left them.
 
 use zelmotar_model::make::{self, Runs};
 use zelmotar_model::plain;
 use zelmotar_model::random::Random;
-use zelmotar_model::trees::Trees;
+use zelmotar_model::trees::{Live, Trees};
 
 use crate::act::{acts, Act};
 use crate::case::Ran;
@@ -15,7 +15,7 @@ use crate::shrink::shrunk;
 use crate::tally::{Tally, CALL_STATUSES};
 
 /// What a call or a text means: its status and value.
-fn meant(trees: &mut Trees, act: &Act, live: usize, capacity: usize) -> (u32, usize) {
+fn meant(trees: &mut Trees, act: &Act, live: Live, capacity: usize) -> (u32, usize) {
     match act {
         Act::Call(call) => {
             let (status, value) = trees.step(*call, live, capacity);
@@ -26,18 +26,18 @@ fn meant(trees: &mut Trees, act: &Act, live: usize, capacity: usize) -> (u32, us
 }
 
 /// Asks one by one and says which differs from its meaning; else gives the statuses.
-fn compare(words: &[u32], top: usize, acts: &[Act]) -> Result<Ran, String> {
+pub fn compare(words: &[u32], top: usize, acts: &[Act]) -> Result<Ran, String> {
     let (mut words, mut top) = (words.to_vec(), top);
     let mut trees = Trees::denoted_by(&words, top);
     let (mut statuses, mut texts) = (Vec::new(), Vec::new());
     for act in acts {
-        let live = plain::live(&words, top);
+        let (all, others) =
+            (plain::live(&words, top), plain::live_without(&words, top, act.sets()));
+        let live = Live { all, others };
         let expected = meant(&mut trees, act, live, words.len() / 2);
         let answer = act.ask(&mut words, &mut top)?;
         if answer != expected {
-            return Err(format!(
-                "{act:?}: answered {answer:?}, meant {expected:?} with {live} live cells"
-            ));
+            return Err(format!("{act:?}: answered {answer:?}, meant {expected:?} with {live:?}"));
         }
         if plain::check(&words, top).status != 0 {
             return Err(format!("{act:?}: the store is not sound afterwards"));

@@ -24,6 +24,11 @@ fn listed(counts: &BTreeMap<u32, usize>) -> String {
     counts.iter().map(|(status, count)| format!(" {status}:{count}")).collect()
 }
 
+/// Each name with its count.
+fn named(counts: &BTreeMap<&str, usize>) -> String {
+    counts.iter().map(|(name, count)| format!("; {name}: {count}")).collect()
+}
+
 /// Says a line. The test harness keeps back what `println` writes, so this goes to the standard error
 /// itself. A closed one is no reason to fail.
 fn say(name: &str, what: &str) {
@@ -93,6 +98,38 @@ impl Types {
             assert!(count >= least, "{count} texts were answered {status}");
         }
         assert!(self.collected >= least || !statuses.contains(&16), "{} collected", self.collected);
+    }
+}
+
+/// Counts of calls and texts on nearly full stores, by what is asked and by what comes of it.
+#[derive(Default)]
+pub struct Rooms {
+    asked: BTreeMap<&'static str, usize>,
+    came: BTreeMap<&'static str, usize>,
+}
+
+impl Rooms {
+    /// Counts a call or a text, and what came of it, which may have several names.
+    pub fn add(&mut self, asked: &'static str, came: &[&'static str]) {
+        *self.asked.entry(asked).or_default() += 1;
+        for name in came {
+            *self.came.entry(name).or_default() += 1;
+        }
+    }
+
+    /// Prints the counts.
+    pub fn print(&self, name: &str) {
+        let count = self.asked.values().sum::<usize>();
+        let (asked, came) = (named(&self.asked), named(&self.came));
+        say(name, &format!("{count} calls and texts{asked}{came}"));
+    }
+
+    /// Asserts that each of the given was asked, or did come, so many times.
+    pub fn assert_met(&self, names: &[&str], least: usize) {
+        for name in names {
+            let count = self.asked.get(name).or(self.came.get(name)).unwrap_or(&0);
+            assert!(*count >= least, "{name}: {count}");
+        }
     }
 }
 

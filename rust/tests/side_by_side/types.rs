@@ -16,11 +16,11 @@ use crate::tally::{Types, TYPE_STATUSES};
 
 /// What goes into a typing.
 #[derive(Clone, Debug)]
-struct Type {
-    words: Vec<u32>,
-    top: usize,
-    register: usize,
-    text: Vec<u8>,
+pub struct Type {
+    pub words: Vec<u32>,
+    pub top: usize,
+    pub register: usize,
+    pub text: Vec<u8>,
 }
 
 impl Type {
@@ -44,7 +44,7 @@ impl Type {
     }
 
     /// Types and fails with a small version of it if anything differs.
-    fn hold(&self) -> Typed {
+    pub fn hold(&self) -> Typed {
         self.compare().unwrap_or_else(|_| {
             let with_text = |text: &[u8]| Type { text: text.to_vec(), ..self.clone() };
             let text = shrunk(&self.text, |text| with_text(text).compare().is_err());

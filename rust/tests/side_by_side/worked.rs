@@ -1,4 +1,4 @@
-//! Rows that are worked out by hand: P1 to P8, T1 to T21, and the rows that are only run.
+//! Rows that are worked out by hand: P1 to P12, T1 to T24, and the rows that are only run.
 
 use zelmotar::raw::{self, Reply, Text, Typed};
 use zelmotar::{Answer, Call, Fault, Refusal, Store};
@@ -143,6 +143,92 @@ fn p8_the_operation_is_judged_before_the_register() {
     let mut answers = [9; 2];
     fresh(16).run_words(&[12, 99, 0, 0], &mut answers).expect("the batch is run");
     assert_eq!(answers, [10, 0]);
+}
+
+/// Symbols with these codes from cell 16 on, and registers with their ends.
+fn symbols(capacity: usize, codes: &[u32], registers: &[(usize, u32, u32)]) -> Vec<u32> {
+    let symbols = (16..).zip(codes).map(|(c, &code)| (c, [code, 0]));
+    let registers = registers.iter().map(|&(register, l, r)| (register, [l, EMPTY + r]));
+    words(capacity, &symbols.chain(registers).collect::<Vec<_>>())
+}
+
+/// Asserts what one call on a store answers, and `top` and every word after it.
+#[track_caller]
+fn assert_leaves(store: &mut Store, call: Call, answer: Answer, top: usize, words: &[u32]) {
+    assert_eq!(store.call(call), Ok(answer), "{call}");
+    assert_eq!((store.top(), store.words()), (top, words), "{call}");
+}
+
+#[test]
+fn p9_room_in_place_of_a_symbol() {
+    let (mut store, full) = (fresh(17), refused(Fault::Room));
+    assert_leaves(&mut store, Call::Symbol { d: 0, code: 65 }, Answer::Done, 17, &lone(65));
+    assert_leaves(&mut store, Call::Symbol { d: 0, code: 66 }, Answer::Done, 17, &lone(66));
+    // A bracket around the symbol would hold it, and register 0 does.
+    assert_leaves(&mut store, Call::Wrap { d: 0, a: 0 }, full, 17, &lone(66));
+    assert_leaves(&mut store, Call::Wrap { d: 1, a: 0 }, full, 17, &lone(66));
+    assert_leaves(&mut store, Call::Symbol { d: 1, code: 67 }, full, 17, &lone(66));
+    // An empty bracket holds nothing.
+    assert_leaves(&mut store, Call::Wrap { d: 0, a: 1 }, Answer::Done, 17, &nest(1).0);
+}
+
+#[test]
+fn p9_room_above_top_is_taken_first() {
+    let mut store = Store::from_parts(symbols(18, &[65], &[(0, 16, 16)]), 17);
+    // The old symbol is dead then, and stays.
+    let dead = symbols(18, &[65, 66], &[(0, 17, 17)]);
+    assert_leaves(&mut store, Call::Symbol { d: 0, code: 66 }, Answer::Done, 18, &dead);
+    // What needs no new cell collects nothing.
+    let shared = symbols(18, &[65, 66], &[(0, 17, 17), (1, 17, 17)]);
+    assert_leaves(&mut store, Call::Join { d: 1, a: 0, b: 2 }, Answer::Done, 18, &shared);
+    assert_leaves(&mut store, Call::Join { d: 1, a: 2, b: 2 }, Answer::Done, 18, &dead);
+    assert_eq!(typed(&shared, 18, 1, ""), set(18, dead));
+}
+
+#[test]
+fn p10_room_beside_what_is_read() {
+    // The calls need two cells. One is free, and the register that is set has one, which is read.
+    let before = symbols(19, &[65, 66], &[(0, 16, 16), (1, 17, 17)]);
+    let mut store = Store::from_parts(before.clone(), 18);
+    for (d, a, b) in [(0, 0, 1), (1, 0, 1), (0, 1, 0), (0, 0, 0)] {
+        let call = Call::Join { d, a, b };
+        assert_leaves(&mut store, call, refused(Fault::Room), 18, &before);
+    }
+    let after = symbols(19, &[66, 66, 66], &[(0, 17, 18), (1, 16, 16)]);
+    assert_leaves(&mut store, Call::Join { d: 0, a: 1, b: 1 }, Answer::Done, 19, &after);
+}
+
+#[test]
+fn p11_room_that_another_register_holds_too() {
+    let call = Call::Join { d: 2, a: 1, b: 0 };
+    let registers = [(0, 16, 16), (1, 17, 17), (2, 18, 18), (3, 18, 18)];
+    let before = symbols(20, &[65, 66, 67], &registers);
+    let mut store = Store::from_parts(before.clone(), 19);
+    assert_leaves(&mut store, call, refused(Fault::Room), 19, &before);
+    assert_eq!(store.call(Call::Clear { d: 3 }), Ok(Answer::Done));
+    let after = symbols(20, &[65, 66, 66, 65], &[(0, 16, 16), (1, 17, 17), (2, 18, 19)]);
+    assert_leaves(&mut store, call, Answer::Done, 20, &after);
+}
+
+/// A full store: 70 is dead, register 0 holds 65, and register 1 holds 66 67. Its `top` is 20.
+fn one_dead() -> Vec<u32> {
+    symbols(20, &[70, 65, 66, 67], &[(0, 17, 17), (1, 18, 19)])
+}
+
+/// The same collected. Its `top` is 19.
+fn none_dead() -> Vec<u32> {
+    symbols(20, &[65, 66, 67], &[(0, 16, 16), (1, 17, 18)])
+}
+
+#[test]
+fn p12_no_room_leaves_the_register_and_the_store_collected() {
+    let mut store = Store::from_parts(one_dead(), 20);
+    let call = Call::Join { d: 0, a: 1, b: 1 };
+    assert_leaves(&mut store, call, refused(Fault::Room), 19, &none_dead());
+    // Where there is room, what register 0 held goes with the dead symbol.
+    let mut store = Store::from_parts(one_dead(), 20);
+    let after = symbols(20, &[66, 67, 68], &[(0, 18, 18), (1, 16, 17)]);
+    assert_leaves(&mut store, Call::Symbol { d: 0, code: 68 }, Answer::Done, 19, &after);
 }
 
 /// What printing a register into so many bytes answers, and the bytes that it leaves.
@@ -382,6 +468,25 @@ fn t21_damage_is_judged_first() {
     let words = words(20, &[(16, [1, 0]), (17, [2, 0]), (18, [16, EMPTY + 18])]);
     let damaged = Typed { status: 3, value: 18, top: 19 };
     assert_eq!(typed(&words, 19, 16, "x"), (damaged, words));
+}
+
+#[test]
+fn t22_to_t24_room_for_a_text() {
+    let full = |top| Typed { status: 16, value: 0, top };
+    assert_eq!(typed(&lone(65), 17, 0, "66"), set(17, lone(66)));
+    assert_eq!(typed(&lone(65), 17, 0, "66 66"), (full(17), lone(65)));
+    assert_eq!(typed(&lone(65), 17, 1, "66"), (full(17), lone(65)));
+    let held = symbols(17, &[65], &[(0, 16, 16), (1, 16, 16)]);
+    assert_eq!(typed(&held, 17, 0, "66"), (full(17), held));
+    // The dead symbol and that of register 0 go for two terms. For three there is no room.
+    let behind = symbols(18, &[70, 65], &[(0, 17, 17)]);
+    assert_eq!(typed(&behind, 18, 0, "1 2"), set(18, symbols(18, &[1, 2], &[(0, 16, 17)])));
+    let kept = symbols(18, &[65], &[(0, 16, 16)]);
+    assert_eq!(typed(&behind, 18, 0, "1 2 3"), (full(17), kept));
+    // Beside what register 1 holds.
+    let after = symbols(20, &[66, 67, 8, 9], &[(0, 18, 19), (1, 16, 17)]);
+    assert_eq!(typed(&one_dead(), 20, 0, "8 9"), set(20, after));
+    assert_eq!(typed(&one_dead(), 20, 0, "8 (9)"), (full(19), none_dead()));
 }
 
 #[test]

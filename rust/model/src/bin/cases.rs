@@ -120,14 +120,30 @@ fn store(random: &mut Random) -> (Vec<u32>, usize) {
     (words, top)
 }
 
-/// A batch: what is lent, and what the model leaves.
-fn batch(random: &mut Random) -> String {
-    let (mut words, top) = store(random);
+/// The cells that a nearly full store is made of. It may get a few more.
+fn nearly_full(random: &mut Random) -> usize {
+    random.within(FIRST_HEAP_CELL..=MAX_CELLS - 6)
+}
+
+/// A store and calls for it: a few on any store, or one that lays new cells on a nearly full one.
+fn calls(random: &mut Random) -> (Vec<u32>, usize, Vec<u32>) {
+    if random.one_in(3) {
+        let (capacity, operation) = (nearly_full(random), random.pick(&[2, 3, 4]));
+        let (words, top, call) = make::tight_call(random, capacity, operation);
+        return (words, top, call.to_vec());
+    }
+    let (words, top) = store(random);
     let count = random.below(10);
     let mut calls = make::calls(random, count);
     if random.one_in(10) {
         calls.resize(calls.len() + random.below(4), 0);
     }
+    (words, top, calls)
+}
+
+/// A batch: what is lent, and what the model leaves.
+fn batch(random: &mut Random) -> String {
+    let (mut words, top, calls) = calls(random);
     let mut answers = make::answers(random, calls.len());
     let lent = format!("{} {} {} {}", list(&words), top, list(&calls), list(&answers));
     let Reply { status, value, top } = plain::run(&mut words, top, &calls, &mut answers);
@@ -202,15 +218,23 @@ fn text(random: &mut Random) -> Vec<u8> {
     text
 }
 
-/// A text typed into a register, or into a number that is none, of a store with about as much room as it
-/// needs.
-fn typed(random: &mut Random) -> String {
+/// A store with about as much room as a text needs, a register or a number that is none, and the text.
+fn typeable(random: &mut Random) -> (Vec<u32>, usize, usize, Vec<u8>) {
+    if random.one_in(3) {
+        let (capacity, most) = (nearly_full(random), random.pick(&[1, 3, 8]));
+        return make::tight_text(random, capacity, most);
+    }
     let ((mut words, top), text) = (store(random), text(random));
     if plain::check(&words, top).status == 0 {
         let need = plain::read(&text).map_or(0, |(cells, _)| cells.len());
         make::crowd(random, &mut words, top, need);
     }
-    let register = random.below(FIRST_HEAP_CELL + 2);
+    (words, top, random.below(FIRST_HEAP_CELL + 2), text)
+}
+
+/// A text typed into a register.
+fn typed(random: &mut Random) -> String {
+    let (mut words, top, register, text) = typeable(random);
     let lent = format!("{} {top} {register} {}", list(&words), list(&text));
     let Typed { status, value, top } = plain::type_in(&mut words, top, register, &text);
     format!("types {lent} {status} {value} {} {top}", list(&words))
