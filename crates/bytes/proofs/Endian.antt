@@ -1,14 +1,16 @@
 -- Laws of words of bytes and bytes of words. In order:
 --   words-length, bytes-length   how many there are
 --   word-at, word-none           word j of bytes, and that there is none
+--   words-take, words-drop       the words of the first bytes, and of those after them
+--   bytes-append                 the bytes of words, then of words
 --   words-back, bytes-back       there and back
 -- Assumes nothing.
 use mathlib.Core.Path.{_≡_, refl, ap, ap₂}
-use mathlib.Core.List.{List, [], _∷_}
+use mathlib.Core.List.{List, [], _∷_, _++_}
 use Prim.Native.Nat.{ℕ, zero, suc, _+_, _*_, _/_, _%_, _≤_, _<_}
 use native.Mathlib.Omega.{arith}
-use lib.ListN.{length, getD, List·getD-eq-default}
-use Rattle.bytes.specs.Little.{wordsOf}
+use lib.ListN.{length, getD, take, drop, List·getD-eq-default}
+use Rattle.bytes.specs.Little.{wordsOf, bytesOf}
 use Rattle.bytes.specs.Claims.{BytesLength, WordsBack, BytesBack}
 
 pub words-length : (bs : List ℕ) → length (wordsOf bs) ≡ length bs / 4
@@ -43,6 +45,35 @@ word-at (a ∷ b ∷ c ∷ d ∷ bs) (suc j) h =
 
 pub word-none : (bs : List ℕ) (j : ℕ) → length bs / 4 ≤ j → getD (wordsOf bs) j 0 ≡ 0
 word-none bs j h = List·getD-eq-default (wordsOf bs) 0 (omega (arith, words-length bs))
+
+pub words-take : (k : ℕ) (bs : List ℕ) → wordsOf (take (4 * k) bs) ≡ take k (wordsOf bs)
+words-take zero bs = refl
+words-take (suc k) bs = let e : 4 * suc k ≡ suc (suc (suc (suc (4 * k)))) = omega arith in rw e (go bs (words-take k))
+  where
+    go : (xs : List ℕ) → ((ys : List ℕ) → wordsOf (take (4 * k) ys) ≡ take k (wordsOf ys))
+        → wordsOf (take (suc (suc (suc (suc (4 * k))))) xs) ≡ take (suc k) (wordsOf xs)
+    go [] r = refl
+    go (a ∷ []) r = refl
+    go (a ∷ b ∷ []) r = refl
+    go (a ∷ b ∷ c ∷ []) r = refl
+    go (a ∷ b ∷ c ∷ d ∷ xs) r = ap (λ (x : List ℕ). four a b c d ∷ x) (r xs)
+
+pub words-drop : (k : ℕ) (bs : List ℕ) → wordsOf (drop (4 * k) bs) ≡ drop k (wordsOf bs)
+words-drop zero bs = refl
+words-drop (suc k) bs = let e : 4 * suc k ≡ suc (suc (suc (suc (4 * k)))) = omega arith in rw e (go bs (words-drop k))
+  where
+    go : (xs : List ℕ) → ((ys : List ℕ) → wordsOf (drop (4 * k) ys) ≡ drop k (wordsOf ys))
+        → wordsOf (drop (suc (suc (suc (suc (4 * k))))) xs) ≡ drop (suc k) (wordsOf xs)
+    go [] r = refl
+    go (a ∷ []) r = refl
+    go (a ∷ b ∷ []) r = refl
+    go (a ∷ b ∷ c ∷ []) r = refl
+    go (a ∷ b ∷ c ∷ d ∷ xs) r = r xs
+
+pub bytes-append : (xs ys : List ℕ) → bytesOf (xs ++ ys) ≡ bytesOf xs ++ bytesOf ys
+bytes-append [] ys = refl
+bytes-append (x ∷ xs) ys =
+    ap (λ (r : List ℕ). x % 256 ∷ x / 256 % 256 ∷ x / 65536 % 256 ∷ x / 16777216 ∷ r) (bytes-append xs ys)
 
 -- a word is that of its bytes, and a byte of a word is the byte it was made of
 four-of : (w : ℕ) → four (w % 256) (w / 256 % 256) (w / 65536 % 256) (w / 16777216) ≡ w

@@ -16,7 +16,7 @@ use Rattle.meaning.proofs.reach.Reaching.{live-le}
 use Rattle.meaning.proofs.batch.Cases.{Cases, unsound, badCalls, shortAnswers, run, cases}
 
 module _ (F : ℕ) (ws : List ℕ) (top : ℕ) where
-  check-most : check F ws top .value ≤ limit
+  pub check-most : check F ws top .value ≤ limit
   check-most = go (check F ws top) (check-cases F ws top)
     where
       go : (v : Verdict) → CheckCases F ws top v → v .value ≤ limit
@@ -26,7 +26,7 @@ module _ (F : ℕ) (ws : List ℕ) (top : ℕ) where
       go v (sound s) = omega arith
 
   -- what holds of both, where the store is sound and where it is not
-  by-check : {A : Type 0} (P : A → Type 0) (x y : A) → (Sound F ws top → P x) → P y
+  pub by-check : {A : Type 0} (P : A → Type 0) (x y : A) → (Sound F ws top → P x) → P y
       → P (ifSound (check F ws top) x y)
   by-check P x y h k = go (check F ws top .status) refl
     where

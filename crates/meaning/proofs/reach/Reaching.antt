@@ -54,7 +54,7 @@ between-of (code a) c h = absurd h
 between-of empty c h = absurd h
 between-of (ends l r) c h = rw (le-leb l c (h .0), le-leb c r (h .1)) refl
 
-below-to : (k : ℕ → Cell) (n c : ℕ) → heldBelow k n c ≡ true → (i : ℕ) × (i < n) × Between (k i) c
+pub below-to : (k : ℕ → Cell) (n c : ℕ) → heldBelow k n c ≡ true → (i : ℕ) × (i < n) × Between (k i) c
 below-to k zero c e = absurd (false≢true e)
 below-to k (suc n) c e = go (or-cases (between (k n) c) (heldBelow k n c) e) (below-to k n c)
   where
@@ -63,7 +63,7 @@ below-to k (suc n) c e = go (or-cases (between (k n) c) (heldBelow k n c) e) (be
     go (inl p) r = (n, omega arith, between-to (k n) c p)
     go (inr p) r = let q = r p in (q .0, omega (arith, q .1), q .2)
 
-below-of : (k : ℕ → Cell) (n c i : ℕ) → i < n → Between (k i) c → heldBelow k n c ≡ true
+pub below-of : (k : ℕ → Cell) (n c i : ℕ) → i < n → Between (k i) c → heldBelow k n c ≡ true
 below-of k zero c i l h = absurd (not-suc-le-zero l)
 below-of k (suc n) c i l h = go (eq-or-lt-of-le (le-of-suc-le-suc l)) (below-of k n c i)
   where

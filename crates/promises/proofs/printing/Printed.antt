@@ -33,7 +33,7 @@ use Rattle.promises.proofs.collecting.Keeping.{collecting-keeps}
 use Rattle.promises.proofs.alike.Alikes.{collect-sound, alike-is-collected}
 use Rattle.promises.proofs.printing.Meeting.{meets, met-once}
 
-zeros : (n : ℕ) → filled n [] ≡ replicate n 0
+pub zeros : (n : ℕ) → filled n [] ≡ replicate n 0
 zeros n = let z : n - 0 ≡ n = omega arith in filled-fits n [] (omega arith) ∙ rw z refl
 
 module _ (F : ℕ) (ws : List ℕ) (top i n : ℕ) where
