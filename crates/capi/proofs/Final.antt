@@ -6,10 +6,13 @@ use Prim.Native.Nat.{ℕ}
 use Rattle.meaning.specs.Verdicts.{Done}
 use Rattle.meaning.specs.Batch.{Outcome}
 use Rattle.meaning.specs.Text.{Printed}
+use Rattle.meaning.specs.File.{Saved}
 use Rattle.store.proofs.Final as store
-use Rattle.capi.specs.Answers.{reply, verdictIs, doneIs, outcomeIs, printedIs, typedIs}
+use Rattle.capi.specs.Answers.{reply, verdictIs, doneIs, outcomeIs, printedIs, typedIs, savedIs}
 use Rattle.capi.specs.Unique.{OneCheck, OneFresh, OneCollect, OneRun, OneLook, OnePrint, OneType}
+use Rattle.capi.specs.Unique.{OneSave, OneLoad}
 use Rattle.capi.specs.declared.Entry.{Entry}
+use Rattle.capi.specs.declared.Filed.{Filed}
 use Rattle.capi.specs.declared.Reply.{Reply}
 use Rattle.capi.specs.declared.Text.{Text}
 
@@ -63,3 +66,19 @@ one-type ws top d bs vs vs′ r r′ p q =
       }) e,
       ap (λ (x : Done). x .words) e,
     )
+
+pub one-save : OneSave
+one-save ws top out vs vs′ ss ss′ r r′ p q =
+    let e : savedIs r vs ss ≡ savedIs r′ vs′ ss′ = p ∙ sym q in (
+      ap {B = Filed} (λ (x : Saved). record {
+        status = x .verdict .status;
+        value = x .verdict .value;
+        top = x .top;
+        length = x .size;
+      }) e,
+      ap (λ (x : Saved). x .words) e,
+      ap (λ (x : Saved). x .space) e,
+    )
+
+pub one-load : OneLoad
+one-load bs ws vs vs′ r r′ p q = done-same r r′ vs vs′ (p ∙ sym q)

@@ -4,16 +4,18 @@ use mathlib.Core.Path.{_≡_}
 use mathlib.Core.List.{List}
 use Prim.Native.Nat.{ℕ}
 use lib.ListN.{length}
-use Rattle.meaning.specs.Limits.{firstHeapCell}
+use Rattle.meaning.specs.Limits.{firstHeapCell, edition}
 use Rattle.meaning.specs.Verdicts.{Verdict, Done}
 use Rattle.meaning.specs.Check.{check, collectIn}
 use Rattle.meaning.specs.Fresh.{freshIn}
 use Rattle.meaning.specs.Batch.{Outcome, batch}
 use Rattle.meaning.specs.Text as text
 use Rattle.meaning.specs.Typed.{typeIn}
+use Rattle.meaning.specs.File as file
 use Rattle.store.specs.Answers.{Placed}
 use Rattle.store.specs.declared.Span as span
 use Rattle.capi.specs.declared.Entry.{Entry}
+use Rattle.capi.specs.declared.Filed.{Filed}
 use Rattle.capi.specs.declared.Numbers.{Numbers}
 use Rattle.capi.specs.declared.Reply.{Reply}
 use Rattle.capi.specs.declared.Text.{Text}
@@ -46,6 +48,17 @@ printedIs r out = record { verdict = record { status = r .status; value = r .val
 abbrev pub typedIs : Entry → List ℕ → Done
 typedIs r ws = record { verdict = record { status = r .status; value = r .value }; words = ws; top = r .top }
 
+-- what saving gives, with the words of the store and the bytes of the space
+abbrev pub savedIs : Filed → List ℕ → List ℕ → file.Saved
+savedIs r ws out =
+    record {
+      verdict = record { status = r .status; value = r .value };
+      words = ws;
+      top = r .top;
+      size = r .length;
+      space = out;
+    }
+
 -- ---- what the exported functions promise: the contracts cite these, and so does every claim about them
 
 -- `zelmotar_check` gives `top` back as it came
@@ -73,3 +86,11 @@ Prints ws top i out r vs = printedIs r vs ≡ text.printIn firstHeapCell ws top 
 -- `zelmotar_type` leaves the words vs
 abbrev pub Types : List ℕ → ℕ → ℕ → List ℕ → Entry → List ℕ → Type 0
 Types ws top d bs r vs = typedIs r vs ≡ typeIn firstHeapCell ws top d bs
+
+-- `zelmotar_save` leaves the words vs and the bytes ss of the space `out`
+abbrev pub Saves : List ℕ → ℕ → List ℕ → Filed → List ℕ → List ℕ → Type 0
+Saves ws top out r vs ss = savedIs r vs ss ≡ file.saveIn edition firstHeapCell ws top (length out)
+
+-- `zelmotar_load`, of the file bs, leaves the words vs
+abbrev pub Loads : List ℕ → List ℕ → Reply → List ℕ → Type 0
+Loads bs ws r vs = doneIs r vs ≡ file.loadIn bs ws

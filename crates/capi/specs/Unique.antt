@@ -5,8 +5,9 @@ use mathlib.Core.Path.{_≡_}
 use mathlib.Core.List.{List}
 use Prim.Native.Nat.{ℕ}
 use Rattle.store.specs.declared.Span as span
-use Rattle.capi.specs.Answers.{Checks, Makes, Collects, Runs, Places, Prints, Types}
+use Rattle.capi.specs.Answers.{Checks, Makes, Collects, Runs, Places, Prints, Types, Saves, Loads}
 use Rattle.capi.specs.declared.Entry.{Entry}
+use Rattle.capi.specs.declared.Filed.{Filed}
 use Rattle.capi.specs.declared.Reply.{Reply}
 use Rattle.capi.specs.declared.Text.{Text}
 
@@ -38,3 +39,11 @@ abbrev pub OneType : Type 0
 OneType =
     (ws : List ℕ) (top d : ℕ) (bs vs vs′ : List ℕ) (r r′ : Entry)
     → Types ws top d bs r vs → Types ws top d bs r′ vs′ → (r ≡ r′) × (vs ≡ vs′)
+
+abbrev pub OneSave : Type 0
+OneSave =
+    (ws : List ℕ) (top : ℕ) (out vs vs′ ss ss′ : List ℕ) (r r′ : Filed)
+    → Saves ws top out r vs ss → Saves ws top out r′ vs′ ss′ → (r ≡ r′) × (vs ≡ vs′) × (ss ≡ ss′)
+
+abbrev pub OneLoad : Type 0
+OneLoad = (bs ws vs vs′ : List ℕ) (r r′ : Reply) → Loads bs ws r vs → Loads bs ws r′ vs′ → (r ≡ r′) × (vs ≡ vs′)

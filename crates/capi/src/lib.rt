@@ -1,8 +1,10 @@
 // The store for C and Rust. A slice crosses as a pointer and a count of words or bytes. No enum and no slice can come
-// back: a reply is a struct of SCOPE's numbers (5), so is what printing and typing give, and a look is a place. Each
-// exported function is one call of a proved one, and takes whatever it is handed.
+// back: a reply is a struct of SCOPE's numbers (5), so is what printing, typing and saving give, and a look is a place.
+// Each exported function is one call of a proved one, and takes whatever it is handed.
 use calls::Ran;
 use collect::Collected;
+use file::Loaded;
+use file::Saved;
 use reader::judging::Fault;
 use store::Checked;
 use store::Made;
@@ -16,6 +18,7 @@ ghost use Rattle.meaning.specs.Limits.{limit};
 ghost use Rattle.store.specs.Answers.{refusalOf};
 ghost use Rattle.reader.specs.Readers.{faultOf};
 ghost use Rattle.capi.specs.Answers.{refusalIs, reply, Checks, Makes, Collects, Runs, Places, Prints, Types};
+ghost use Rattle.capi.specs.Answers.{Saves, Loads};
 
 // A status, the value that goes with it, and `top` afterwards.
 #[repr(C)]
@@ -212,4 +215,60 @@ pub extern "C" fn zelmotar_look(words: &[u32], top: usize, reg: usize) -> Span
     ensures { λ r. ⌜ Places (now (words .entry)) top reg r ⌝ }
 {
     store::look_span(words, top, reg)
+}
+
+// What saving gives: a status, the value that goes with it, `top` afterwards and the length of the file.
+#[repr(C)]
+pub struct Filed {
+    pub status: u32,
+    pub value: u32,
+    pub top: usize,
+    pub length: usize,
+}
+
+// A store saved. It is collected, and every byte of the space lent for the file is written.
+#[no_mangle]
+pub extern "C" fn zelmotar_save(words: &mut [u32], top: usize, space: &mut [u8]) -> Filed
+    ensures { λ r. ⌜ Saves (now (words .entry)) top (now (space .entry)) r (now (words .exit)) (now (space .exit)) ⌝ }
+{
+    match file::save(words, top, space) {
+        Saved::Done(low, length) => Filed {
+            status: 0,
+            value: 0,
+            top: low,
+            length,
+        },
+        Saved::ShortSpace(low) => Filed {
+            status: 22,
+            value: 0,
+            top: low,
+            length: 0,
+        },
+        Saved::Refused(why) => {
+            let r = refuse(why, top);
+            Filed {
+                status: r.status,
+                value: r.value,
+                top: r.top,
+                length: 0,
+            }
+        }
+    }
+}
+
+// A file loaded; 0 as `top` where the words are left as they are. The file is only read.
+#[no_mangle]
+pub extern "C" fn zelmotar_load(words: &mut [u32], file: &[u8]) -> Reply
+    ensures { λ r. ⌜ Loads (now (file .entry)) (now (words .entry)) r (now (words .exit)) ⌝ }
+{
+    match file::load(words, file) {
+        Loaded::Ready(top) => reply_with(0, 0, top),
+        Loaded::ShortFile => reply_with(30, 0, 0),
+        Loaded::BadEdition => reply_with(31, 0, 0),
+        Loaded::BadDistance => reply_with(32, 0, 0),
+        Loaded::BadCapacity => reply_with(33, 0, 0),
+        Loaded::WrongSlice => reply_with(35, 0, 0),
+        Loaded::Damaged(cell) => reply_with(3, cell, 0),
+        Loaded::NotCollected => reply_with(34, 0, 0),
+    }
 }

@@ -1,14 +1,16 @@
 -- The claims of specs/, each with its proof. Nothing else stands here.
 -- Assumes nothing.
 use Rattle.demands.specs.Contracts.{CheckSays, FreshSays, LookSays, SpanSays, CollectSays, RunSays, PrintSays}
-use Rattle.demands.specs.Contracts.{TypeSays}
+use Rattle.demands.specs.Contracts.{TypeSays, LoadSays, SaveSays}
 use Rattle.demands.specs.Run.{CheckMeets, FreshMeets, LookMeets, SpanMeets, CollectMeets, RunMeets, PrintMeets}
 use Rattle.demands.specs.Run.{PrintsNeverShow}
 use Rattle.demands.specs.Texts.{TypeMeets, PrintThenType, TypeThenPrint}
+use Rattle.demands.specs.Files.{LoadMeets, SaveMeets, SaveThenLoad, LoadThenSave}
 use Rattle.demands.specs.Runs.{RunsNeverShow, FreshRunsNeverShow}
 use Rattle.demands.specs.Example.{PremisesMet, HistoriesUnseen, OneMoreCollection}
 use Rattle.demands.proofs.Uses as uses
 use Rattle.demands.proofs.Texts as texts
+use Rattle.demands.proofs.Files as files
 use Rattle.demands.proofs.Histories as histories
 use Rattle.demands.proofs.Stores as stores
 
@@ -37,6 +39,12 @@ print-says κs ws top i out = (tt, λ r v a h. h)
 
 pub type-says : TypeSays
 type-says κs ws top d bs = (tt, λ r v b h. h)
+
+pub load-says : LoadSays
+load-says κs ws bs = (tt, λ r v b h. h)
+
+pub save-says : SaveSays
+save-says κs ws top out = (tt, λ r v a h. h)
 
 -- ---- demands 1 and 2
 
@@ -69,6 +77,18 @@ print-then-type = texts.print-then-type
 
 pub type-then-print : TypeThenPrint
 type-then-print = texts.type-then-print
+
+pub load-meets : LoadMeets
+load-meets = files.load-meets
+
+pub save-meets : SaveMeets
+save-meets = files.save-meets
+
+pub save-then-load : SaveThenLoad
+save-then-load = files.save-then-load
+
+pub load-then-save : LoadThenSave
+load-then-save = files.load-then-save
 
 -- ---- demand 3
 

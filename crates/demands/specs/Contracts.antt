@@ -1,6 +1,6 @@
 -- What a caller knows once a public function is back: what its contract promises, over plain lists. `Asked` and
--- `Learnt` are what Rattle reads off the contract in the lib.rt of `store`, `collect`, `calls`, `text` or `typing`:
--- what a caller must show, and what it may use. Each claim says that nothing is asked, and that this is learnt,
+-- `Learnt` are what Rattle reads off the contract in the lib.rt of `store`, `collect`, `calls`, `text`, `typing` or
+-- `file`: what a caller must show, and what it may use. Each claim says that nothing is asked, and that this is learnt,
 -- whatever the lifetimes κs are. ws and top are lent, r is returned, v are the words that are left. Assumes nothing.
 use mathlib.Core.List.{List}
 use Prim.Native.Nat.{ℕ}
@@ -19,6 +19,9 @@ use Rattle.text.specs.Answers.{Prints}
 use Rattle.text.specs.declared.Printed.{Printed}
 use Rattle.typing.specs.Answers.{Types}
 use Rattle.typing.specs.declared.Typed.{Typed}
+use Rattle.file.specs.Answers.{Loads, Saves}
+use Rattle.file.specs.declared.Loaded.{Loaded}
+use Rattle.file.specs.declared.Saved.{Saved}
 use Rattle.store.proofs.check.Reads as check-contract
 use Rattle.store.proofs.fresh.Reads as fresh-contract
 use Rattle.store.proofs.look.Reads as look-contract
@@ -27,6 +30,8 @@ use Rattle.collect.proofs.collect.Reads as collect-contract
 use Rattle.calls.proofs.run.Reads as run-contract
 use Rattle.text.proofs.print.Reads as print-contract
 use Rattle.typing.proofs.type_in.Reads as type-contract
+use Rattle.file.proofs.load.Reads as load-contract
+use Rattle.file.proofs.save.Reads as save-contract
 
 -- a slice as it is lent, or as it is left
 abbrev pub Slice : Type 0
@@ -93,3 +98,19 @@ TypeSays =
     × ((r : Typed) (v b : Slice)
     → type-contract.Learnt κs (ws, (top, (d, (bs, tt)))) r (v, (top, (d, (b, tt))))
     → Types (now ws) top d (now bs) r (now v))
+
+-- ---- `file::load`, of a file bs, which is only read, into the slice ws
+
+abbrev pub LoadSays : Type 0
+LoadSays =
+    (κs : Lfts 2) (ws bs : Slice) → load-contract.Asked κs (ws, (bs, tt))
+    × ((r : Loaded) (v b : Slice) → load-contract.Learnt κs (ws, (bs, tt)) r (v, (b, tt))
+    → Loads (now bs) (now ws) r (now v))
+
+-- ---- `file::save`, with a space `out`, which is left as a
+
+abbrev pub SaveSays : Type 0
+SaveSays =
+    (κs : Lfts 2) (ws : Slice) (top : ℕ) (out : Slice) → save-contract.Asked κs (ws, (top, (out, tt)))
+    × ((r : Saved) (v a : Slice) → save-contract.Learnt κs (ws, (top, (out, tt))) r (v, (top, (a, tt)))
+    → Saves (now ws) top (now out) r (now v) (now a))

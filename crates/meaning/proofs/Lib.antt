@@ -20,7 +20,8 @@
 --   reader     a text read: what was read is what is written, and what was written is read
 --   twins      what a call does in a store, it does in any store with the same canonical words
 --   typed      a text typed in, by its cases; what it does to expressions, and in twins
---   Worked     the tables of worked stores and of texts are right
+--   file       a store as a file: what is saved is loaded, and what is loaded is saved
+--   Worked     the tables of worked stores, of texts and of files are right
 -- Assumes nothing.
 pub mod Lists
 pub mod Counting
@@ -42,4 +43,5 @@ pub mod text
 pub mod reader
 pub mod twins
 pub mod typed
+pub mod file
 pub mod Worked

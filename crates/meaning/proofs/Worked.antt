@@ -1,8 +1,8 @@
--- The tables of stores and of texts to try are right: one computation each.
+-- The tables of stores, of texts and of files to try are right: one computation each.
 -- Assumes nothing.
 use Rattle.bytes.specs.Decimal.{decimal}
 use Rattle.bytes.specs.Space.{filled}
-use Rattle.meaning.specs.Limits.{firstHeapCell, limit, codeTest, depthLimit, programCells, programBytes}
+use Rattle.meaning.specs.Limits.{firstHeapCell, limit, codeTest, depthLimit, programCells, programBytes, edition}
 use Rattle.meaning.specs.Sound.{at}
 use Rattle.meaning.specs.Meaning.{meaning}
 use Rattle.meaning.specs.Reach.{reached, live}
@@ -24,6 +24,10 @@ use Rattle.meaning.specs.Lay.{newCells}
 use Rattle.meaning.specs.Typed.{typedOf, typeIn}
 use Rattle.meaning.specs.TextRows.{printTest, typeTest, textRowTest, t1, t1Store, nest, t11, t11Store, dead}
 use Rattle.meaning.specs.TextRows.{behind, held, refuses, textRows, TextRowsRight}
+use Rattle.meaning.specs.File.{firstOf, fileWords, fileOf, trailer, cellsIn, image, distanceTest, capacityTest}
+use Rattle.meaning.specs.File.{checkStore, checkAs, checkFile, loadIn, savedAs, saveIn}
+use Rattle.meaning.specs.FileRows.{saveTest, loadTest, fileRowTest, junk, bare, empty, one, full, broken}
+use Rattle.meaning.specs.FileRows.{turnsAway, savingRows, loadingRows, FileRowsRight}
 
 pub rows-right : RowsRight firstHeapCell
 unfolding limit codeTest programCells programBytes at reached live newAddress collectedOf collected
@@ -41,3 +45,10 @@ unfolding limit codeTest depthLimit at meaning bracketTest termTest cellTest len
     collectedOf collected fresh sought lacks roomWords roomTop withRoom carryOut newCells typedOf typeIn typeTest t11
     t11Store dead behind held refuses
 text-rows-right = tt
+
+pub file-rows-right : FileRowsRight edition firstHeapCell
+unfolding limit codeTest at reached live newAddress collectedOf collected bracketTest termTest cellTest lengthTest
+    topTest verdictAt check fresh filled verdictTest p2 p3Heap p3 lone firstOf fileWords fileOf trailer cellsIn image
+    distanceTest capacityTest checkStore checkAs checkFile loadIn savedAs saveIn saveTest loadTest fileRowTest junk bare
+    empty one full broken turnsAway savingRows loadingRows
+file-rows-right = tt

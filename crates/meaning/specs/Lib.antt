@@ -22,6 +22,8 @@
 --   Typed      a register typed in
 --   Rows       the worked stores P1 to P12, as one table
 --   TextRows   the texts to try, as one table
+--   File       a store as a file: its bytes, loading and saving
+--   FileRows   the files to try, as one table
 -- Everything is over the first heap cell F as a parameter. In a signature `ws` are the store's words and `c` is a cell.
 -- Names of laws end in -same, -other (after a cell is put), -length, -kept (unchanged), -mono, -step (one turn),
 -- -unique, -iff.
@@ -49,3 +51,5 @@ pub mod Reader
 pub mod Typed
 pub mod Rows
 pub mod TextRows
+pub mod File
+pub mod FileRows

@@ -1,6 +1,7 @@
 -- The numbers of the store. Each stands here once, and those that the code shares once more in src/lib.rt.
 -- Assumes nothing.
 use mathlib.Core.Bool.{Bool}
+use mathlib.Core.List.{List, [], _∷_}
 use Prim.Native.Nat.{ℕ}
 use lib.Dec.{leb}
 
@@ -30,3 +31,12 @@ programCells = 4096
 
 unfoldable pub programBytes : ℕ
 programBytes = 16388
+
+-- the kinds of file, a row for each edition from 0 on: the first heap cell of its stores, or 0 where there is no such
+-- edition
+abbrev pub kinds : List ℕ
+kinds = 0 ∷ firstHeapCell ∷ []
+
+-- the edition that is written
+abbrev pub edition : ℕ
+edition = 1

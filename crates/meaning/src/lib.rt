@@ -20,3 +20,9 @@ pub const CALL_WORDS: usize = 4096;
 pub const PROGRAM_CELLS: usize = 4096;
 
 pub const PROGRAM_BYTES: usize = 16388;
+
+// The kinds of file, by edition: the first heap cell of its stores, or 0 where there is no such edition.
+pub const KINDS: [usize; 2] = [0, FIRST_HEAP_CELL];
+
+// The edition that is written.
+pub const EDITION: u32 = 1;

@@ -13,10 +13,12 @@ use Rattle.promises.specs.Reading.{ReadsBack, WritesBack, StopsLeftmost,
 use Rattle.promises.specs.Typing.{TypesDo, TypeAnswers}
 use Rattle.promises.specs.Holding.{NewCellsOnly}
 use Rattle.promises.specs.Again.{PrintedTyped, TypedPrinted}
+use Rattle.promises.specs.Files.{FileInWords, OneFile, OneEdition, LoadAnswers, SaveAnswers}
+use Rattle.promises.specs.Swap.{SavedLoads, LoadedIsSound, LoadedSaves}
 use Rattle.promises.specs.Program.{ProgramWrites, ProgramReads}
 use Rattle.promises.specs.ProgramRows.{ProgramRows}
 use Rattle.promises.specs.Unique.{OneAnswer, OneCheck, OneFresh, OneCollected, OneLook, OneCollect, OneBatch}
-use Rattle.promises.specs.Unique.{OneCall, OnePrint, OneType, OneProgram}
+use Rattle.promises.specs.Unique.{OneCall, OnePrint, OneType, OneProgram, OneLoad, OneSave}
 use Rattle.promises.specs.OwnWords.{FaultsInWords, FaultRows, OneFault}
 use Rattle.promises.proofs.table.Tables as tables
 use Rattle.promises.proofs.collecting.Keeping as keeping
@@ -32,6 +34,10 @@ use Rattle.promises.proofs.typing.Typing as typing
 use Rattle.promises.proofs.typing.Answers as typed
 use Rattle.promises.proofs.typing.Again as again
 use Rattle.promises.proofs.typing.Holding as holding
+use Rattle.promises.proofs.files.Words as file-words
+use Rattle.promises.proofs.files.Loading as loading
+use Rattle.promises.proofs.files.Saving as saving
+use Rattle.promises.proofs.files.Swaps as swaps
 use Rattle.promises.proofs.program.Written as program
 use Rattle.promises.proofs.ownwords.Faults as faults
 use Rattle.promises.proofs.unique.Calls as calls-once
@@ -142,6 +148,32 @@ printed-typed = again.printed-typed
 pub typed-printed : TypedPrinted
 typed-printed = again.typed-printed
 
+-- ---- files
+
+pub file-in-words : FileInWords
+file-in-words = file-words.file-in-words
+
+pub one-file : OneFile
+one-file = file-words.one-file
+
+pub one-edition : OneEdition
+one-edition = file-words.one-edition
+
+pub load-answers : LoadAnswers
+load-answers = loading.load-answers
+
+pub save-answers : SaveAnswers
+save-answers = saving.save-answers
+
+pub saved-loads : SavedLoads
+saved-loads = swaps.saved-loads
+
+pub loaded-is-sound : LoadedIsSound
+loaded-is-sound = swaps.loaded-is-sound
+
+pub loaded-saves : LoadedSaves
+loaded-saves = swaps.loaded-saves
+
 -- ---- the program
 
 pub program-writes : ProgramWrites
@@ -193,3 +225,9 @@ one-type = typed.one-type
 
 pub one-program : OneProgram
 one-program = program.one-program
+
+pub one-load : OneLoad
+one-load = loading.one-load
+
+pub one-save : OneSave
+one-save = saving.one-save

@@ -10,6 +10,7 @@ pub mod outright
 pub mod alike
 pub mod printing
 pub mod reading
+pub mod files
 pub mod program
 pub mod unique
 pub mod Final

@@ -13,6 +13,8 @@
 --   Typing      demands 1 and 2: a text typed into a register
 --   Holding     demand 2: what holds the new cells of a typed text
 --   Again       demand 2: printed and typed in again, typed in and printed again
+--   Files       demands 1 and 2: what a file is; a file loaded, a store saved
+--   Swap        demand 2: saved and loaded again, loaded and saved again
 --   Program     what the program writes for what it reads;  ProgramRows  byte for byte
 --   Unique      no claim leaves a second outcome
 -- Everything is over the first heap cell F, which is more than 0.
@@ -31,6 +33,8 @@ pub mod Reading
 pub mod Typing
 pub mod Holding
 pub mod Again
+pub mod Files
+pub mod Swap
 pub mod Program
 pub mod ProgramRows
 pub mod Unique

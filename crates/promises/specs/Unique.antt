@@ -1,19 +1,22 @@
--- One outcome: what the claims say of a check, a fresh store, a collection, a look, a batch, a print, a typed text and
--- the program leaves no second answer, word or byte (SCOPE 8.5). The contracts of the code are equations, of answers by
--- their numbers and values: two outcomes of one equation are equal. Assumes nothing.
+-- One outcome: what the claims say of a check, a fresh store, a collection, a look, a batch, a print, a typed text, a
+-- file loaded, a store saved and the program leaves no second answer, word or byte (SCOPE 8.5). The contracts of the
+-- code are equations, of answers by their numbers and values: two outcomes of one equation are equal. Assumes nothing.
 use mathlib.Core.Path.{_≡_}
 use mathlib.Core.List.{List}
 use Prim.Native.Nat.{ℕ, _<_}
+use lib.ListN.{getD}
 use Rattle.meaning.specs.Sound.{Sound}
 use Rattle.meaning.specs.Collected.{collected}
 use Rattle.meaning.specs.Verdicts.{Verdict, Done}
 use Rattle.meaning.specs.Batch.{Outcome}
 use Rattle.meaning.specs.Text.{Printed}
+use Rattle.meaning.specs.File.{Saved}
 use Rattle.promises.specs.Table.{CheckTable, FreshTable, CollectTable, LookTable, BatchTable}
 use Rattle.promises.specs.Calls.{Called, BatchRun}
 use Rattle.promises.specs.Collecting.{CollectedFrom}
 use Rattle.promises.specs.Printing.{PrintTable}
 use Rattle.promises.specs.Typing.{TypeTable}
+use Rattle.promises.specs.Files.{LoadTable, SaveTable}
 use Rattle.promises.specs.Program.{ProgramTable}
 
 -- an answer of which the promise says its number and values: two answers with the same numbers and values are one
@@ -71,3 +74,14 @@ abbrev pub OneType : Type 0
 OneType =
     (F : ℕ) (ws : List ℕ) (top d : ℕ) (bs : List ℕ) (r q : Done) → TypeTable F ws top d bs r → TypeTable F ws top d bs q
     → r ≡ q
+
+-- a file loaded, with every word of the slice
+abbrev pub OneLoad : Type 0
+OneLoad = (bs ws : List ℕ) (r q : Done) → LoadTable bs ws r → LoadTable bs ws q → r ≡ q
+
+-- a store saved, with every word of the store and every byte of the space, which are bytes
+abbrev pub OneSave : Type 0
+OneSave =
+    (e F : ℕ) → 0 < F → (ws : List ℕ) (top n : ℕ) (r q : Saved)
+    → ((i : ℕ) → getD (r .space) i 0 < 256) → ((i : ℕ) → getD (q .space) i 0 < 256)
+    → SaveTable e F ws top n r → SaveTable e F ws top n q → r ≡ q
