@@ -15,10 +15,10 @@
  * Both ends are inclusive. A register's ends lie between 16 and top, those of a bracket in cell c between
  * 16 and c. Cells from top on are zero. A store that keeps all these rules is sound.
  *
- * What holds for all seven functions:
+ * What holds for all nine functions:
  *
- *   - They take any words, any top, any register and any text, and refuse by number what is not in order. A
- *     store need not be checked before it is lent; each function checks it.
+ *   - They take any words, any top, any register, any text and any file, and refuse by number what is not in order.
+ *     A store need not be checked before it is lent; each function checks it.
  *   - A pointer must lead to as many words as its count says, aligned as uint32_t is; a pointer to bytes, to
  *     as many bytes, which may begin anywhere. It must not be null, not even where the count is 0; it may then
  *     lead anywhere.
@@ -27,23 +27,25 @@
  *     nothing, do no input or output and call nothing back. Calls may run at the same time in different threads
  *     where neither writes what is lent to the other. zelmotar_check, zelmotar_look and zelmotar_print write no
  *     store.
- *   - Wherever the status is 1 to 5, no word is changed. zelmotar_print never changes a word; the bytes lent to
- *     it are all zero wherever its status is not 0. zelmotar_type changes words only where its status is 0 or 16,
- *     and the bytes lent to it never.
+ *   - Wherever the status is 1 to 5, no word is changed. zelmotar_print never changes a word, zelmotar_type changes
+ *     words only where its status is 0 or 16, zelmotar_save only where it is 0 or 22, zelmotar_load only where it is 0.
+ *     The bytes lent to zelmotar_print and zelmotar_save are all zero wherever the status is not 0, and those lent to
+ *     zelmotar_type and zelmotar_load are never changed.
  *   - A collection uses no memory that grows with the store, neither beside it nor on the stack.
  *   - The archive asks the linker for memset and nothing else: the compiler puts it in for loops that write
  *     zeros. Where there is no C library, the caller brings one.
  *
  * What they cost:
  *
- *   - Time. Each first goes over all n words: zelmotar_fresh writes them, the others check them. So one batch of
- *     many calls costs less than many batches of one. What comes on top is said with each function. None takes
- *     longer because cells are shared, but for zelmotar_print, which writes a shared cell wherever it is held;
- *     its time keeps within what the text space allows.
- *   - Stack. Where 64 brackets are open zelmotar_print uses under 13,312 bytes and zelmotar_type under 11,264; for
- *     each that is not, 192 and 144 less. zelmotar_run uses under 512, zelmotar_collect under 192, the others under
- *     128, memset's own included: measured on x86-64 and 64-bit Arm by painting the stack (tests/c/stack.c). It does
- *     not grow with the store or with the length of a text.
+ *   - Time. Each first goes over all n words: zelmotar_fresh writes them, the others check them, but for zelmotar_load,
+ *     which checks the file and writes them last. So one batch of many calls costs less than many batches of one. What
+ *     comes on top is said with each function. None takes longer because cells are shared, but for zelmotar_print,
+ *     which writes a shared cell wherever it is held; its time keeps within what the text space allows.
+ *   - Stack. zelmotar_load uses under 17,408 bytes, most of them for a table of 4,096 words. Where 64 brackets are open
+ *     zelmotar_print uses under 13,312 bytes and zelmotar_type under 11,264; for each that is not, 192 and 144 less.
+ *     zelmotar_run uses under 512, zelmotar_save under 256, zelmotar_collect under 192, the others under 128, memset's
+ *     own included: measured on x86-64 and 64-bit Arm by painting the stack (tests/c/stack.c). It does not grow with
+ *     the store, nor with the length of a text or of a file.
  */
 #ifndef ZELMOTAR_H
 #define ZELMOTAR_H
@@ -80,6 +82,8 @@ extern "C" {
 #define ZELMOTAR_MAX_CALL_WORDS 4096  /* words of the longest call list, 1,024 calls */
 #define ZELMOTAR_MAX_CODE 0x0fffffffu /* the largest code of a symbol, 268,435,455 */
 #define ZELMOTAR_MAX_DEPTH 64         /* the most brackets that may be open at one place of a text */
+#define ZELMOTAR_EDITION 1            /* the edition of a file, its last word */
+#define ZELMOTAR_TRAILER_BYTES 16     /* bytes of a file's trailer; a file of fewer is too short */
 
 /* A cell's second word. Bits 30 to 28 are for collections, and zero between calls. */
 #define ZELMOTAR_BRACKET 0x80000000u     /* bit 31: a bracket or register; nothing else is set if it is empty */
@@ -105,6 +109,22 @@ extern "C" {
 #define ZELMOTAR_SYMBOL_CELL(code) (uint32_t)(code), 0u
 #define ZELMOTAR_EMPTY_CELL 0u, ZELMOTAR_BRACKET
 #define ZELMOTAR_BRACKET_CELL(l, r) (uint32_t)(l), (ZELMOTAR_BRACKET | (uint32_t)(r))
+
+/* A file holds a collected store, as words of four bytes with the lowest first: the heap cells from cell 16 on, two
+ * words each; the sixteen registers; and a trailer of four words. With m heap cells these are
+ *
+ *   distance      the bytes from the end of the file back to the first heap cell, 8 * (m + 16) + 16
+ *   heap cells    m, which is top less 16
+ *   capacity      the number of cells that the store has room for, registers included
+ *   edition       ZELMOTAR_EDITION
+ *
+ * It is read from its end, so bytes before the first heap cell do not count, and there must be none behind the trailer.
+ * There is no checksum: a file whose bytes were changed is refused where its store is then not sound or not collected,
+ * and else is that of another store. */
+
+/* The bytes of the file of a collected store with this top. That of any other store has no more, as collecting never
+ * raises top: so many bytes of space are always enough. */
+#define ZELMOTAR_FILE_BYTES(top) (8 * (size_t)(top) + ZELMOTAR_TRAILER_BYTES)
 
 /* What a function answers. Status and value are named with each function; top is the end of the occupied
  * cells afterwards, in cells, and goes into the next call on the same store. */
@@ -134,6 +154,14 @@ typedef struct {
     size_t value;
     size_t top;
 } zelmotar_typed;
+
+/* What saving a store answers: status, value and top as in zelmotar_reply, and how many bytes the file has. */
+typedef struct {
+    uint32_t status;
+    uint32_t value;
+    size_t top;
+    size_t length;
+} zelmotar_saved;
 
 /* Status of a whole request. The first that applies is given. */
 enum {
@@ -168,8 +196,23 @@ enum {
 enum {
     ZELMOTAR_NO_REGISTER = 20, /* the register is over 15; a store that is not sound is told first */
     ZELMOTAR_TOO_DEEP = 21,    /* the next byte would open a 65th bracket */
-    ZELMOTAR_SHORT_SPACE = 22, /* the next byte does not fit into the text space */
+    ZELMOTAR_SHORT_SPACE = 22, /* the next byte does not fit into the text space, or the file not into its space */
     ZELMOTAR_NOT_TEXT = 23     /* no text goes on with this byte, or the text ends too soon, at text_n */
+};
+
+/* Status of a store saved: the first that applies of ZELMOTAR_BAD_LENGTH to ZELMOTAR_DAMAGED, with its value;
+ * ZELMOTAR_SHORT_SPACE with value 0; and ZELMOTAR_DONE with value 0.
+ *
+ * Status of a file loaded: the first that applies of ZELMOTAR_SHORT_FILE to ZELMOTAR_BAD_CAPACITY, with value 0;
+ * ZELMOTAR_WRONG_SLICE with value 0; ZELMOTAR_DAMAGED with the first damaged cell of the store in the file;
+ * ZELMOTAR_NOT_COLLECTED with value 0; and ZELMOTAR_DONE with value 0. */
+enum {
+    ZELMOTAR_SHORT_FILE = 30,    /* under 16 bytes, and so without a trailer */
+    ZELMOTAR_BAD_EDITION = 31,   /* the edition is not 1 */
+    ZELMOTAR_BAD_DISTANCE = 32,  /* the distance is not 8 * (m + 16) + 16, or over file_n */
+    ZELMOTAR_BAD_CAPACITY = 33,  /* the capacity is under m + 16 or over 4,096 */
+    ZELMOTAR_NOT_COLLECTED = 34, /* no register reaches some heap cell */
+    ZELMOTAR_WRONG_SLICE = 35    /* n is not twice the capacity */
 };
 
 /* Operations. A call is four words: operation, d, a, b. Words that are not named here must be 0. Registers
@@ -213,8 +256,28 @@ static inline const char *zelmotar_status_text(uint32_t status)
     case ZELMOTAR_TOO_DEEP: return "brackets are nested too deep";
     case ZELMOTAR_SHORT_SPACE: return "the space is too short";
     case ZELMOTAR_NOT_TEXT: return "no text of an expression";
+    case ZELMOTAR_SHORT_FILE: return "the file is too short";
+    case ZELMOTAR_BAD_EDITION: return "the file is of no known edition";
+    case ZELMOTAR_BAD_DISTANCE: return "the file's distance is wrong";
+    case ZELMOTAR_BAD_CAPACITY: return "the file's capacity is not allowed";
+    case ZELMOTAR_NOT_COLLECTED: return "the file's store is not collected";
+    case ZELMOTAR_WRONG_SLICE: return "the words lent are not twice the file's capacity";
     default: return "no such status";
     }
+}
+
+/* How many words have to be lent to zelmotar_load for a file: twice the capacity in its trailer, and so at most
+ * ZELMOTAR_MAX_WORDS. 0 where the file has no trailer or a capacity that is too large; zelmotar_load refuses it then,
+ * whatever is lent. Nothing else of the file is looked at. */
+static inline size_t zelmotar_file_words(const uint8_t *file, size_t file_n)
+{
+    const uint8_t *word;
+    size_t cells;
+    if (file_n < ZELMOTAR_TRAILER_BYTES)
+        return 0;
+    word = file + (file_n - 8);
+    cells = word[0] + 256 * (size_t)word[1];
+    return word[2] > 0 || word[3] > 0 || 2 * cells > ZELMOTAR_MAX_WORDS ? 0 : 2 * cells;
 }
 
 /* Checks a store.
@@ -298,6 +361,31 @@ ZELMOTAR_USE_RESULT zelmotar_text zelmotar_print(const uint32_t *words, size_t n
  * top comes back as it came. */
 ZELMOTAR_USE_RESULT zelmotar_typed zelmotar_type(uint32_t *words, size_t n, size_t top, size_t reg, const uint8_t *text,
                                                   size_t text_n);
+
+/* Saves a store: collects it as zelmotar_collect does, and writes its file into a space of file_n bytes. Loaded again
+ * it is the collected store, word for word and with its top.
+ *
+ * Reads and writes the n words. Writes all file_n bytes: the file and zeros after it, or zeros alone. Of the space only
+ * the first length bytes are to be kept, since a file is read from its end. ZELMOTAR_FILE_BYTES(top) are always enough.
+ * After the check and the collection it takes time with file_n.
+ * Answers ZELMOTAR_DONE with value 0, the new top and the length of the file, which is ZELMOTAR_FILE_BYTES of the new
+ * top. Else the length is 0 and every byte of the space is 0, and the status is, in this order: ZELMOTAR_BAD_LENGTH,
+ * ZELMOTAR_BAD_TOP or ZELMOTAR_DAMAGED as zelmotar_check has it, with its value, and then no word is changed and top
+ * comes back as it came; ZELMOTAR_SHORT_SPACE with value 0, and then the store is left collected, with its top. */
+ZELMOTAR_USE_RESULT zelmotar_saved zelmotar_save(uint32_t *words, size_t n, size_t top, uint8_t *file, size_t file_n);
+
+/* Loads a file of file_n bytes: the words become the store that it holds, whatever they were before. Saved again it has
+ * the same bytes from the first heap cell on.
+ *
+ * Reads the trailer, and where that is in order the bytes from the first heap cell on. Writes all n words, or none; the
+ * file is not written, and is judged as a whole before the first word is. n must be twice the file's capacity, as
+ * zelmotar_file_words has it, so that the store has the room that it was saved with.
+ * It takes time with the cells in the file, whatever they share, and with n.
+ * Answers ZELMOTAR_DONE with value 0 and 16 more than the number of heap cells as top. Else top is 0 and no word is
+ * changed, and the status is, in this order: ZELMOTAR_SHORT_FILE, ZELMOTAR_BAD_EDITION, ZELMOTAR_BAD_DISTANCE,
+ * ZELMOTAR_BAD_CAPACITY or ZELMOTAR_WRONG_SLICE with value 0; ZELMOTAR_DAMAGED where a cell of the store in the file
+ * breaks its rule, with the lowest such cell as value; ZELMOTAR_NOT_COLLECTED with value 0. */
+ZELMOTAR_USE_RESULT zelmotar_reply zelmotar_load(uint32_t *words, size_t n, const uint8_t *file, size_t file_n);
 
 #ifdef __cplusplus
 }

@@ -1,8 +1,10 @@
-/* cases.h: random stores, call lists, answer and text spaces and texts, good and bad, for the tests at the border.
+/* cases.h: random stores, call lists, spaces for answers, texts and files, texts and files, good and bad, for the tests
+ * at the border.
  *
  * A store is made by the library itself, from a fresh one and random calls, then damaged in half of the cases.
  * The numbers are the same in every run. What the answers should be is not known here: the Rust tests hold them
- * against a model. What a text should be is in texts.h, and what comes of one that is typed in typed.h. */
+ * against a model. What a text should be is in texts.h, what comes of one that is typed in typed.h, and what a file
+ * should be and what comes of one in files.h. */
 #ifndef CASES_H
 #define CASES_H
 
@@ -10,6 +12,7 @@
 #include <string.h>
 
 #include "expect.h"
+#include "files.h"
 #include "zelmotar.h"
 
 #define MOST_STORE (ZELMOTAR_MAX_WORDS + 2)
@@ -17,16 +20,20 @@
 #define MOST_ANSWERS (MOST_CALLS / 2 + 8)
 #define MOST_TEXT 6000                  /* more than a page */
 #define MOST_TYPED (2 * MOST_TEXT + 12) /* with a code behind it, and every bracket closed */
+#define MOST_BEFORE 64                  /* bytes before the first heap cell of a file */
+#define MOST_FILE (LONGEST_FILE + MOST_BEFORE)
 
-/* What goes into the seven functions. */
+/* What goes into the nine functions. A store is saved to space_n bytes; a file is loaded into loaded_n words. */
 struct test_case {
     uint32_t words[MOST_STORE], calls[MOST_CALLS];
-    uint8_t typed[MOST_TYPED];
-    size_t words_n, calls_n, answers_n, text_n, typed_n, top, reg;
+    uint8_t typed[MOST_TYPED], file[MOST_FILE];
+    size_t words_n, calls_n, answers_n, text_n, typed_n, top, reg, space_n, file_n, loaded_n;
 };
 
-/* How often each status came back, of whole requests, of calls and of prints; and of what was typed in. */
+/* How often each status came back, of whole requests, of calls and of prints; of what was typed in; of what was saved;
+ * and of what was loaded. */
 static unsigned met[ZELMOTAR_SHORT_SPACE + 1], typed_met[ZELMOTAR_NOT_TEXT + 1];
+static unsigned saved_met[ZELMOTAR_SHORT_SPACE + 1], loaded_met[ZELMOTAR_WRONG_SLICE + 1];
 
 static inline uint32_t random_word(void)
 {
@@ -214,10 +221,82 @@ static inline void spoil_text(struct test_case *c)
         c->typed_n = at;
 }
 
+/* The file of the case's store, which is sound; in a third of the cases as it is, with its dead cells. What stands
+ * before the first heap cell, if anything does, is of no meaning. The space to save the store to is as long as its file
+ * as a rule, or about that. */
+static inline void make_file(struct test_case *c)
+{
+    static uint32_t words[MOST_STORE];
+    size_t before = below(3) ? 0 : below(MOST_BEFORE + 1), i;
+    zelmotar_reply answer;
+    for (i = 0; i < before; i++)
+        c->file[i] = (uint8_t)below(256);
+    memcpy(words, c->words, sizeof words);
+    answer = zelmotar_collect(words, c->words_n, c->top);
+    EXPECT(answer.status == ZELMOTAR_DONE);
+    c->file_n = before;
+    c->file_n += below(3) ? put_file(c->file + before, words, c->words_n, answer.top)
+                          : put_file(c->file + before, c->words, c->words_n, c->top);
+    c->loaded_n = c->words_n;
+    c->space_n = 8 * answer.top + 16;
+    if (below(2))
+        c->space_n = below(4) ? c->space_n - 4 + below(16) : below(MOST_FILE + 1);
+}
+
+/* The largest store without a free cell, brackets around one another in register 0, and its file, which is the longest
+ * there is, with as much space. */
+static inline void make_longest(struct test_case *c)
+{
+    size_t left = ZELMOTAR_MAX_WORDS / 2 - ZELMOTAR_REGISTERS;
+    zelmotar_reply answer;
+    memset(c, 0, sizeof *c);
+    c->words_n = c->loaded_n = ZELMOTAR_MAX_WORDS;
+    answer = zelmotar_fresh(c->words, c->words_n);
+    EXPECT(answer.status == ZELMOTAR_DONE);
+    c->top = answer.top;
+    for (; left >= 100; left -= 100)
+        nest(c, 0, 100);
+    nest(c, 0, left);
+    c->file_n = c->space_n = put_file(c->file, c->words, c->words_n, c->top);
+    EXPECT(c->top == ZELMOTAR_MAX_WORDS / 2 && c->file_n == LONGEST_FILE);
+}
+
+/* One word of a file's trailer set to another. 2^29 more heap cells make a distance that is the same in 32 bits. */
+static inline void spoil_trailer(struct test_case *c)
+{
+    const size_t place = below(4);
+    uint8_t *at = c->file + (c->file_n - 16 + 4 * place);
+    const uint32_t old = word_at(at), cells = word_at(c->file + (c->file_n - 12));
+    const uint32_t others[8] = {old - 1, old + 1, old + 8, old ^ 0x20000000u, old ^ 0x80000000u, 0, cells + 15, 4097};
+    put_word(at, others[below(8)]);
+}
+
+/* A file with one bit or one word of its trailer changed, or cut off at either end; or words lent for it that are too
+ * few or too many. */
+static inline void spoil_file(struct test_case *c)
+{
+    const size_t lengths[6] = {0, c->loaded_n - 2, c->loaded_n - 1, c->loaded_n + 1, c->loaded_n + 2, MOST_STORE};
+    size_t at;
+    switch (below(6)) {
+    case 0: c->file_n = below(3) ? below(c->file_n + 1) : below(20); break;
+    case 1:
+        at = below(c->file_n + 1);
+        c->file_n -= at;
+        memmove(c->file, c->file + at, c->file_n);
+        break;
+    case 2: spoil_trailer(c); break;
+    case 3: c->loaded_n = lengths[below(6)]; break;
+    default: c->file[below(c->file_n)] ^= (uint8_t)(1u << below(8)); break;
+    }
+}
+
 static inline void make_case(struct test_case *c)
 {
     memset(c, 0, sizeof *c);
     make_store(c);
+    make_file(c);
+    if (below(2))
+        spoil_file(c);
     if (below(2))
         damage(c);
     make_lists(c);
@@ -236,7 +315,7 @@ static inline void count(zelmotar_reply answer, const uint32_t *answers, size_t 
         met[answers[2 * i]]++;
 }
 
-/* Every status has been met, and no number that is none; so have those of typing. */
+/* Every status has been met, and no number that is none; so have those of typing, of saving and of loading. */
 static inline void expect_all_met(void)
 {
     unsigned status;
@@ -248,6 +327,11 @@ static inline void expect_all_met(void)
         EXPECT((typed_met[status] > 0) == (status <= ZELMOTAR_DAMAGED || status == ZELMOTAR_BAD_CODE ||
                                            status == ZELMOTAR_NO_ROOM || status == ZELMOTAR_NO_REGISTER ||
                                            status == ZELMOTAR_TOO_DEEP || status == ZELMOTAR_NOT_TEXT));
+    for (status = 0; status <= ZELMOTAR_SHORT_SPACE; status++)
+        EXPECT((saved_met[status] > 0) == (status <= ZELMOTAR_DAMAGED || status == ZELMOTAR_SHORT_SPACE));
+    for (status = 0; status <= ZELMOTAR_WRONG_SLICE; status++)
+        EXPECT((loaded_met[status] > 0) == (status == ZELMOTAR_DONE || status == ZELMOTAR_DAMAGED ||
+                                            status >= ZELMOTAR_SHORT_FILE));
 }
 
 #endif

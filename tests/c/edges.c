@@ -3,10 +3,11 @@
  * usage: edges COUNT
  *
  * Each list stands once right after such a page and once right before one, and so does each list of a random
- * case, for all seven functions; a list that a function only reads stands in pages that cannot be written. All
- * have to answer and to leave what they do in plain memory. The rows of texts of SCOPE 7.1 are printed and typed there
- * too, every text of up to two bytes is typed, and calls are run for which room is short. That the pages do fault is
- * tried first, in processes of their own. For Linux and its like. */
+ * case, for all nine functions; a list that a function only reads stands in pages that cannot be written. All
+ * have to answer and to leave what they do in plain memory. The rows of texts and of files of SCOPE 7.1 are tried there
+ * too, every text of up to two bytes is typed, a file is cut at each byte, has each bit changed and stands at every
+ * alignment, and calls are run for which room is short. That the pages do fault is tried first, in processes of their
+ * own. For Linux and its like. */
 #define _DEFAULT_SOURCE
 #include <signal.h>
 #include <sys/mman.h>
@@ -18,8 +19,10 @@
 #include "texts.h"
 #include "typed.h"
 
+#define MOST_LIST (MOST_FILE / sizeof(uint32_t) + 1) /* words of the longest list, which is a file */
+
 enum place { LOW, HIGH }; /* right after the lower page that faults, right before the upper one */
-enum { STORE, CALLS, ANSWERS, TEXT, LISTS };
+enum { STORE, CALLS, ANSWERS, TEXT, LISTS }; /* the bytes of a file stand where those of a text do */
 
 /* The bytes of one item of each list. */
 static const size_t item[LISTS] = {sizeof(uint32_t), sizeof(uint32_t), sizeof(uint32_t), 1};
@@ -29,7 +32,7 @@ static char *pages[LISTS];
 static size_t bytes, page;
 
 static struct test_case c;
-static uint32_t plain[LISTS][MOST_STORE]; /* the same lists in plain memory */
+static uint32_t plain[LISTS][MOST_LIST]; /* the same lists in plain memory */
 static enum place place;
 static const char *doing = "nothing yet"; /* the function that is called, for the message on a fault */
 
@@ -37,7 +40,7 @@ static void make_pages(void)
 {
     size_t i;
     page = (size_t)sysconf(_SC_PAGESIZE);
-    bytes = (MOST_STORE * sizeof(uint32_t) + page - 1) / page * page;
+    bytes = (MOST_LIST * sizeof(uint32_t) + page - 1) / page * page;
     for (i = 0; i < LISTS; i++) {
         char *all = mmap(NULL, bytes + 2 * page, PROT_NONE, MAP_PRIVATE | MAP_ANONYMOUS, -1, 0);
         if (all == MAP_FAILED)
@@ -79,16 +82,11 @@ static void expect_same(size_t i, size_t n)
     EXPECT(other == 0);
 }
 
-static int same(zelmotar_reply one, zelmotar_reply other)
-{
-    return one.status == other.status && one.value == other.value && one.top == other.top;
-}
-
 static void edges_check(void)
 {
     const uint32_t *words = lend(STORE, c.words, c.words_n, PROT_READ);
     doing = "zelmotar_check";
-    EXPECT(same(zelmotar_check(words, c.words_n, c.top), zelmotar_check(plain[STORE], c.words_n, c.top)));
+    EXPECT(same_reply(zelmotar_check(words, c.words_n, c.top), zelmotar_check(plain[STORE], c.words_n, c.top)));
     expect_same(STORE, c.words_n);
 }
 
@@ -107,7 +105,7 @@ static void edges_fresh(void)
 {
     uint32_t *words = lend(STORE, c.words, c.words_n, PROT_READ | PROT_WRITE);
     doing = "zelmotar_fresh";
-    EXPECT(same(zelmotar_fresh(words, c.words_n), zelmotar_fresh(plain[STORE], c.words_n)));
+    EXPECT(same_reply(zelmotar_fresh(words, c.words_n), zelmotar_fresh(plain[STORE], c.words_n)));
     expect_same(STORE, c.words_n);
 }
 
@@ -115,7 +113,7 @@ static void edges_collect(void)
 {
     uint32_t *words = lend(STORE, c.words, c.words_n, PROT_READ | PROT_WRITE);
     doing = "zelmotar_collect";
-    EXPECT(same(zelmotar_collect(words, c.words_n, c.top), zelmotar_collect(plain[STORE], c.words_n, c.top)));
+    EXPECT(same_reply(zelmotar_collect(words, c.words_n, c.top), zelmotar_collect(plain[STORE], c.words_n, c.top)));
     expect_same(STORE, c.words_n);
 }
 
@@ -128,7 +126,7 @@ static void edges_run(void)
     doing = "zelmotar_run";
     here = zelmotar_run(words, c.words_n, c.top, calls, c.calls_n, answers, c.answers_n);
     there = zelmotar_run(plain[STORE], c.words_n, c.top, plain[CALLS], c.calls_n, plain[ANSWERS], c.answers_n);
-    EXPECT(same(here, there));
+    EXPECT(same_reply(here, there));
     count(here, answers, c.calls_n);
     expect_same(STORE, c.words_n), expect_same(CALLS, c.calls_n), expect_same(ANSWERS, c.answers_n);
 }
@@ -157,6 +155,30 @@ static void edges_type(void)
     expect_same(STORE, c.words_n), expect_same(TEXT, c.typed_n);
 }
 
+static void edges_save(void)
+{
+    uint32_t *words = lend(STORE, c.words, c.words_n, PROT_READ | PROT_WRITE);
+    uint8_t *space = lend(TEXT, NULL, c.space_n, PROT_READ | PROT_WRITE);
+    zelmotar_saved here;
+    doing = "zelmotar_save";
+    here = zelmotar_save(words, c.words_n, c.top, space, c.space_n);
+    EXPECT(same_saved(here, expected_save(plain[STORE], c.words_n, c.top, (uint8_t *)plain[TEXT], c.space_n)));
+    saved_met[here.status]++;
+    expect_same(STORE, c.words_n), expect_same(TEXT, c.space_n);
+}
+
+static void edges_load(void)
+{
+    uint32_t *words = lend(STORE, NULL, c.loaded_n, PROT_READ | PROT_WRITE);
+    const uint8_t *file = lend(TEXT, c.file, c.file_n, PROT_READ);
+    zelmotar_reply here;
+    doing = "zelmotar_load";
+    here = zelmotar_load(words, c.loaded_n, file, c.file_n);
+    EXPECT(same_reply(here, expected_load(plain[STORE], c.loaded_n, c.file, c.file_n)));
+    loaded_met[here.status]++;
+    expect_same(STORE, c.loaded_n), expect_same(TEXT, c.file_n);
+}
+
 static void edges(void)
 {
     for (place = LOW; place <= HIGH; place++) {
@@ -167,6 +189,8 @@ static void edges(void)
         edges_run();
         edges_print();
         edges_type();
+        edges_save();
+        edges_load();
     }
 }
 
@@ -421,7 +445,7 @@ static void runs(const struct test_case *before, uint32_t operation, uint32_t d,
         const uint32_t *calls = lend(CALLS, call, 4, PROT_READ);
         uint32_t *answers = lend(ANSWERS, NULL, 2, PROT_READ | PROT_WRITE);
         doing = "zelmotar_run";
-        EXPECT(same(zelmotar_run(words, before->words_n, before->top, calls, 4, answers, 2), expected));
+        EXPECT(same_reply(zelmotar_run(words, before->words_n, before->top, calls, 4, answers, 2), expected));
         memcpy(plain[STORE], c.words, c.words_n * sizeof *c.words);
         plain[ANSWERS][0] = status, plain[ANSWERS][1] = 0;
         expect_same(STORE, c.words_n), expect_same(CALLS, 4), expect_same(ANSWERS, 2);
@@ -483,6 +507,200 @@ static void rows_of_joins(void)
     start_with(20, 0, 17, 18), hold(2, 19, 19), put(9, 0), put(1, 0), put(2, 0), put(3, 0), full = c;
     start_with(20, 0, 16, 17), hold(2, 18, 18), put(1, 0), put(2, 0), put(3, 0); /* 9 is dead and goes, 3 is kept */
     runs(&full, ZELMOTAR_JOIN, 2, 0, 0, 16);
+}
+
+/* The case's file: words, so many empty registers, and a trailer, each behind what there is. */
+static void add_word(uint32_t word) { put_word(c.file + c.file_n, word), c.file_n += 4; }
+
+static void add_cell(uint32_t first, uint32_t second) { add_word(first), add_word(second); }
+
+static void add_empty(size_t count)
+{
+    for (; count > 0; count--)
+        add_cell(ZELMOTAR_EMPTY_CELL);
+}
+
+static void add_trailer(uint32_t distance, uint32_t cells, uint32_t capacity, uint32_t edition)
+{
+    add_word(distance), add_word(cells), add_word(capacity), add_word(edition);
+}
+
+/* A file without heap cells whose trailer says what it says. */
+static void file_of_none(uint32_t distance, uint32_t cells, uint32_t capacity, uint32_t edition)
+{
+    c.file_n = 0, add_empty(16), add_trailer(distance, cells, capacity, edition);
+}
+
+/* A file with one heap cell, and with register 0 in these words. */
+static void file_of_one(uint32_t first, uint32_t second, uint32_t l, uint32_t r, uint32_t capacity)
+{
+    c.file_n = 0, add_cell(first, second), add_cell(l, r), add_empty(15), add_trailer(152, 1, capacity, 1);
+}
+
+/* So many bytes before the case's file. */
+static void precede(size_t count)
+{
+    memmove(c.file + count, c.file, c.file_n);
+    memset(c.file, 7, count);
+    c.file_n += count;
+}
+
+/* P2 as it is lent, then as the case's store, collected, and as its file. */
+static struct test_case p2;
+static void collected_p2(void)
+{
+    start_with(24, 0, 21, 22), put(70, 0), put(65, 0), put(66, 0), put(67, 0), put(68, 0);
+    put(ZELMOTAR_BRACKET_CELL(18, 20)), put(ZELMOTAR_BRACKET_CELL(17, 19)), p2 = c;
+    start_with(24, 0, 20, 21), put(65, 0), put(66, 0), put(67, 0), put(68, 0);
+    put(ZELMOTAR_BRACKET_CELL(17, 19)), put(ZELMOTAR_BRACKET_CELL(16, 18));
+    c.file_n = 0, add_cell(65, 0), add_cell(66, 0), add_cell(67, 0), add_cell(68, 0);
+    add_cell(ZELMOTAR_BRACKET_CELL(17, 19)), add_cell(ZELMOTAR_BRACKET_CELL(16, 18));
+    add_cell(ZELMOTAR_BRACKET_CELL(20, 21)), add_empty(15), add_trailer(192, 6, 24, 1);
+}
+
+/* A store saved to so many bytes: the answer that is expected, with the case's `top`; the case's store as the one that
+ * is left; and its file and zeros behind it, or zeros alone. */
+static void saves(const struct test_case *before, size_t space_n, uint32_t status, uint32_t value)
+{
+    const zelmotar_saved expected = {status, value, c.top, status == ZELMOTAR_DONE ? c.file_n : 0};
+    EXPECT(before->words_n == c.words_n);
+    for (place = LOW; place <= HIGH; place++) {
+        uint32_t *words = lend(STORE, before->words, before->words_n, PROT_READ | PROT_WRITE);
+        uint8_t *space = lend(TEXT, NULL, space_n, PROT_READ | PROT_WRITE);
+        doing = "zelmotar_save";
+        EXPECT(same_saved(zelmotar_save(words, before->words_n, before->top, space, space_n), expected));
+        memcpy(plain[STORE], c.words, c.words_n * sizeof *c.words);
+        memset(plain[TEXT], 0, space_n);
+        memcpy(plain[TEXT], c.file, expected.length);
+        expect_same(STORE, c.words_n), expect_same(TEXT, space_n);
+    }
+}
+
+/* The case's file loaded into so many words, with so many bytes between it and the page that faults: the answer that is
+ * expected; the case's store, or every word as it was lent. */
+static void loads_beside(size_t between, size_t loaded_n, uint32_t status, uint32_t value)
+{
+    const zelmotar_reply expected = {status, value, status == ZELMOTAR_DONE ? c.top : 0};
+    static uint8_t lent[MOST_FILE];
+    for (place = LOW; place <= HIGH; place++) {
+        size_t shift = place == LOW ? between : 0;
+        uint32_t *words = lend(STORE, NULL, loaded_n, PROT_READ | PROT_WRITE);
+        const uint8_t *file;
+        memcpy(lent + shift, c.file, c.file_n);
+        file = (const uint8_t *)lend(TEXT, lent, c.file_n + between, PROT_READ) + shift;
+        doing = "zelmotar_load";
+        EXPECT(same_reply(zelmotar_load(words, loaded_n, file, c.file_n), expected));
+        if (status == ZELMOTAR_DONE)
+            memcpy(plain[STORE], c.words, loaded_n * sizeof *c.words);
+        expect_same(STORE, loaded_n), expect_same(TEXT, c.file_n + between);
+    }
+}
+
+static void loads(size_t loaded_n, uint32_t status, uint32_t value) { loads_beside(0, loaded_n, status, value); }
+
+static void rows_of_saving(void)
+{
+    start_with(20, 0, 0, 0), file_of_none(144, 0, 20, 1); /* S1 */
+    saves(fresh_one(20), 144, 0, 0), saves(fresh_one(20), 160, 0, 0), saves(fresh_one(20), 143, 22, 0);
+    collected_p2(); /* S2 to S4 */
+    saves(&p2, 192, 0, 0), saves(&p2, 195, 0, 0), saves(&p2, 191, 22, 0), saves(&p2, 0, 22, 0);
+    saves(&c, 192, 0, 0), saves(&c, 191, 22, 0);
+    c = p2, ZELMOTAR_LEFT(c.words, 21) = 23; /* S5 to S7: 1, 2 and 3, each before the next, and all before 22 */
+    saves(&c, 5, 3, 21), saves(&c, 192, 3, 21), saves(&c, 0, 3, 21);
+    c.top = 25, saves(&c, 5, 2, 0);
+    c.top = 0, saves(&c, 192, 2, 0);
+    c.words_n = 3, saves(&c, 5, 1, 0), saves(&c, 0, 1, 0);
+}
+
+static void rows_of_loading(void)
+{
+    start_with(20, 0, 0, 0), file_of_none(144, 0, 20, 1); /* L1 */
+    loads(40, 0, 0);
+    collected_p2(), loads(48, 0, 0);
+    precede(5), loads(48, 0, 0); /* L2 */
+    start_with(17, 0, 16, 16), put(65, 0), file_of_one(65, 0, 16, ZELMOTAR_BRACKET + 16, 17); /* L12 */
+    loads(34, 0, 0);
+}
+
+/* Rows of files that are refused for their trailer, whatever is lent, or for the number of words lent. */
+static void rows_of_trailers(void)
+{
+    static const size_t lent[5] = {40, 0, 32, 38, 8192};
+    size_t i;
+    for (i = 0; i < 5; i++) {
+        c.file_n = 0, loads(lent[i], 30, 0); /* L3 */
+        file_of_none(144, 0, 20, 1), c.file_n = 15, loads(lent[i], 30, 0);
+        c.file_n = 0, add_trailer(7, 7, 7, 7), loads(lent[i], 31, 0); /* L4 */
+        file_of_none(144, 0, 20, 2), loads(lent[i], 31, 0);
+        file_of_none(143, 0, 20, 0), loads(lent[i], 31, 0);
+        file_of_none(144, 0, 20, 257), loads(lent[i], 31, 0);
+        file_of_none(143, 0, 20, 1), loads(lent[i], 32, 0); /* L5 */
+        file_of_none(145, 0, 20, 1), loads(lent[i], 32, 0);
+        file_of_none(152, 1, 20, 1), loads(lent[i], 32, 0);
+        file_of_none(145, 0, 20, 1), precede(8), loads(lent[i], 32, 0);
+        c.file_n = 0, add_trailer(144, 0, 20, 1), loads(lent[i], 32, 0);
+        file_of_none(144, 0x20000000u, 20, 1), loads(lent[i], 32, 0); /* L6 */
+        file_of_none(0xfffffff8u, 0x20000000u - 19, 20, 1), loads(lent[i], 32, 0);
+        file_of_none(144, 0xffffffffu, 20, 1), loads(lent[i], 32, 0);
+        file_of_none(143, 0, 15, 1), loads(lent[i], 32, 0);
+        file_of_none(144, 0, 15, 1), loads(lent[i], 33, 0); /* L7 */
+        file_of_none(144, 0, 4097, 1), loads(lent[i], 33, 0);
+        file_of_none(144, 0, 0x80000014u, 1), loads(lent[i], 33, 0);
+        file_of_one(65, 0, 16, ZELMOTAR_BRACKET + 16, 16), loads(lent[i], 33, 0);
+        file_of_none(144, 0, 21, 1), loads(lent[i], 35, 0); /* L8 */
+    }
+    file_of_none(144, 0, 20, 1), loads(42, 35, 0), loads(39, 35, 0), loads(41, 35, 0), loads(20, 35, 0);
+    file_of_one(65, 1, 16, ZELMOTAR_BRACKET + 16, 17), loads(32, 35, 0);
+}
+
+/* Rows of files that are refused for a cell. */
+static void rows_of_cells(void)
+{
+    file_of_one(65, 1, 16, ZELMOTAR_BRACKET + 16, 17), loads(34, 3, 16); /* L9 */
+    file_of_one(65, 0, 17, ZELMOTAR_BRACKET + 17, 17), loads(34, 3, 0);
+    file_of_one(65, 1, 16, 16, 17), loads(34, 3, 0);
+    file_of_one(65, 1, ZELMOTAR_EMPTY_CELL, 17), loads(34, 3, 16); /* L10 */
+    file_of_one(65, 0, ZELMOTAR_EMPTY_CELL, 17), loads(34, 34, 0); /* L11 */
+    c.file_n = 0, add_cell(65, 0), add_cell(ZELMOTAR_BRACKET_CELL(16, 16)); /* held, and still not reached */
+    add_empty(16), add_trailer(160, 2, 20, 1), loads(40, 34, 0);
+}
+
+/* The case's file, into the words of P2, held against the second reader. */
+static void load_p2(void)
+{
+    c.loaded_n = 48;
+    for (place = LOW; place <= HIGH; place++)
+        edges_load();
+}
+
+/* P2 saved to every number of bytes; its file, with bytes before it, and each bit changed; the file cut at each byte,
+ * from either end; and whole, with every number of bytes up to two words between it and the page that faults. */
+static void every_file(void)
+{
+    size_t i;
+    collected_p2();
+    for (i = 0; i <= 8; i++)
+        loads_beside(i, 48, 0, 0), loads_beside(i, 46, 35, 0);
+    for (i = 0; i < 8 * 200; i++) {
+        collected_p2(), precede(8), c.file[i / 8] ^= (uint8_t)(1u << i % 8);
+        load_p2();
+    }
+    for (i = 0; i < 192; i++) {
+        collected_p2(), c.file_n = i;
+        load_p2();
+        collected_p2(), c.file_n -= i, memmove(c.file, c.file + i, c.file_n);
+        load_p2();
+    }
+    for (c = p2, c.space_n = 0; c.space_n <= 200; c.space_n++)
+        for (place = LOW; place <= HIGH; place++)
+            edges_save();
+}
+
+static void longest_file(void)
+{
+    make_longest(&c);
+    saves(&c, c.file_n, 0, 0), saves(&c, c.file_n - 1, 22, 0), loads(c.words_n, 0, 0);
+    c.file[0] = 1, loads(c.words_n, 3, ZELMOTAR_REGISTERS);
 }
 
 /* Types a text into a register of a small store with a word on either side, and holds it against the second reader and
@@ -581,13 +799,40 @@ static void type_unwritable(void)
     touched = zelmotar_type(lend(STORE, c.words, 40, PROT_READ), 40, 16, 0, (const uint8_t *)"12", 2).status;
 }
 
+/* A store saved to one byte fewer than it is told, and to bytes that it may only read. */
+static void save_beyond(void)
+{
+    place = HIGH;
+    touched = zelmotar_save(c.words, 40, 16, lend(TEXT, NULL, 143, PROT_READ | PROT_WRITE), 144).status;
+}
+
+static void save_unwritable(void)
+{
+    touched = zelmotar_save(c.words, 40, 16, lend(TEXT, NULL, 144, PROT_READ), 144).status;
+}
+
+/* A file one byte shorter than it is told, and words that may only be read. */
+static void load_beyond(void)
+{
+    place = HIGH;
+    touched = zelmotar_load(c.words, 40, lend(TEXT, c.file, 143, PROT_READ), 144).status;
+}
+
+static void load_unwritable(void)
+{
+    touched = zelmotar_load(lend(STORE, c.words, 40, PROT_READ), 40, c.file, 144).status;
+}
+
 static void expect_faults(void)
 {
     EXPECT(zelmotar_fresh(c.words, 40).status == ZELMOTAR_DONE);
+    EXPECT(put_file(c.file, c.words, 40, 16) == 144);
     EXPECT(faults(touch_before) && faults(touch_after) && faults(touch_written) && !faults(touch_nothing));
     EXPECT(faults(check_beyond) && faults(fresh_unwritable));
     EXPECT(faults(print_beyond) && faults(print_unwritable));
     EXPECT(faults(type_beyond) && faults(type_unwritable));
+    EXPECT(faults(save_beyond) && faults(save_unwritable));
+    EXPECT(faults(load_beyond) && faults(load_unwritable));
 }
 
 static void on_fault(int number)
@@ -620,6 +865,12 @@ int main(int count_given, char **list)
     rows_of_symbols();
     rows_of_brackets();
     rows_of_joins();
+    rows_of_saving();
+    rows_of_loading();
+    rows_of_trailers();
+    rows_of_cells();
+    every_file();
+    longest_file();
     every_short_text();
     for (; left > 0; left--) {
         make_case(&c);

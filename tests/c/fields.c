@@ -1,4 +1,4 @@
-/* fields: the layout of the four structs that come back. Each field has its place and size, and is read by
+/* fields: the layout of the five structs that come back. Each field has its place and size, and is read by
  * name and by its bytes from answers whose fields all differ. */
 #include <string.h>
 
@@ -15,6 +15,7 @@ static uint32_t words[WORDS];
 enum { offsetof_status = 0, offsetof_value = 4, offsetof_top = 8, offsetof_from = 0, offsetof_to = sizeof(size_t) };
 enum { offsetof_text_value = sizeof(size_t), offsetof_length = 2 * sizeof(size_t) }; /* of a text; its status is at 0 */
 enum { offsetof_typed_value = sizeof(size_t), offsetof_typed_top = 2 * sizeof(size_t) }; /* of typing, likewise */
+enum { offsetof_saved_length = 8 + sizeof(size_t) }; /* of saving; the rest is as in a reply */
 
 static void layout(void)
 {
@@ -38,6 +39,12 @@ static void layout(void)
     EXPECT(sizeof(((zelmotar_typed *)0)->value) == sizeof(size_t));
     EXPECT(sizeof(((zelmotar_typed *)0)->top) == sizeof(size_t));
     EXPECT(sizeof(zelmotar_typed) == 3 * sizeof(size_t));
+    EXPECT(offsetof(zelmotar_saved, status) == offsetof_status && sizeof(((zelmotar_saved *)0)->status) == 4);
+    EXPECT(offsetof(zelmotar_saved, value) == offsetof_value && sizeof(((zelmotar_saved *)0)->value) == 4);
+    EXPECT(offsetof(zelmotar_saved, top) == offsetof_top && sizeof(((zelmotar_saved *)0)->top) == sizeof(size_t));
+    EXPECT(offsetof(zelmotar_saved, length) == offsetof_saved_length);
+    EXPECT(sizeof(((zelmotar_saved *)0)->length) == sizeof(size_t));
+    EXPECT(sizeof(zelmotar_saved) == 8 + 2 * sizeof(size_t));
 }
 
 /* An answer, field by field: by name and by bytes. */
@@ -144,6 +151,39 @@ static void typings(void)
     reads_typed(zelmotar_type(words, WORDS, 19, 0, text, 999), 16, 0, 18);
 }
 
+/* What saving answers, field by field: by name and by bytes. */
+static void reads_saved(zelmotar_saved answer, uint32_t status, uint32_t value, size_t top, size_t length)
+{
+    EXPECT(answer.status == status && AT(answer, status, status));
+    EXPECT(answer.value == value && AT(answer, value, value));
+    EXPECT(answer.top == top && AT(answer, top, top));
+    EXPECT(answer.length == length && AT(answer, saved_length, length));
+}
+
+/* The last store is full, and its file longer than one byte can count. A file with a damaged cell has all fields of a
+ * reply that can be other than 0. */
+static void files(void)
+{
+    const size_t far = SIZE_MAX / 255 * 0xa5 - 1; /* each byte of it is set */
+    static uint8_t file[300];
+    damaged_store();
+    reads_saved(zelmotar_save(words, WORDS, 21, file, 300), 3, 19, 21, 0);
+    reads_saved(zelmotar_save(words, WORDS, far, file, 300), 2, 0, far, 0);
+    reads_saved(zelmotar_save(words, WORDS - 1, far, file, 300), 1, 0, far, 0);
+    EXPECT(zelmotar_fresh(words, WORDS).status == ZELMOTAR_DONE);
+    words[0] = 17, words[1] = ZELMOTAR_BRACKET + 18;
+    reads_saved(zelmotar_save(words, WORDS, 21, file, 159), 22, 0, 18, 0);
+    reads_saved(zelmotar_save(words, WORDS, 18, file, 300), 0, 0, 18, 160);
+    reads(zelmotar_load(words, WORDS, file, 160), 0, 0, 18);
+    reads(zelmotar_load(words, WORDS, file, 159), 31, 0, 0);
+    reads(zelmotar_load(words, WORDS - 1, file, 160), 35, 0, 0);
+    file[12] = 1; /* the second word of cell 17 */
+    reads(zelmotar_load(words, WORDS, file, 160), 3, 17, 0);
+    words[0] = 16, words[1] = ZELMOTAR_BRACKET + 31;
+    reads_saved(zelmotar_save(words, WORDS, 32, file, 300), 0, 0, 32, 272);
+    reads(zelmotar_load(words, WORDS, file, 272), 0, 0, 32);
+}
+
 int main(void)
 {
     layout();
@@ -151,5 +191,6 @@ int main(void)
     spans();
     texts();
     typings();
+    files();
     return expect_end();
 }

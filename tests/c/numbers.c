@@ -17,6 +17,8 @@ static uint32_t answers[ZELMOTAR_MAX_CALL_WORDS + 8];
 static size_t top;
 static uint32_t value; /* of the last call */
 static uint8_t text[4 * ZELMOTAR_MAX_DEPTH];
+static uint8_t file[20 * CELLS];
+static size_t length; /* of the last file that was saved */
 
 /* Runs one call and gives its status. */
 static uint32_t call(uint32_t operation, uint32_t d, uint32_t a, uint32_t b)
@@ -156,6 +158,91 @@ static void statuses_of_typing(void)
         EXPECT(type(n, "") == ZELMOTAR_DONE && ZELMOTAR_IS_EMPTY(words, n));
 }
 
+/* Saves the store to so many bytes and gives the status. */
+static uint32_t save(size_t file_n)
+{
+    zelmotar_saved answer = zelmotar_save(words, 2 * CELLS, top, file, file_n);
+    EXPECT(answer.value == 0 && (answer.status == 0 || answer.length == 0));
+    top = answer.top, length = answer.length;
+    return answer.status;
+}
+
+/* A store saved to as many bytes as its file has, and to one fewer. The file of an empty store has 144 bytes; each cell
+ * takes eight more. */
+static void statuses_of_saving(void)
+{
+    start();
+    EXPECT(save(ZELMOTAR_FILE_BYTES(ZELMOTAR_REGISTERS)) == ZELMOTAR_DONE && length == 144);
+    EXPECT(length == ZELMOTAR_FILE_BYTES(ZELMOTAR_REGISTERS) && file[length - 4] == ZELMOTAR_EDITION);
+    EXPECT(save(ZELMOTAR_FILE_BYTES(ZELMOTAR_REGISTERS) - 1) == ZELMOTAR_SHORT_SPACE && top == ZELMOTAR_REGISTERS);
+    EXPECT(type(0, "7 7 7 7 7") == ZELMOTAR_DONE && type(0, "7 7 7") == ZELMOTAR_DONE);
+    EXPECT(save(ZELMOTAR_FILE_BYTES(top)) == ZELMOTAR_DONE && top == ZELMOTAR_REGISTERS + 3 && length == 168);
+    EXPECT(length == ZELMOTAR_FILE_BYTES(ZELMOTAR_REGISTERS + 3));
+    ZELMOTAR_FIRST_WORD(words, 7) = 1;
+    EXPECT(zelmotar_save(words, 2 * CELLS, top, file, sizeof file).status == ZELMOTAR_DAMAGED);
+    EXPECT(zelmotar_save(words, 2 * CELLS, CELLS + 1, file, sizeof file).status == ZELMOTAR_BAD_TOP);
+    EXPECT(zelmotar_save(words, 2 * CELLS + 1, top, file, sizeof file).status == ZELMOTAR_BAD_LENGTH);
+}
+
+/* Loads the last file that was saved, less its first bytes, with word i of it exchanged for another; from the end for a
+ * negative one. Gives the status. */
+static uint32_t load_with(long i, uint32_t word, size_t less)
+{
+    uint8_t *at = file + (i < 0 ? length : 0) + 4 * i, kept[4];
+    zelmotar_reply answer;
+    int k;
+    memcpy(kept, at, sizeof kept);
+    for (k = 0; k < 4; k++)
+        at[k] = (uint8_t)(word >> 8 * k);
+    answer = zelmotar_load(words, 2 * CELLS, file + less, length - less);
+    memcpy(at, kept, sizeof kept);
+    EXPECT(answer.status == ZELMOTAR_DONE ? answer.top == top : answer.top == 0);
+    EXPECT(answer.value == (answer.status == ZELMOTAR_DAMAGED ? ZELMOTAR_REGISTERS : 0));
+    return answer.status;
+}
+
+/* Each status of a file loaded, by one word of the trailer or of the first of three heap cells. */
+static void statuses_of_loading(void)
+{
+    start();
+    EXPECT(type(0, "7 8 9") == ZELMOTAR_DONE && save(sizeof file) == ZELMOTAR_DONE);
+    EXPECT(load_with(-1, ZELMOTAR_EDITION, 0) == ZELMOTAR_DONE);
+    EXPECT(load_with(-1, ZELMOTAR_EDITION, length - ZELMOTAR_TRAILER_BYTES + 1) == ZELMOTAR_SHORT_FILE);
+    EXPECT(load_with(-1, ZELMOTAR_EDITION, length - ZELMOTAR_TRAILER_BYTES) == ZELMOTAR_BAD_DISTANCE);
+    EXPECT(load_with(-1, ZELMOTAR_EDITION + 1, 0) == ZELMOTAR_BAD_EDITION);
+    EXPECT(load_with(-2, ZELMOTAR_MAX_WORDS / 2 + 1, 0) == ZELMOTAR_BAD_CAPACITY);
+    EXPECT(load_with(-2, ZELMOTAR_MAX_WORDS / 2, 0) == ZELMOTAR_WRONG_SLICE);
+    EXPECT(load_with(-2, ZELMOTAR_REGISTERS + 3, 0) == ZELMOTAR_WRONG_SLICE);
+    EXPECT(load_with(-2, ZELMOTAR_REGISTERS + 2, 0) == ZELMOTAR_BAD_CAPACITY);
+    EXPECT(load_with(-3, 4, 0) == ZELMOTAR_BAD_DISTANCE);
+    EXPECT(load_with(0, ZELMOTAR_MAX_CODE, 0) == ZELMOTAR_DONE && words[32] == ZELMOTAR_MAX_CODE);
+    EXPECT(load_with(0, ZELMOTAR_MAX_CODE + 1, 0) == ZELMOTAR_DAMAGED);
+    EXPECT(load_with(6, ZELMOTAR_REGISTERS + 1, 0) == ZELMOTAR_NOT_COLLECTED);
+}
+
+/* The words to be lent for a file that ends with a trailer of this capacity. */
+static size_t words_for(uint32_t capacity)
+{
+    static const uint8_t rest[12] = {144, 0, 0, 0, 0, 0, 0, 0, 0, 0, 0, 0};
+    uint8_t last[20] = {0xff, 0xff, 0xff, 0xff};
+    int k;
+    memcpy(last + 4, rest, sizeof rest);
+    for (k = 0; k < 4; k++)
+        last[12 + k] = (uint8_t)(capacity >> 8 * k);
+    last[16] = ZELMOTAR_EDITION;
+    return zelmotar_file_words(last, sizeof last);
+}
+
+static void words_for_files(void)
+{
+    static const uint8_t full[16] = {144, 0, 0, 0, 0, 0, 0, 0, 20, 0, 0, 0, 1};
+    EXPECT(words_for(20) == 40 && words_for(0) == 0 && words_for(258) == 516);
+    EXPECT(words_for(ZELMOTAR_MAX_WORDS / 2) == ZELMOTAR_MAX_WORDS && words_for(ZELMOTAR_MAX_WORDS / 2 + 1) == 0);
+    EXPECT(words_for(0x00010014) == 0 && words_for(0x01000014) == 0 && words_for(0xffffffffu) == 0);
+    EXPECT(zelmotar_file_words(full, 16) == 40 && zelmotar_file_words(full, 15) == 0);
+    EXPECT(zelmotar_file_words(full, 0) == 0);
+}
+
 static void limits(void)
 {
     EXPECT(zelmotar_fresh(words, ZELMOTAR_MIN_WORDS).status == 0);
@@ -247,6 +334,9 @@ int main(int count, char **list)
     statuses_of_a_request();
     statuses_of_a_print();
     statuses_of_typing();
+    statuses_of_saving();
+    statuses_of_loading();
+    words_for_files();
     limits();
     masks();
     cells_taken_apart();

@@ -1,4 +1,5 @@
-/* stack: the deepest stack that each function uses, in bytes, over random cases and texts of deep brackets.
+/* stack: the deepest stack that each function uses, in bytes, over random cases, texts of deep brackets and the longest
+ * file.
  *
  * usage: stack COUNT
  *
@@ -14,14 +15,15 @@
 #define PAINT 0xa5u
 #define ROOM 65536
 
-enum { CHECK, FRESH, COLLECT, RUN, LOOK, PRINT, TYPE, FUNCTIONS };
+enum { CHECK, FRESH, COLLECT, RUN, LOOK, PRINT, TYPE, SAVE, LOAD, FUNCTIONS };
 
-static const char *const names[FUNCTIONS] = {"check", "fresh", "collect", "run", "look", "print", "type"};
-static const size_t under[FUNCTIONS] = {128, 128, 192, 512, 128, 13312, 11264}; /* as zelmotar.h says */
+static const char *const names[FUNCTIONS] = {"check", "fresh", "collect", "run", "look",
+                                             "print", "type",  "save",    "load"};
+static const size_t under[FUNCTIONS] = {128, 128, 192, 512, 128, 13312, 11264, 256, 17408}; /* as zelmotar.h says */
 
 static struct test_case c;
 static uint32_t words[MOST_STORE], answers[MOST_ANSWERS];
-static uint8_t text[MOST_TEXT];
+static uint8_t text[MOST_TEXT], space[MOST_FILE];
 static size_t deepest[FUNCTIONS];
 static unsigned char room[ROOM] __attribute__((aligned(64)));
 static ucontext_t outside, inside;
@@ -32,8 +34,9 @@ static const zelmotar_reply no_answer;
 static const zelmotar_span no_span;
 static const zelmotar_text no_text;
 static const zelmotar_typed no_typed;
+static const zelmotar_saved no_saved;
 
-/* One function for each of the seven that takes the same and does nothing. */
+/* One function for each of the nine that takes the same and does nothing. */
 static zelmotar_reply no_check(const uint32_t *w, size_t n, size_t top)
 {
     (void)w, (void)n, (void)top;
@@ -77,6 +80,18 @@ static zelmotar_typed no_type(uint32_t *w, size_t n, size_t top, size_t reg, con
     return no_typed;
 }
 
+static zelmotar_saved no_save(uint32_t *w, size_t n, size_t top, uint8_t *f, size_t file_n)
+{
+    (void)w, (void)n, (void)top, (void)f, (void)file_n;
+    return no_saved;
+}
+
+static zelmotar_reply no_load(uint32_t *w, size_t n, const uint8_t *f, size_t file_n)
+{
+    (void)w, (void)n, (void)f, (void)file_n;
+    return no_answer;
+}
+
 /* Both of each kind, volatile so that the call is the same code for both. */
 static zelmotar_reply (*volatile check[2])(const uint32_t *, size_t, size_t) = {zelmotar_check, no_check};
 static zelmotar_reply (*volatile fresh[2])(uint32_t *, size_t) = {zelmotar_fresh, no_fresh};
@@ -88,6 +103,8 @@ static zelmotar_text (*volatile print[2])(const uint32_t *, size_t, size_t, size
                                            size_t) = {zelmotar_print, no_print};
 static zelmotar_typed (*volatile type[2])(uint32_t *, size_t, size_t, size_t, const uint8_t *,
                                            size_t) = {zelmotar_type, no_type};
+static zelmotar_saved (*volatile save[2])(uint32_t *, size_t, size_t, uint8_t *, size_t) = {zelmotar_save, no_save};
+static zelmotar_reply (*volatile load[2])(uint32_t *, size_t, const uint8_t *, size_t) = {zelmotar_load, no_load};
 
 /* The call, and right after it, before anything else is called, the measuring. */
 static void on_own_stack(void)
@@ -102,7 +119,9 @@ static void on_own_stack(void)
         break;
     case LOOK: (void)!look[hollow](words, c.words_n, c.top, c.reg).to; break;
     case PRINT: (void)!print[hollow](words, c.words_n, c.top, c.reg, text, c.text_n).status; break;
-    default: (void)!type[hollow](words, c.words_n, c.top, c.reg, c.typed, c.typed_n).status; break;
+    case TYPE: (void)!type[hollow](words, c.words_n, c.top, c.reg, c.typed, c.typed_n).status; break;
+    case SAVE: (void)!save[hollow](words, c.words_n, c.top, space, c.space_n).status; break;
+    default: (void)!load[hollow](words, c.loaded_n, c.file, c.file_n).status; break;
     }
     for (i = 0; i < ROOM && room[i] == PAINT; i++)
         continue;
@@ -201,6 +220,18 @@ static void measure_deep(void)
     }
 }
 
+/* The longest file, written and read; and read with a cell that no register reaches, the last of its heap. */
+static void measure_longest(void)
+{
+    make_longest(&c);
+    measure();
+    EXPECT(zelmotar_save(c.words, c.words_n, c.top, space, c.space_n).status == ZELMOTAR_DONE);
+    EXPECT(zelmotar_load(words, c.loaded_n, c.file, c.file_n).status == ZELMOTAR_DONE);
+    put_word(put_word(c.file + (LONGEST_FILE - 144), 0), ZELMOTAR_BRACKET); /* register 0 is empty */
+    EXPECT(zelmotar_load(words, c.loaded_n, c.file, c.file_n).status == ZELMOTAR_NOT_COLLECTED);
+    measure();
+}
+
 int main(int count_given, char **list)
 {
     long left = count_given == 2 ? atol(list[1]) : 0;
@@ -210,6 +241,7 @@ int main(int count_given, char **list)
         return 2;
     }
     measure_deep();
+    measure_longest();
     for (; left > 0; left--) {
         make_case(&c);
         measure();

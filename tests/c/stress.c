@@ -1,11 +1,13 @@
-/* stress: the seven functions on random cases, in memory that is exactly as long as what is lent.
+/* stress: the nine functions on random cases, in memory that is exactly as long as what is lent.
  *
  * usage: stress COUNT
  *
  * It is made for valgrind, which sees each byte that is touched outside, and each decision that hangs on a word
- * that nobody wrote: a fresh store, an answer space and a text space are lent as malloc gives them. What is printed
- * is held against a second printer (texts.h), and what is typed in, word by word, against a second reader and layer
- * (typed.h). What is typed in is printed again, and what is printed is typed in again. */
+ * that nobody wrote: a fresh store, the words for a file and all spaces are lent as malloc gives them. What is printed
+ * is held against a second printer (texts.h), what is typed in, word by word, against a second reader and layer
+ * (typed.h), and what is saved and loaded, byte by byte and word by word, against a second writer and reader of files
+ * (files.h). What is typed in is printed again, and what is printed is typed in again; what is saved is loaded again,
+ * and what is loaded is saved again. */
 #include "cases.h"
 #include "texts.h"
 #include "typed.h"
@@ -14,6 +16,8 @@ static struct test_case c;
 /* Texts laid in a store as it was, in one that was collected for them, and in one that has room only without what their
  * register held; and those for which there was none, though their register held something. */
 static unsigned roomy, collected, replacing, kept;
+/* Stores saved from which dead cells went, and files loaded with bytes before their first heap cell. */
+static unsigned shrunk, preceded;
 
 /* A list of its own with the given words; malloc's own words if none are given. */
 static uint32_t *lend(const uint32_t *words, size_t n)
@@ -163,6 +167,76 @@ static zelmotar_typed stress_type(void)
     return answer;
 }
 
+/* A file is loaded with these words. */
+static void expect_loaded(const uint8_t *file, size_t file_n, const uint32_t *expected, size_t n, size_t top)
+{
+    uint32_t *words = lend(NULL, n);
+    uint8_t *bytes = lend_bytes(file, file_n);
+    EXPECT(same_reply(zelmotar_load(words, n, bytes, file_n), reply_of(ZELMOTAR_DONE, 0, top)));
+    EXPECT(memcmp(words, expected, n * sizeof *words) == 0);
+    free(words), free(bytes);
+}
+
+/* The case's store saved to space_n bytes: the answer, every word and every byte. Loaded again it is the same. */
+static zelmotar_saved stress_save(size_t space_n)
+{
+    uint32_t *words = lend(c.words, c.words_n), *expected = lend(c.words, c.words_n);
+    uint8_t *space = lend_bytes(NULL, space_n), *written = lend_bytes(NULL, space_n);
+    zelmotar_saved answer = zelmotar_save(words, c.words_n, c.top, space, space_n);
+    EXPECT(same_saved(answer, expected_save(expected, c.words_n, c.top, written, space_n)));
+    EXPECT(memcmp(words, expected, c.words_n * sizeof *words) == 0 && memcmp(space, written, space_n) == 0);
+    saved_met[answer.status]++;
+    if (answer.status == ZELMOTAR_DONE) {
+        shrunk += answer.top < c.top;
+        expect_loaded(space, answer.length, words, c.words_n, answer.top);
+    }
+    free(words), free(expected), free(space), free(written);
+    return answer;
+}
+
+/* A store that was saved fits into as many bytes as its file has, and not into one fewer. */
+static void stress_saves(void)
+{
+    zelmotar_saved answer = stress_save(c.space_n);
+    if (answer.status != ZELMOTAR_DONE)
+        return;
+    EXPECT(answer.length == ZELMOTAR_FILE_BYTES(answer.top));
+    EXPECT(stress_save(answer.length).status == ZELMOTAR_DONE);
+    EXPECT(stress_save(answer.length - 1).status == ZELMOTAR_SHORT_SPACE);
+}
+
+/* What was loaded is saved with the bytes of the case's file from the first heap cell on, and is collected before. */
+static void save_again(const uint32_t *loaded, size_t top)
+{
+    uint32_t *words = lend(loaded, c.loaded_n);
+    size_t length = ZELMOTAR_FILE_BYTES(top);
+    uint8_t *space = lend_bytes(NULL, length);
+    zelmotar_saved answer = zelmotar_save(words, c.loaded_n, top, space, length);
+    EXPECT(answer.status == ZELMOTAR_DONE && answer.top == top && answer.length == length && length <= c.file_n);
+    EXPECT(memcmp(space, c.file + (c.file_n - length), length) == 0);
+    EXPECT(memcmp(words, loaded, c.loaded_n * sizeof *words) == 0);
+    preceded += length < c.file_n;
+    free(words), free(space);
+}
+
+/* The case's file loaded over words that are of no meaning for it: the answer, every word, and the file as it was. */
+static zelmotar_reply stress_load(void)
+{
+    uint32_t *words = lend(c.words, c.loaded_n), *expected = lend(c.words, c.loaded_n), *unset = lend(NULL, c.loaded_n);
+    uint8_t *file = lend_bytes(c.file, c.file_n);
+    zelmotar_reply answer = zelmotar_load(words, c.loaded_n, file, c.file_n);
+    EXPECT(same_reply(answer, expected_load(expected, c.loaded_n, c.file, c.file_n)));
+    EXPECT(memcmp(words, expected, c.loaded_n * sizeof *words) == 0 && memcmp(file, c.file, c.file_n) == 0);
+    EXPECT(same_reply(answer, zelmotar_load(unset, c.loaded_n, file, c.file_n)));
+    if (answer.status == ZELMOTAR_DONE || answer.status == ZELMOTAR_WRONG_SLICE)
+        EXPECT((zelmotar_file_words(file, c.file_n) == c.loaded_n) == (answer.status == ZELMOTAR_DONE));
+    loaded_met[answer.status]++;
+    if (answer.status == ZELMOTAR_DONE)
+        save_again(words, answer.top);
+    free(words), free(expected), free(unset), free(file);
+    return answer;
+}
+
 /* A text of more than 2^50 bytes: a print that went on after the first byte that it cannot write would not end. */
 static void stress_endless(void)
 {
@@ -176,7 +250,7 @@ static void stress_endless(void)
 }
 
 /* The most terms that any store has room for, in a fresh one and in the place of as many; one more; and the last byte
- * of that text out of order. */
+ * of that text out of order. The full store is saved, and its file, the longest there is, is loaded. */
 static void stress_full(void)
 {
     const size_t most = ZELMOTAR_MAX_WORDS / 2 - ZELMOTAR_REGISTERS;
@@ -197,6 +271,9 @@ static void stress_full(void)
     c.typed[c.typed_n - 1] = ')';
     answer = stress_type();
     EXPECT(answer.status == ZELMOTAR_NOT_TEXT && answer.value == 2 * most);
+    EXPECT(stress_save(LONGEST_FILE).status == ZELMOTAR_DONE);
+    c.loaded_n = c.words_n, c.file_n = put_file(c.file, c.words, c.words_n, c.top);
+    EXPECT(stress_load().status == ZELMOTAR_DONE);
 }
 
 int main(int count_given, char **list)
@@ -216,8 +293,11 @@ int main(int count_given, char **list)
         stress_run();
         stress_prints();
         (void)stress_type();
+        stress_saves();
+        (void)stress_load();
     }
     expect_all_met();
     EXPECT(roomy > 0 && collected > 0 && replacing > 0 && kept > 0);
+    EXPECT(shrunk > 0 && preceded > 0);
     return expect_end();
 }

@@ -37,6 +37,12 @@ static void print_statuses(void)
     STATUS(TOO_DEEP);
     STATUS(SHORT_SPACE);
     STATUS(NOT_TEXT);
+    STATUS(SHORT_FILE);
+    STATUS(BAD_EDITION);
+    STATUS(BAD_DISTANCE);
+    STATUS(BAD_CAPACITY);
+    STATUS(NOT_COLLECTED);
+    STATUS(WRONG_SLICE);
 }
 
 static void print_operations(void)
@@ -64,6 +70,29 @@ static void print_texts(void)
     printf("%u says %s\n", (unsigned)UINT32_MAX, zelmotar_status_text(UINT32_MAX));
 }
 
+/* How many words a file with this capacity in its trailer asks for. */
+static void print_words(uint32_t capacity)
+{
+    uint8_t trailer[ZELMOTAR_TRAILER_BYTES] = {144, 0, 0, 0, 0, 0, 0, 0, 0, 0, 0, 0, ZELMOTAR_EDITION};
+    int i;
+    for (i = 0; i < 4; i++)
+        trailer[8 + i] = (uint8_t)(capacity >> 8 * i);
+    printf("%u words for a capacity of %u\n", (unsigned)zelmotar_file_words(trailer, sizeof trailer),
+           (unsigned)capacity);
+}
+
+static void print_files(void)
+{
+    static const size_t tops[3] = {ZELMOTAR_REGISTERS, ZELMOTAR_REGISTERS + 1, ZELMOTAR_MAX_WORDS / 2};
+    static const uint32_t capacities[9] = {0, 15, 16, 258, 4096, 4097, 0x00010010, 0x01000010, UINT32_MAX};
+    size_t i;
+    printf("edition %u, a trailer of %u bytes\n", (unsigned)ZELMOTAR_EDITION, (unsigned)ZELMOTAR_TRAILER_BYTES);
+    for (i = 0; i < 3; i++)
+        printf("a file of %u bytes with top %u\n", (unsigned)ZELMOTAR_FILE_BYTES(tops[i]), (unsigned)tops[i]);
+    for (i = 0; i < 9; i++)
+        print_words(capacities[i]);
+}
+
 static void print_layout(void)
 {
     printf("answer of %u bytes:", (unsigned)sizeof(zelmotar_reply));
@@ -81,6 +110,11 @@ static void print_layout(void)
     PLACE(zelmotar_typed, status);
     PLACE(zelmotar_typed, value);
     PLACE(zelmotar_typed, top);
+    printf("\nsaved of %u bytes:", (unsigned)sizeof(zelmotar_saved));
+    PLACE(zelmotar_saved, status);
+    PLACE(zelmotar_saved, value);
+    PLACE(zelmotar_saved, top);
+    PLACE(zelmotar_saved, length);
     printf("\n");
 }
 
@@ -90,6 +124,7 @@ int main(void)
     print_statuses();
     print_operations();
     print_texts();
+    print_files();
     print_layout();
     return 0;
 }

@@ -18,6 +18,13 @@ typedef struct {
     unsigned long top;
 } zelmotar_typed;
 
+typedef struct {
+    unsigned status;
+    unsigned value;
+    unsigned long top;
+    unsigned long length;
+} zelmotar_saved;
+
 zelmotar_text *zelmotar_print_at(zelmotar_text *result, const unsigned *words, unsigned long n, unsigned long top,
                                  unsigned long reg, unsigned char *text, unsigned long text_n);
 
@@ -37,5 +44,16 @@ zelmotar_typed zelmotar_type(unsigned *words, unsigned long n, unsigned long top
 {
     zelmotar_typed result;
     zelmotar_type_at(&result, words, n, top, reg, text, text_n);
+    return result;
+}
+
+zelmotar_saved *zelmotar_save_at(zelmotar_saved *result, unsigned *words, unsigned long n, unsigned long top,
+                                 unsigned char *file, unsigned long file_n);
+
+zelmotar_saved zelmotar_save(unsigned *words, unsigned long n, unsigned long top, unsigned char *file,
+                             unsigned long file_n)
+{
+    zelmotar_saved result;
+    zelmotar_save_at(&result, words, n, top, file, file_n);
     return result;
 }
