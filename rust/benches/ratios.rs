@@ -1,4 +1,5 @@
-//! How long the library takes, measured against the ordinary stores of the model in the same run.
+//! How long the library takes, measured against the ordinary stores of the model in the same run, and
+//! for [`files`] against a copy.
 //!
 //! Run it with `cargo bench --bench ratios`. It prints the tables of `docs/BENCHMARKS.md`; with
 //! `-- growth` behind, those of growth alone, and with `-- stores` all but those. The ordinary
@@ -7,6 +8,9 @@
 //! Contenders take turns on the same stores. Each call gets a copy of the store that was written
 //! just before, and the least time of all rounds counts. Before anything is timed, all contenders
 //! must leave the same words and give the same answers.
+
+#[path = "ratios/files.rs"]
+mod files;
 
 use std::time::{Duration, Instant};
 use std::{env, fs, hint::black_box};
@@ -353,13 +357,20 @@ struct Copies {
 }
 
 impl Copies {
-    /// As many as stay in the nearer caches, or one for a batch, which is long enough by itself.
+    /// As many as stay in the nearer caches, and no answers.
+    fn several(store: &Lent) -> Copies {
+        let count = ((1 << 16) / store.0.len()).clamp(1, 64);
+        Copies { words: vec![store.0.clone(); count], answers: Vec::new() }
+    }
+
+    /// Those for some work; one for a batch, which is long enough by itself.
     fn of(store: &Lent, work: Work) -> Copies {
-        let count = match work {
-            Work::Run(_) => 1,
-            _ => ((1 << 16) / store.0.len()).clamp(1, 64),
-        };
-        Copies { words: vec![store.0.clone(); count], answers: vec![0; work.calls().len() / 2] }
+        let mut copies = Copies::several(store);
+        if matches!(work, Work::Run(_)) {
+            copies.words.truncate(1);
+        }
+        copies.answers = vec![0; work.calls().len() / 2];
+        copies
     }
 
     /// Microseconds of one call on one copy, each of which is written anew before.
@@ -373,10 +384,18 @@ impl Copies {
     }
 }
 
-/// Microseconds of each contender.
+/// Microseconds of each contender, once they are seen to do the same.
 fn contest(store: &Lent, work: Work, mut contenders: Columns<Contender>) -> Columns<f64> {
     assert_same(store, work, &mut contenders);
-    let mut copies = Copies::of(store, work);
+    least(store, Copies::of(store, work), contenders)
+}
+
+/// Microseconds of each contender. They take turns.
+fn least<const N: usize>(
+    store: &Lent,
+    mut copies: Copies,
+    contenders: [Option<Contender>; N],
+) -> [Option<f64>; N] {
     let mut timed = contenders.map(|column| column.map(|contender| (contender, f64::MAX)));
     let limit = ROW_TIME * timed.iter().flatten().count() as u32;
     let (start, mut rounds) = (Instant::now(), 0);
@@ -620,6 +639,7 @@ fn main() {
         forced();
         prints();
         types();
+        files::table();
     }
     if !told("stores") {
         growths();

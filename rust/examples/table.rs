@@ -3,8 +3,9 @@
 
 use std::mem::{offset_of, size_of};
 
-use zelmotar::raw::{Reply, Span, Text, Typed};
-use zelmotar::{status_text, Call, MAX_CALLS, MAX_CELLS, MAX_CODE, MAX_DEPTH, REGISTERS, STATUSES};
+use zelmotar::raw::{Reply, Saved, Span, Text, Typed};
+use zelmotar::{file_bytes, status_text, Call, Trailer};
+use zelmotar::{EDITION, MAX_CALLS, MAX_CELLS, MAX_CODE, MAX_DEPTH, REGISTERS, STATUSES};
 
 /// A call of each operation, in order.
 fn operations() -> impl Iterator<Item = Call> {
@@ -26,6 +27,24 @@ fn print_layout() {
     print!(" status at {}", offset_of!(Typed, status));
     print!(" value at {}", offset_of!(Typed, value));
     println!(" top at {}", offset_of!(Typed, top));
+    print!("saved of {} bytes:", size_of::<Saved>());
+    print!(" status at {}", offset_of!(Saved, status));
+    print!(" value at {}", offset_of!(Saved, value));
+    print!(" top at {}", offset_of!(Saved, top));
+    println!(" length at {}", offset_of!(Saved, length));
+}
+
+/// How long files are, and for how many words their trailers ask.
+fn print_files() {
+    println!("edition {EDITION}, a trailer of {} bytes", Trailer::BYTES);
+    for top in [REGISTERS, REGISTERS + 1, MAX_CELLS] {
+        println!("a file of {} bytes with top {top}", file_bytes(top));
+    }
+    for capacity in [0, 15, 16, 258, 4096, 4097, 0x0001_0010, 0x0100_0010, u32::MAX] {
+        let file = [144, 0, capacity, EDITION].map(u32::to_le_bytes).concat();
+        let words = Trailer::of(&file).map_or(0, Trailer::words);
+        println!("{words} words for a capacity of {capacity}");
+    }
 }
 
 fn main() {
@@ -44,5 +63,6 @@ fn main() {
     for number in (0..100).chain([u32::MAX]) {
         println!("{number} says {}", status_text(number));
     }
+    print_files();
     print_layout();
 }

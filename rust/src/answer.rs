@@ -3,7 +3,7 @@
 use core::error::Error;
 use core::fmt;
 
-use crate::ffi::{Reply, Text, Typed};
+use crate::ffi::{Reply, Saved, Text, Typed};
 use crate::{status_text, Call};
 
 /// The answer to one call of a batch.
@@ -147,9 +147,10 @@ impl Error for Fault {}
 /// Why a whole request is refused: the first that applies.
 ///
 /// After a refusal the words, the answer space and `top` are as they came, but for
-/// [`NoRoom`](Refusal::NoRoom), which leaves the store collected. A text space is not as it came: whatever
-/// refuses a print, all its bytes are 0 then. More requests will bring more refusals, and a damaged cell
-/// will come with the rule that it breaks: a match has a case for the rest.
+/// [`NoRoom`](Refusal::NoRoom) of a typed text and [`ShortSpace`](Refusal::ShortSpace) of a file,
+/// which leave the store collected. A space for a text or a file is not as it came: whatever
+/// refuses to write there, all its bytes are 0 then. More requests will bring more refusals, and a
+/// damaged cell will come with the rule that it breaks: a match has a case for the rest.
 #[derive(Clone, Copy, Debug, PartialEq, Eq, Hash)]
 #[must_use]
 #[non_exhaustive]
@@ -158,7 +159,7 @@ pub enum Refusal {
     BadLength,
     /// 2: `top` is under 16 or over the capacity.
     BadTop,
-    /// 3: a cell breaks its rule.
+    /// 3: a cell breaks its rule, in the store that is lent or in the one that a file holds.
     #[non_exhaustive]
     Damaged {
         /// The first damaged cell, the one with the lowest address.
@@ -186,7 +187,8 @@ pub enum Refusal {
         /// The place of the bracket in the text, from 0.
         offset: usize,
     },
-    /// 22: a byte of the text does not fit into the text space.
+    /// 22: a byte of the text does not fit into the text space, or the file does not fit into its
+    /// space. For a file the store has been collected, and every register has its expression.
     ShortSpace,
     /// 23: a typed text is that of no expression.
     NotText {
@@ -194,10 +196,23 @@ pub enum Refusal {
         /// soon.
         offset: usize,
     },
+    /// 30: a file has fewer bytes than a trailer, [`Trailer::BYTES`](crate::Trailer::BYTES).
+    ShortFile,
+    /// 31: a file is of another edition than [`EDITION`](crate::EDITION).
+    BadEdition,
+    /// 32: the distance in a file's trailer is not that of its heap cells, or is beyond the file.
+    BadDistance,
+    /// 33: no store has the capacity in a file's trailer, or it is too small for the heap cells.
+    BadCapacity,
+    /// 34: no register reaches some heap cell of a file.
+    NotCollected,
+    /// 35: the words lent for a file are not two for each cell of the capacity in its trailer.
+    WrongSlice,
 }
 
 impl Refusal {
-    /// The status number of the refusal: 1 to 5, 20 to 22 for printing, 13, 16, 20, 21 and 23 for typing.
+    /// The status number of the refusal: 1 to 5, 20 to 22 for printing, 13, 16, 20, 21 and 23 for
+    /// typing, 22 for saving, 3 and 30 to 35 for loading.
     pub const fn number(self) -> u32 {
         match self {
             Refusal::BadLength => 1,
@@ -211,6 +226,12 @@ impl Refusal {
             Refusal::TooDeep | Refusal::TooDeepAt { .. } => 21,
             Refusal::ShortSpace => 22,
             Refusal::NotText { .. } => 23,
+            Refusal::ShortFile => 30,
+            Refusal::BadEdition => 31,
+            Refusal::BadDistance => 32,
+            Refusal::BadCapacity => 33,
+            Refusal::NotCollected => 34,
+            Refusal::WrongSlice => 35,
         }
     }
 
@@ -242,13 +263,18 @@ impl Refusal {
         }
     }
 
-    /// The refusal in a reply, if it is one.
+    /// The refusal in the reply of a check, a fresh store, a collection or a batch, if it is one.
     ///
     /// # Panics
     ///
-    /// If the status is no number of the library's, so that something else is linked in its place.
+    /// If the status is no number that these give, so that something else is linked in the
+    /// library's place.
     pub(crate) fn of(reply: Reply) -> Result<(), Refusal> {
-        Refusal::told(reply.status, reply.value)
+        match reply.status {
+            4 => Err(Refusal::BadCalls),
+            5 => Err(Refusal::ShortAnswers),
+            status => Refusal::of_store(status, reply.value),
+        }
     }
 
     /// The refusal in what printing answers, if it is one.
@@ -257,8 +283,13 @@ impl Refusal {
     ///
     /// As [`of`](Refusal::of).
     pub(crate) fn of_text(text: Text) -> Result<(), Refusal> {
-        // The value is a cell, and so fits a word.
-        Refusal::told(text.status, text.value as u32)
+        match text.status {
+            20 => Err(Refusal::NoRegister),
+            21 => Err(Refusal::TooDeep),
+            22 => Err(Refusal::ShortSpace),
+            // The value is a cell, and so fits a word.
+            status => Refusal::of_store(status, text.value as u32),
+        }
     }
 
     /// The refusal in what typing answers, if it is one.
@@ -271,28 +302,60 @@ impl Refusal {
         match typed.status {
             13 => Err(Refusal::BadCode { offset }),
             16 => Err(Refusal::NoRoom),
+            20 => Err(Refusal::NoRegister),
             21 => Err(Refusal::TooDeepAt { offset }),
             23 => Err(Refusal::NotText { offset }),
             // The value is a cell, and so fits a word.
-            status => Refusal::told(status, typed.value as u32),
+            status => Refusal::of_store(status, typed.value as u32),
         }
     }
 
-    /// The refusal with a status and its value.
-    fn told(status: u32, value: u32) -> Result<(), Refusal> {
+    /// The refusal in what saving answers, if it is one.
+    ///
+    /// # Panics
+    ///
+    /// As [`of`](Refusal::of).
+    pub(crate) fn of_saved(saved: Saved) -> Result<(), Refusal> {
+        match saved.status {
+            22 => Err(Refusal::ShortSpace),
+            status => Refusal::of_store(status, saved.value),
+        }
+    }
+
+    /// The refusal in the reply of loading, if it is one. No store is lent, so 1 and 2 are none.
+    ///
+    /// # Panics
+    ///
+    /// As [`of`](Refusal::of).
+    pub(crate) fn of_loaded(reply: Reply) -> Result<(), Refusal> {
+        match reply.status {
+            0 => Ok(()),
+            3 => Err(Refusal::Damaged { cell: reply.value }),
+            30 => Err(Refusal::ShortFile),
+            31 => Err(Refusal::BadEdition),
+            32 => Err(Refusal::BadDistance),
+            33 => Err(Refusal::BadCapacity),
+            34 => Err(Refusal::NotCollected),
+            35 => Err(Refusal::WrongSlice),
+            other => no_status(other),
+        }
+    }
+
+    /// The refusal of a store that is lent, with the value of its status.
+    fn of_store(status: u32, value: u32) -> Result<(), Refusal> {
         match status {
             0 => Ok(()),
             1 => Err(Refusal::BadLength),
             2 => Err(Refusal::BadTop),
             3 => Err(Refusal::Damaged { cell: value }),
-            4 => Err(Refusal::BadCalls),
-            5 => Err(Refusal::ShortAnswers),
-            20 => Err(Refusal::NoRegister),
-            21 => Err(Refusal::TooDeep),
-            22 => Err(Refusal::ShortSpace),
-            other => panic!("the linked library answers {other}, which is no status of zelmotar"),
+            other => no_status(other),
         }
     }
+}
+
+/// Panics, as the library never gives this number for what was asked.
+pub(crate) fn no_status(number: u32) -> ! {
+    panic!("the linked library answers {number}, which is no status of zelmotar for what was asked")
 }
 
 /// The text of its number in [`STATUSES`](crate::STATUSES), and the damaged cell or the byte of the text

@@ -61,6 +61,23 @@ pub struct Typed {
     pub top: usize,
 }
 
+/// What saving answers, in numbers.
+///
+/// It is laid out as `zelmotar_saved` of the C header.
+#[repr(C)]
+#[derive(Clone, Copy, Debug, PartialEq, Eq)]
+#[must_use = "the status says whether there is a file"]
+pub struct Saved {
+    /// 0 for done, else the number of the refusal.
+    pub status: u32,
+    /// The number that the status names: a cell, or 0.
+    pub value: u32,
+    /// The end of the occupied cells afterwards, in cells.
+    pub top: usize,
+    /// The bytes of the file, 0 where it is refused.
+    pub length: usize,
+}
+
 extern "C" {
     fn zelmotar_check(words: *const u32, n: usize, top: usize) -> Reply;
     fn zelmotar_fresh(words: *mut u32, n: usize) -> Reply;
@@ -91,6 +108,8 @@ extern "C" {
         text: *const u8,
         text_n: usize,
     ) -> Typed;
+    fn zelmotar_save(words: *mut u32, n: usize, top: usize, file: *mut u8, file_n: usize) -> Saved;
+    fn zelmotar_load(words: *mut u32, n: usize, file: *const u8, file_n: usize) -> Reply;
 }
 
 /// Checks a store: 0, or refusals 1 to 3. Nothing is written, and `top` comes back as it came.
@@ -170,4 +189,27 @@ pub fn type_in(words: &mut [u32], top: usize, register: usize, text: &[u8]) -> T
     unsafe {
         zelmotar_type(words.as_mut_ptr(), words.len(), top, register, text.as_ptr(), text.len())
     }
+}
+
+/// Collects a store and writes it into `file`.
+///
+/// It answers 0 with the new `top` and the length of the file, and sets what is left of `file` to
+/// zero. It refuses with 1 to 3, and then words and `top` are as they came, or with 22, and then
+/// the store is collected and `top` is that of it; all of `file` is zero in both cases.
+pub fn save(words: &mut [u32], top: usize, file: &mut [u8]) -> Saved {
+    // SAFETY: each pointer and count are those of a slice that is borrowed alone, so the two do not
+    // overlap, and the function writes u32 to the one and bytes to the other, within their counts.
+    // It takes every `top` and every word.
+    unsafe { zelmotar_save(words.as_mut_ptr(), words.len(), top, file.as_mut_ptr(), file.len()) }
+}
+
+/// Writes the store that a file holds into `words`, whatever they held; `file` is only read.
+///
+/// It answers 0 with the `top` of the store; or refuses with 30 to 33, 35, 3 or 34, and then `top`
+/// is 0 and the words are as they came.
+pub fn load(words: &mut [u32], file: &[u8]) -> Reply {
+    // SAFETY: each pointer and count are those of a live slice. `words` is borrowed alone, so the
+    // two do not overlap, and the function writes u32 to it only, within its count. It takes every
+    // word and every byte.
+    unsafe { zelmotar_load(words.as_mut_ptr(), words.len(), file.as_ptr(), file.len()) }
 }

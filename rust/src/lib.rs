@@ -11,6 +11,7 @@
 //! - A **call** changes a register or asks something. Calls run in batches. Each has an [`Answer`].
 //! - A register is looked at where it lies, term by term, or printed as text into bytes that are lent.
 //!   Such a text can be typed into a register again.
+//! - A store is saved to a file, in bytes that are lent, and loaded from such bytes again.
 //! - A store that has no room for a call collects itself first. No answer shows when it did.
 //!
 //! ```
@@ -31,16 +32,19 @@
 //! assert_eq!(store.print(2, &mut [0; 80])?, "(65 66) 65");
 //! store.type_str(3, "(65 66) 65")?;
 //! assert_eq!(store.look(3), store.look(2));
+//! let file = store.to_file()?;
+//! assert_eq!(Store::from_file(&file)?, store);
 //! # Ok(())
 //! # }
 //! ```
 //!
 //! # Without an allocator
 //!
-//! The package uses `core` alone if its feature `alloc`, which is on by default, is turned off. What goes
-//! with it: `Store::new`, `Store::run`, `Store::run_all` and `Store::print_string`, and that terms are
-//! written out and compared. A store in lent words, [`Store::call`], [`Store::run_words`],
-//! [`Store::print`] and [`Store::type_in`] allocate nothing.
+//! The package uses `core` alone if its feature `alloc`, which is on by default, is turned off.
+//! What goes with it: `Store::new`, `Store::run`, `Store::run_all`, `Store::print_string`,
+//! `Store::to_file` and `Store::from_file`, and that terms are written out and compared. A store in
+//! lent words, [`Store::call`], [`Store::run_words`], [`Store::print`], [`Store::type_in`],
+//! [`Store::save`] and [`Store::load`] allocate nothing.
 //!
 //! # Linking
 //!
@@ -67,6 +71,7 @@ mod status;
 mod stopped;
 mod store;
 mod terms;
+mod trailer;
 
 pub use answer::{Answer, Fault, Refusal};
 pub use call::Call;
@@ -75,11 +80,12 @@ pub use status::{status_text, Status, STATUSES};
 pub use stopped::Stopped;
 pub use store::Store;
 pub use terms::{Term, Terms};
+pub use trailer::{file_bytes, Trailer, EDITION};
 
 /// The functions of the library as they are: slices go in, numbers come out.
 ///
 /// They are what [`Store`] is made of, for those who keep words and `top` themselves. All take any
-/// words, any `top`, any register and any text; what is out of range is refused by number.
+/// words, any `top`, any register, any text and any file; what is wrong is refused by number.
 ///
 /// ```
 /// use zelmotar::raw;
@@ -98,10 +104,17 @@ pub use terms::{Term, Terms};
 /// let typed = raw::type_in(&mut words, reply.top, 1, b"(65)");
 /// assert_eq!((typed.status, typed.top), (0, 19));
 /// assert_eq!(words[34..38], [65, 0, 17, 0x8000_0011]);
+/// let mut file = [7; 170];
+/// let saved = raw::save(&mut words, typed.top, &mut file);
+/// assert_eq!((saved.status, saved.top, saved.length), (0, 19, 168));
+/// assert_eq!(file[152..], [168, 0, 0, 0, 3, 0, 0, 0, 20, 0, 0, 0, 1, 0, 0, 0, 0, 0]);
+/// let mut others = [7; 40];
+/// let reply = raw::load(&mut others, &file[..saved.length]);
+/// assert_eq!((reply.status, reply.top, others), (0, 19, words));
 /// ```
 pub mod raw {
-    pub use crate::ffi::{check, collect, fresh, look, print, run, type_in};
-    pub use crate::ffi::{Reply, Span, Text, Typed};
+    pub use crate::ffi::{check, collect, fresh, load, look, print, run, save, type_in};
+    pub use crate::ffi::{Reply, Saved, Span, Text, Typed};
 }
 
 /// The number of registers.

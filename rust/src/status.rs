@@ -20,9 +20,10 @@ const fn row(number: u32, name: &'static str, text: &'static str) -> Status {
     Status { number, name, text }
 }
 
-/// Every status: done, the refusals of a whole request, those of one call, those of texts alone. A text
-/// that is typed in may be refused with 13 and 16 too.
-pub const STATUSES: [Status; 17] = [
+/// Every status: done, the refusals of a whole request, those of one call, those of texts and those
+/// of files. A text that is typed in may be refused with 13 and 16 too, and a file that is written
+/// with 22.
+pub const STATUSES: [Status; 23] = [
     row(0, "DONE", "done"),
     row(1, "BAD_LENGTH", "no store has that capacity"),
     row(2, "BAD_TOP", "top is out of range"),
@@ -40,6 +41,12 @@ pub const STATUSES: [Status; 17] = [
     row(21, "TOO_DEEP", "brackets are nested too deep"),
     row(22, "SHORT_SPACE", "the space is too short"),
     row(23, "NOT_TEXT", "no text of an expression"),
+    row(30, "SHORT_FILE", "the file is too short"),
+    row(31, "BAD_EDITION", "the file is of no known edition"),
+    row(32, "BAD_DISTANCE", "the file's distance is wrong"),
+    row(33, "BAD_CAPACITY", "the file's capacity is not allowed"),
+    row(34, "NOT_COLLECTED", "the file's store is not collected"),
+    row(35, "WRONG_SLICE", "the words lent are not twice the file's capacity"),
 ];
 
 /// What a status says; `no such status` of any other number.

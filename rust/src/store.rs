@@ -4,10 +4,11 @@
 use alloc::{string::String, vec, vec::Vec};
 use core::str::from_utf8;
 
+use crate::answer::no_status;
 use crate::ffi;
-use crate::{Answer, Call, Refusal, Terms};
 #[cfg(feature = "alloc")]
-use crate::{Stopped, MAX_CALLS, MAX_CELLS};
+use crate::{file_bytes, Stopped, Trailer, MAX_CALLS, MAX_CELLS};
+use crate::{Answer, Call, Refusal, Terms};
 
 /// What holds the words where a store's type does not say it: a vector, or without an allocator words
 /// that are lent for good.
@@ -81,6 +82,43 @@ impl Store<Vec<u32>> {
         let cells = capacity.min(MAX_CELLS + 1);
         Store::fresh(vec![0; 2 * cells])
     }
+
+    /// The store that a file holds, in words of its own, as many as the file's trailer asks for.
+    ///
+    /// Whatever the bytes are, no more is allocated than the largest store has.
+    ///
+    /// # Errors
+    ///
+    /// As for [`load`](Store::load), but for [`Refusal::WrongSlice`], which never comes.
+    ///
+    /// # Panics
+    ///
+    /// As every request: see [`Store`].
+    ///
+    /// ```
+    /// use zelmotar::{Refusal, Store};
+    ///
+    /// # fn main() -> Result<(), Refusal> {
+    /// let mut store = Store::new(64)?;
+    /// store.type_str(0, "(7 1 12)")?;
+    /// let mut file = store.to_file()?;
+    ///
+    /// let swapped = Store::from_file(&file)?;
+    /// assert_eq!(swapped, store);
+    /// assert_eq!(swapped.look(0).to_string(), "(7 1 12)");
+    ///
+    /// assert_eq!(Store::from_file(&file[1..]), Err(Refusal::BadDistance));
+    /// assert_eq!(Store::from_file(&file[..15]), Err(Refusal::ShortFile));
+    /// file[4] ^= 1; // A bit of the first heap cell, the symbol 7 in cell 16.
+    /// assert_eq!(Store::from_file(&file).unwrap_err().cell(), Some(16));
+    /// # Ok(())
+    /// # }
+    /// ```
+    pub fn from_file(file: &[u8]) -> Result<Self, Refusal> {
+        // A file that is refused for its trailer is refused whatever is lent.
+        let words = Trailer::of(file).map_or(0, Trailer::words);
+        Store::load(vec![0; words], file)
+    }
 }
 
 impl<W> Store<W> {
@@ -126,6 +164,55 @@ impl<W: AsRef<[u32]> + AsMut<[u32]>> Store<W> {
     pub fn fresh(mut words: W) -> Result<Self, Refusal> {
         let reply = ffi::fresh(words.as_mut());
         Refusal::of(reply)?;
+        Ok(Store { words, top: reply.top })
+    }
+
+    /// Writes the store that a file holds into `words`, whatever they held; they must be two for
+    /// each cell of the file's capacity, which [`Trailer::words`](crate::Trailer::words) tells. It
+    /// allocates nothing.
+    ///
+    /// The file is read from its end: bytes before its first heap cell do not count. It holds a
+    /// collected store, and this is it, word for word and with its `top`. [`save`](Store::save)
+    /// gives the same bytes again. A file has no checksum: changed bytes are refused only where
+    /// they are those of no store that is sound and collected.
+    ///
+    /// # Errors
+    ///
+    /// The first that applies, and a borrowed slice is then as it was:
+    ///
+    /// - [`Refusal::ShortFile`] if the file is under 16 bytes, and so has no trailer;
+    /// - [`Refusal::BadEdition`] if its edition is not [`EDITION`](crate::EDITION);
+    /// - [`Refusal::BadDistance`] if its distance is not 8(`n` + 16) + 16 for the `n` heap cells of
+    ///   the trailer, or more than the file has;
+    /// - [`Refusal::BadCapacity`] if its capacity is under 16 + `n` or over
+    ///   [`MAX_CELLS`](crate::MAX_CELLS);
+    /// - [`Refusal::WrongSlice`] if the number of words is not twice that capacity;
+    /// - [`Refusal::Damaged`] if a cell of the file breaks its rule; its address is the one that it
+    ///   has in the store;
+    /// - [`Refusal::NotCollected`] if a heap cell is reached from no register.
+    ///
+    /// # Panics
+    ///
+    /// As every request: see [`Store`].
+    ///
+    /// ```
+    /// use zelmotar::{Refusal, Store};
+    ///
+    /// # fn main() -> Result<(), Refusal> {
+    /// let mut file = [0; 200];
+    /// let length = Store::fresh([0; 36])?.save(&mut file)?;
+    /// let mut words = [7; 40];
+    /// let store = Store::load(&mut words[..36], &file[..length])?;
+    /// assert_eq!((store.capacity(), store.top()), (18, 16));
+    /// assert_eq!(Store::load(&mut words[..], &file[..length]), Err(Refusal::WrongSlice));
+    /// // With the zeros behind it, it is another file.
+    /// assert_eq!(Store::load(&mut words[..36], &file), Err(Refusal::BadEdition));
+    /// # Ok(())
+    /// # }
+    /// ```
+    pub fn load(mut words: W, file: &[u8]) -> Result<Self, Refusal> {
+        let reply = ffi::load(words.as_mut(), file);
+        Refusal::of_loaded(reply)?;
         Ok(Store { words, top: reply.top })
     }
 
@@ -511,6 +598,87 @@ impl<W: AsRef<[u32]> + AsMut<[u32]>> Store<W> {
     pub fn type_str(&mut self, register: usize, text: &str) -> Result<(), Refusal> {
         self.type_in(register, text.as_bytes())
     }
+
+    /// Collects the store, writes it into `space` as a file, and gives the length of the file. It
+    /// allocates nothing.
+    ///
+    /// The file is at the start of `space`, and the bytes after it become 0. They are no part of
+    /// it, as a file is read from its end: only `space[..length]` is to be kept. With
+    /// [`file_bytes`](crate::file_bytes) of `top` there is always room.
+    ///
+    /// # Errors
+    ///
+    /// As for [`check`](Store::check), and the store is then as it was. Then
+    /// [`Refusal::ShortSpace`] if the file has more bytes than `space`, and the store has been
+    /// collected. `space` is all 0 in both cases, whatever it held.
+    ///
+    /// # Panics
+    ///
+    /// As every request: see [`Store`].
+    ///
+    /// ```
+    /// use zelmotar::{file_bytes, Refusal, Store};
+    ///
+    /// # fn main() -> Result<(), Refusal> {
+    /// let mut words = [0; 40];
+    /// let mut store = Store::fresh(&mut words[..])?;
+    /// store.type_in(0, b"1 2 3")?;
+    /// store.type_in(0, b"7")?;
+    /// assert_eq!(store.top(), 20);
+    ///
+    /// let mut space = [1; file_bytes(20)];
+    /// assert_eq!(store.save(&mut space)?, file_bytes(17)); // One cell is live.
+    /// assert_eq!(store.top(), 17);
+    /// assert_eq!(space[..8], [7, 0, 0, 0, 0, 0, 0, 0]);
+    /// assert_eq!(space[file_bytes(17)..], [0; 24]);
+    ///
+    /// assert_eq!(store.save(&mut space[..151]), Err(Refusal::ShortSpace));
+    /// assert_eq!(space, [0; file_bytes(20)]);
+    /// # Ok(())
+    /// # }
+    /// ```
+    pub fn save(&mut self, space: &mut [u8]) -> Result<usize, Refusal> {
+        let saved = ffi::save(self.words.as_mut(), self.top, space);
+        self.top = saved.top;
+        Refusal::of_saved(saved)?;
+        Ok(saved.length)
+    }
+
+    /// Collects the store and gives its file, for [`load`](Store::load) or `from_file` on another
+    /// machine.
+    ///
+    /// # Errors
+    ///
+    /// As for [`check`](Store::check); the store is then as it was.
+    ///
+    /// # Panics
+    ///
+    /// As every request: see [`Store`].
+    ///
+    /// ```
+    /// use zelmotar::{Refusal, Store};
+    ///
+    /// # fn main() -> Result<(), Refusal> {
+    /// let mut store = Store::new(64)?;
+    /// store.type_str(0, "65 66")?;
+    /// store.type_str(0, "(67)")?;
+    /// let file = store.to_file()?;
+    /// assert_eq!((store.top(), file.len()), (18, 160));
+    ///
+    /// // Bytes before the first heap cell do not count.
+    /// let longer = [b"site 12\n", &file[..]].concat();
+    /// assert_eq!(Store::from_file(&longer)?.to_file()?, file);
+    /// # Ok(())
+    /// # }
+    /// ```
+    #[cfg(feature = "alloc")]
+    pub fn to_file(&mut self) -> Result<Vec<u8>, Refusal> {
+        // A greater `top` is refused whatever is lent.
+        let mut file = vec![0; file_bytes(self.top.min(MAX_CELLS))];
+        let length = self.save(&mut file)?;
+        file.truncate(length);
+        Ok(file)
+    }
 }
 
 /// The answer to `call` in its two words.
@@ -519,7 +687,5 @@ impl<W: AsRef<[u32]> + AsMut<[u32]>> Store<W> {
 ///
 /// If the status is no number of the library's, so that something else is linked in its place.
 fn read(call: Call, answer: &[u32]) -> Answer {
-    Answer::from_words(call, answer[0], answer[1]).unwrap_or_else(|| {
-        panic!("the linked library answers {}, which is no status of zelmotar", answer[0])
-    })
+    Answer::from_words(call, answer[0], answer[1]).unwrap_or_else(|| no_status(answer[0]))
 }

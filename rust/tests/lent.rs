@@ -1,7 +1,7 @@
 //! A store in lent words, with nothing that allocates: what is left of the package without its feature
 //! `alloc`. The tests are run with it and without.
 
-use zelmotar::{raw, status_text, Answer, Call, Fault, Refusal, Store, Term};
+use zelmotar::{file_bytes, raw, status_text, Answer, Call, Fault, Refusal, Store, Term, Trailer};
 
 #[test]
 fn a_store_in_an_array() {
@@ -62,6 +62,26 @@ fn a_text_typed_into_an_array() {
 }
 
 #[test]
+fn a_store_saved_into_an_array_and_loaded_from_it() {
+    let mut store = Store::fresh([0; 40]).expect("the length is allowed");
+    assert_eq!(store.type_in(1, b"(65) ()"), Ok(()));
+    assert_eq!(store.type_in(1, b"7"), Ok(()));
+    assert_eq!(store.top(), 20);
+    let mut space = [7; file_bytes(20)];
+    assert_eq!(store.save(&mut space[..151]), Err(Refusal::ShortSpace));
+    assert_eq!((store.top(), &space[150..153]), (17, &[0, 7, 7][..]));
+    assert_eq!(store.save(&mut space), Ok(152));
+    let file = &space[..152];
+    assert_eq!(Trailer::of(file).map(Trailer::words), Some(40));
+    let mut words = [7; 42];
+    assert_eq!(Store::load(&mut words, file), Err(Refusal::WrongSlice));
+    assert_eq!(words, [7; 42]);
+    let loaded = Store::load(&mut words[..40], file).expect("the file is good");
+    assert_eq!((loaded.top(), loaded.words()), (17, store.words()));
+    assert_eq!(loaded.print(1, &mut [7; 1]), Ok("7"));
+}
+
+#[test]
 fn a_static_store_needs_no_other_type() {
     // Without an allocator `Store` alone means one whose words are lent for good.
     #[cfg(not(feature = "alloc"))]
@@ -88,8 +108,8 @@ fn what_is_said_needs_no_allocator() {
     assert_eq!(format!("{:?}", store.look(0)), "Terms((()))");
 }
 
-/// A reply, a span, a text and a typed text whose fields differ, each field read by its name and by its
-/// place.
+/// A reply, a span, a text, a typed text and a save whose fields differ, each field read by its name and by
+/// its place.
 #[test]
 fn each_field_of_an_answer_is_where_c_has_it() {
     assert_eq!(core::mem::offset_of!(raw::Reply, status), 0);
@@ -107,6 +127,11 @@ fn each_field_of_an_answer_is_where_c_has_it() {
     assert_eq!(core::mem::offset_of!(raw::Typed, value), size_of::<usize>());
     assert_eq!(core::mem::offset_of!(raw::Typed, top), 2 * size_of::<usize>());
     assert_eq!(size_of::<raw::Typed>(), 3 * size_of::<usize>());
+    assert_eq!(core::mem::offset_of!(raw::Saved, status), 0);
+    assert_eq!(core::mem::offset_of!(raw::Saved, value), 4);
+    assert_eq!(core::mem::offset_of!(raw::Saved, top), 8);
+    assert_eq!(core::mem::offset_of!(raw::Saved, length), 8 + size_of::<usize>());
+    assert_eq!(size_of::<raw::Saved>(), 8 + 2 * size_of::<usize>());
 
     // Register 0 on cells 17 and 18, and a bracket around itself in cell 19.
     let mut words = [0; 48];
@@ -118,6 +143,8 @@ fn each_field_of_an_answer_is_where_c_has_it() {
     assert_eq!((text.status, text.value, text.length), (0, 0, 3));
     let typed = raw::type_in(&mut words, 21, 0, b"65 (66 x");
     assert_eq!((typed.status, typed.value, typed.top), (23, 7, 21));
+    let saved = raw::save(&mut words.clone(), 21, &mut [7; 200]);
+    assert_eq!((saved.status, saved.value, saved.top, saved.length), (0, 0, 18, 160));
     words[38..40].copy_from_slice(&[19, 0x8000_0000 + 19]);
     for reply in [raw::check(&words, 21), raw::collect(&mut words, 21)] {
         assert_eq!((reply.status, reply.value, reply.top), (3, 19, 21));
@@ -128,10 +155,14 @@ fn each_field_of_an_answer_is_where_c_has_it() {
     assert_eq!((text.status, text.value, text.length), (3, 19, 0));
     let typed = raw::type_in(&mut words, 21, 0, b"65");
     assert_eq!((typed.status, typed.value, typed.top), (3, 19, 21));
+    let saved = raw::save(&mut words, 21, &mut [7; 200]);
+    assert_eq!((saved.status, saved.value, saved.top, saved.length), (3, 19, 21, 0));
     // Every byte of a `top` crosses, both ways.
     let top = usize::MAX / 255 * 0xa5 - 1;
     let reply = raw::check(&words, top);
     assert_eq!((reply.status, reply.value, reply.top), (2, 0, top));
     let typed = raw::type_in(&mut words, top, 0, b"65");
     assert_eq!((typed.status, typed.value, typed.top), (2, 0, top));
+    let saved = raw::save(&mut words, top, &mut [7; 200]);
+    assert_eq!((saved.status, saved.value, saved.top, saved.length), (2, 0, top, 0));
 }

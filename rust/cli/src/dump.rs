@@ -6,7 +6,6 @@
 
 use std::ffi::OsStr;
 use std::fmt::Write;
-use std::fs;
 
 use zelmotar::{Store, REGISTERS};
 
@@ -41,7 +40,11 @@ pub fn read(name: &OsStr, top: Option<u32>) -> Result<Store, Stop> {
 }
 
 /// The words in bytes.
-fn of_bytes(bytes: &[u8]) -> Result<Vec<u32>, String> {
+///
+/// # Errors
+///
+/// A sentence, if they are no whole words.
+pub fn of_bytes(bytes: &[u8]) -> Result<Vec<u32>, String> {
     if bytes.len() % 4 != 0 {
         return Err(format!("{} bytes are no whole words of four bytes", bytes.len()));
     }
@@ -101,8 +104,7 @@ fn number(word: &[u8]) -> Result<u32, String> {
 ///
 /// [`Stop::Usage`] if the file cannot be written.
 pub fn write(name: &OsStr, store: &Store) -> Result<(), Stop> {
-    fs::write(name, written(store))
-        .map_err(|error| Stop::Usage(format!("cannot write {}: {error}", name.to_string_lossy())))
+    input::write(name, written(store))
 }
 
 /// A store as a text, a cell a line.

@@ -1,4 +1,4 @@
-//! Files and standard input, read whole up to a limit.
+//! Files and standard input, read whole up to a limit; files, written whole.
 
 use std::ffi::OsStr;
 use std::fs::{self, File};
@@ -47,6 +47,16 @@ fn take(from: impl Read) -> io::Result<Vec<u8>> {
     let mut bytes = Vec::new();
     from.take(MOST_BYTES as u64 + 1).read_to_end(&mut bytes)?;
     Ok(bytes)
+}
+
+/// Writes a file.
+///
+/// # Errors
+///
+/// [`Stop::Usage`] if it cannot be written.
+pub fn write(name: &OsStr, bytes: impl AsRef<[u8]>) -> Result<(), Stop> {
+    fs::write(name, bytes)
+        .map_err(|error| Stop::Usage(format!("cannot write {}: {error}", name.to_string_lossy())))
 }
 
 /// A text without the mark that some editors put at its start.

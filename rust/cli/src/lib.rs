@@ -6,7 +6,8 @@
 //! - [`args`], [`input`], [`outcome`]: arguments, files, and how a command ends
 //! - [`call`], [`batch`]: calls and batches as they are written; [`steps`] runs them one by one
 //! - [`dump`]: a store in a file; [`cells`]: what the words of a cell say
-//! - [`run`], [`ask`], [`show`], [`mod@print`], [`typing`], [`check`], [`draw`]: a command each
+//! - [`run`], [`ask`], [`show`], [`mod@print`], [`typing`], [`check`], [`draw`], [`save`], [`load`]:
+//!   a command each
 //! - [`svg`], [`plots`]: drawings, and those of docs/BENCHMARKS.md
 
 #![warn(missing_docs)]
@@ -22,10 +23,12 @@ pub mod draw;
 pub mod dump;
 pub mod expression;
 pub mod input;
+pub mod load;
 pub mod outcome;
 pub mod plots;
 pub mod print;
 pub mod run;
+pub mod save;
 pub mod show;
 pub mod steps;
 pub mod svg;

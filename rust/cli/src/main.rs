@@ -7,7 +7,7 @@ use std::io::{self, BufWriter, Write};
 use std::process::ExitCode;
 
 use zelmotar_cli::outcome::{Ended, Outcome, Stop};
-use zelmotar_cli::{ask, check, draw, print, run, show, typing};
+use zelmotar_cli::{ask, check, draw, load, print, run, save, show, typing};
 
 const HELP: &str = include_str!("help.txt");
 
@@ -19,7 +19,8 @@ fn command(words: &[OsString], out: &mut dyn Write) -> Ended {
     }
     let Some((name, rest)) = words.split_first() else {
         return Err(Stop::Usage(
-            "which command? run, ask, show, print, type, draw or check (zelmotar-cli --help)"
+            "which command? run, ask, show, print, type, draw, check, save or load \
+             (zelmotar-cli --help)"
                 .into(),
         ));
     };
@@ -31,6 +32,8 @@ fn command(words: &[OsString], out: &mut dyn Write) -> Ended {
         Some("type") => typing::command(rest, out),
         Some("draw") => draw::command(rest, out),
         Some("check") => check::command(rest, out),
+        Some("save") => save::command(rest, out),
+        Some("load") => load::command(rest, out),
         _ => {
             let name = name.to_string_lossy();
             Err(Stop::Usage(format!("there is no command `{name}` (zelmotar-cli --help)")))

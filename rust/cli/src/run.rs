@@ -12,7 +12,7 @@ use crate::expression;
 use crate::input;
 use crate::outcome::{Ended, Outcome, Stop};
 use crate::steps::{self, Freed, Step};
-use crate::{dump, outcome};
+use crate::{dump, outcome, save};
 
 /// The letters of an expression that stands beside a call.
 const BESIDE: usize = 72;
@@ -23,7 +23,7 @@ pub const ALONE: usize = 2000;
 const TAKES: Takes = Takes {
     command: "run",
     flags: &["--strict", "--plain", "--bytes"],
-    valued: &["--dump"],
+    valued: &["--dump", "--save"],
     names: "one batch file",
     count: (1, 1),
 };
@@ -35,9 +35,8 @@ const TAKES: Takes = Takes {
 /// As [`Stop`] says.
 pub fn command(words: &[OsString], out: &mut dyn Write) -> Ended {
     let args = Args::read(&TAKES, words)?;
-    if args.has("--bytes")
-        && (args.has("--plain") || args.has("--strict") || args.value("--dump").is_some())
-    {
+    let leaves = args.value("--dump").is_some() || args.value("--save").is_some();
+    if args.has("--bytes") && (args.has("--plain") || args.has("--strict") || leaves) {
         return Err(Stop::Usage(
             "run --bytes runs nothing, so no other option goes with it".into(),
         ));
@@ -58,6 +57,9 @@ pub fn command(words: &[OsString], out: &mut dyn Write) -> Ended {
     };
     if let Some(name) = args.value("--dump") {
         dump::write(name, &store)?;
+    }
+    if let Some(name) = args.value("--save") {
+        input::write(name, save::file(&mut store)?)?;
     }
     Ok(if any_refused && args.has("--strict") { Outcome::CallRefused } else { Outcome::Done })
 }

@@ -354,6 +354,87 @@ fn a_batch_leaves_a_dump_of_text_and_bytes_are_one_too() {
 }
 
 #[test]
+fn a_dump_is_saved_and_loaded() {
+    let (p2, saved) = (tracked("examples/p2.dump"), made("p2.saved", ""));
+    let sentence = "192 bytes: 24 cells, top 22, 6 of 6 occupied heap cells live.\n";
+    ends(&tool(&[&"save", &p2, &saved]), 0, &format!("Saved in {sentence}"));
+    let file = fs::read(&saved).unwrap();
+    assert_eq!(file[..8], [65, 0, 0, 0, 0, 0, 0, 0]);
+    assert_eq!(file[176..], [192, 0, 0, 0, 6, 0, 0, 0, 24, 0, 0, 0, 1, 0, 0, 0]);
+    assert_eq!(tool(&[&"save", &p2, &"-"]).stdout, file);
+
+    let registers = "register 0: (66 67 68) (65 66 67)\nthe other registers are empty\n";
+    let dump = made("loaded.dump", "");
+    let loaded = tool(&[&"load", &saved, &"--dump", &dump]);
+    ends(&loaded, 0, &format!("Loaded from {sentence}{registers}"));
+    assert_eq!(fed(&file, &[&"load", &"-"]).stdout, loaded.stdout);
+    assert_eq!(tool(&[&"show", &dump]).stdout, tool(&[&"show", &"--collected", &p2]).stdout);
+    let longer = [b"site 12\n", &file[..]].concat();
+    ends(&fed(&longer, &[&"load", &"-"]), 0, "Loaded from 200 bytes: 24 cells, top 22, ");
+    assert_eq!(tool(&[&"save", &dump, &"-"]).stdout, file);
+}
+
+#[test]
+fn what_a_batch_leaves_is_saved() {
+    let (first, saved) = (tracked("examples/first.batch"), made("first.saved", ""));
+    let quiet = tool(&[&"run", &first, &"--save", &saved]);
+    assert_eq!(quiet.stdout, tool(&[&"run", &first]).stdout);
+    ends(
+        &tool(&[&"load", &saved]),
+        0,
+        "Loaded from 168 bytes: 20 cells, top 19, 3 of 3 occupied heap cells live.\n\
+         register 2: 65 66\nregister 3: (65 66)\nthe other registers are empty\n",
+    );
+    // The dump is of the store as the calls left it, and the saved store is collected.
+    let batch = made("dead.batch", "CAPACITY 20\nSYMBOL 0 65\nSYMBOL 0 66\n");
+    let dump = made("dead.dump", "");
+    ends(&tool(&[&"run", &batch, &"--save", &saved, &"--dump", &dump]), 0, "top 18\n");
+    ends(&tool(&[&"check", &dump]), 0, "top 18, 1 of 2 occupied heap cells live");
+    ends(&tool(&[&"load", &saved]), 0, "top 17, 1 of 1 occupied heap cells live");
+    ends(&tool(&[&"run", &"--bytes", &"--save", &saved, &first]), 2, "run --bytes runs nothing");
+}
+
+#[test]
+fn a_saved_store_that_is_refused_is_said_with_its_status() {
+    let saved = tool(&[&"save", &tracked("examples/p2.dump"), &"-"]).stdout;
+    let changed = |at: usize, byte: u8| {
+        let mut file = saved.clone();
+        file[at] = byte;
+        file
+    };
+    for (file, sentence) in [
+        (saved[..10].to_vec(), "-: refused with 30: the file is too short: it has 10 bytes"),
+        (saved[..100].to_vec(), "-: refused with 31: the file is of no known edition: it is "),
+        (saved[1..].to_vec(), "-: refused with 32: the file's distance is wrong: it is 192, "),
+        (changed(180, 7), "it is 192, and for 7 heap cells must be 200\n"),
+        (changed(184, 21), "-: refused with 33: the file's capacity is not allowed: it is 21, "),
+        (changed(36, 20), "-: refused with 3: a cell breaks its rule: cell 20, a heap cell, is "),
+        (changed(48, 21), "-: refused with 34: the file's store is not collected: no register "),
+    ] {
+        let output = fed(&file, &[&"load", &"-"]);
+        ends(&output, 3, sentence);
+        assert!(output.stdout.is_empty());
+    }
+    ends(&fed(b"", &[&"load", &"-"]), 3, "it has 0 bytes, and a trailer has 16\n");
+}
+
+#[test]
+fn files_that_cannot_be_saved_or_loaded() {
+    let p2 = tracked("examples/p2.dump");
+    let kept = made("kept.saved", "kept");
+    let damaged = made("unsaved.dump", "TOP 16\n0 0 0\n");
+    ends(&tool(&[&"save", &damaged, &kept]), 3, "No store has 3 words");
+    assert_eq!(fs::read(&kept).unwrap(), b"kept");
+    ends(&tool(&[&"load", &kept]), 3, "kept.saved: refused with 30: ");
+    ends(&tool(&[&"save", &p2, &"/no/such/folder/x"]), 2, "cannot write /no/such/folder/x");
+    ends(&tool(&[&"save", &p2]), 2, "save takes a dump file and the file to save to");
+    ends(&tool(&[&"load"]), 2, "load takes one saved store, and here are 0");
+    ends(&tool(&[&"load", &"no-such.saved"]), 2, "cannot read no-such.saved: no such file");
+    ends(&tool(&[&"load", &tracked("examples")]), 2, "it is a folder");
+    ends(&tool(&[&"load", &p2]), 3, "refused with 31: ");
+}
+
+#[test]
 fn the_drawings_of_p2_are_those_in_the_docs() {
     let p2 = tracked("examples/p2.dump");
     let before = tool(&[&"draw", &"--title", &"P2 before collecting", &p2]);

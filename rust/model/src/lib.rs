@@ -7,16 +7,18 @@
 //!   rules by eye. It says what every word must be.
 //! - [`trees`]: expressions with no addresses. It says what every call means, what is printed, and what a
 //!   text means that is typed in.
+//! - [`files`]: the store as a file, saved and loaded.
 //! - [`ordinary`]: the same store written for speed, the measure of the benchmarks.
 //! - [`random`]: repeatable random numbers.
-//! - [`make`]: random stores, damage, call lists, text spaces and texts.
+//! - [`make`]: random stores, damage, call lists, text spaces, texts and files.
 //!
-//! The tests of this package hold [`plain`], [`trees`] and [`ordinary`] against each other and need
-//! no library.
+//! The tests of this package hold [`plain`], [`trees`] and [`ordinary`] against each other, and
+//! [`files`] against what is said of a file, and need no library.
 
 #![warn(missing_docs)]
 #![forbid(unsafe_code)]
 
+pub mod files;
 pub mod make;
 pub mod ordinary;
 pub mod plain;

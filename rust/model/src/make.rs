@@ -1,4 +1,4 @@
-//! Random stores, damage, call lists, text spaces and texts.
+//! Random stores, damage, call lists, text spaces, texts and, in [`files`], files.
 //!
 //! Stores are made cell by cell and not by calls, so that they have overlapping runs, dead cells
 //! between live ones and brackets that no call would lay. Small capacities are the most frequent:
@@ -7,6 +7,8 @@
 //! those of an expression, then spoilt or cut; and stores for them have about as much room as they need.
 //! Stores in which room is short hold little that is dead, and are as long as new cells can just be laid in
 //! them, or just not.
+
+pub mod files;
 
 use crate::plain::{self, put, Cell, BRACKET, FIRST_HEAP_CELL, MAX_CELLS, MAX_CODE, MAX_DEPTH};
 use crate::random::Random;
@@ -343,7 +345,7 @@ pub fn text_end(words: &[u32], top: usize, register: usize, most: usize) -> usiz
     fits.take(most).count()
 }
 
-/// A text space full of junk, for a text of `end` bytes: exact, longer or too short.
+/// A space full of junk, for a text or a file of `end` bytes: exact, longer or too short.
 pub fn text_space(random: &mut Random, end: usize) -> Vec<u8> {
     let length = match random.below(10) {
         0 => 0,

@@ -1,13 +1,15 @@
 //! The same store written for speed, the measure of the benchmarks.
 //!
-//! It is what one writes who may use memory beside the store: marks in a side table and a table of
-//! new addresses, all kept from call to call so that nothing is allocated twice. A store chooses
-//! how it [checks](Checks) and how it [marks](Marks), and nothing else differs. There are three:
-//! [`Usual`], [`WithBits`] and [`Better`].
+//! It is what one writes who may use memory beside the store: marks in a side table, a table of new
+//! addresses and a copy of what is loaded, all kept from call to call so that nothing is allocated
+//! twice. A store chooses how it [checks](Checks) and how it [marks](Marks), and nothing else
+//! differs. There are three: [`Usual`], [`WithBits`] and [`Better`].
 //!
-//! Statuses, values and words are those of [`plain`](crate::plain); a test holds them equal.
+//! Statuses, values and words are those of [`plain`](crate::plain), and of [`files`](crate::files);
+//! tests hold them equal.
 
 mod checks;
+mod files;
 mod marks;
 mod texts;
 
@@ -16,17 +18,20 @@ pub use marks::{BitSet, ByteSet, Linear, Marks, Set, Walk};
 
 use texts::Tree;
 
+use crate::files::Saved;
 use crate::plain::{
     Reply, Text, Typed, BRACKET, FIRST_HEAP_CELL, MAX_CALL_WORDS, MAX_CELLS, MAX_CODE,
 };
 
-/// The store with a check, a way of marking, the side tables of the collector and the tree of a text.
+/// The store with a check, a way of marking, the side tables of the collector, the tree of a text and
+/// the cells of a file.
 #[derive(Debug, Default)]
 pub struct Ordinary<C, M> {
     checks: C,
     marks: M,
     place: Vec<u32>,
     tree: Tree,
+    cells: Vec<u32>,
 }
 
 /// The usual store: checked cell by cell, marked with a byte a cell.
@@ -230,6 +235,41 @@ impl<C: Checks, M: Marks> Ordinary<C, M> {
         }
         let top = self.compact(words, top);
         Reply { status: 0, value: (top - FIRST_HEAP_CELL) as u32, top }
+    }
+
+    /// Saves the store into a space.
+    pub fn save(&mut self, words: &mut [u32], top: usize, space: &mut [u8]) -> Saved {
+        let Reply { status, value, top } = self.collect(words, top);
+        let written = match status {
+            0 => files::write(words, top, space),
+            _ => Err(status),
+        };
+        let length = *written.as_ref().unwrap_or(&0);
+        space[length..].fill(0);
+        let value = if status == 0 { 0 } else { value };
+        Saved { status: written.err().unwrap_or(0), value, top, length }
+    }
+
+    /// Loads a file. Its cells are judged in a table of their own, since the words must stay as they
+    /// are where it is refused.
+    pub fn load(&mut self, words: &mut [u32], file: &[u8]) -> Reply {
+        let refused = |status, value| Reply { status, value, top: 0 };
+        let top = match files::judge(file, words.len()) {
+            Ok(top) => top,
+            Err(status) => return refused(status, 0),
+        };
+        self.cells.resize(2 * top, 0);
+        files::read(&mut self.cells, file);
+        if let Some(c) = self.checks.damaged(&self.cells, top) {
+            return refused(3, c as u32);
+        }
+        if FIRST_HEAP_CELL + self.marks.mark(&self.cells, top) != top {
+            return refused(34, 0);
+        }
+        let (occupied, free) = words.split_at_mut(2 * top);
+        occupied.copy_from_slice(&self.cells);
+        free.fill(0);
+        Reply { status: 0, value: 0, top }
     }
 
     /// Makes room for `need` cells, collecting if it must. Unless `d` is `kept` it is emptied first, and set

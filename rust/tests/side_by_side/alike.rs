@@ -172,6 +172,8 @@ fn compare(stores: &[Lent; 2], turns: &[Turn]) -> Result<Ran, String> {
         statuses: calls.iter().map(|(_, answer)| answer.0).collect(),
         freed: false,
         texts: texts.iter().map(|(_, &answer)| answer).collect(),
+        saved: None,
+        loaded: None,
     })
 }
 

@@ -1,4 +1,4 @@
-//! Raw bytes as store, calls, answer space and text.
+//! Raw bytes as store, calls, answer space, text and file.
 //!
 //! Byte strings are changed at random and read as a case; one that shows something new is kept and
 //! changed further. 100,000 strings are tried, or as many as fit in `ZELMOTAR_FUZZ_SECONDS`.
@@ -11,11 +11,15 @@ use std::collections::HashSet;
 use std::env;
 use std::time::{Duration, Instant};
 
+use zelmotar_model::make::files::{file, trailer_word, Kind};
 use zelmotar_model::make::{self, Runs};
+use zelmotar_model::plain;
 use zelmotar_model::random::Random;
 
 use crate::case::{answers_for, Case, Ran};
-use crate::tally::{Tally, BATCH_STATUSES, CALL_STATUSES, TYPE_STATUSES};
+use crate::tally::{
+    Tally, BATCH_STATUSES, CALL_STATUSES, LOAD_STATUSES, SAVE_STATUSES, TYPE_STATUSES,
+};
 
 const HEAD: usize = 12;
 const USUAL_COUNT: usize = 100_000;
@@ -63,14 +67,21 @@ fn write(case: &Case) -> Vec<u8> {
         .collect()
 }
 
-/// A case to start from.
+/// A case to start from. The answer space is a text or, one time in three, a file for as many words.
 fn seed(random: &mut Random) -> Case {
     let (capacity, runs) = (random.within(16..=30), random.pick(&[Runs::Short, Runs::Any]));
-    let (words, top) = make::sound(random, capacity, runs);
+    let (mut words, mut top) = make::sound(random, capacity, runs);
     let count = random.below(12);
     let calls = make::calls(random, count);
     let space = calls.len() / 2 + random.below(3);
-    let answers = answers_for(&make::text(random), space);
+    let mut answers = answers_for(&make::text(random), space);
+    if random.one_in(3) {
+        let kind = random.pick(&[Kind::Good, Kind::Uncollected]);
+        let file = file(random, capacity, kind);
+        words = vec![0; 2 * trailer_word(&file, 2).expect("it has a trailer") as usize];
+        top = plain::fresh(&mut words).top;
+        answers = Reader(&file).words(file.len() / 4);
+    }
     Case { words, top, calls, answers, register: random.below(17) }
 }
 
@@ -136,15 +147,18 @@ fn changed_byte_strings() {
     let mut random = Random::of("byte strings");
     let mut kept: Vec<Vec<u8>> = (0..40).map(|_| write(&seed(&mut random))).collect();
     let (mut seen, mut tally, go_on) = (HashSet::new(), Tally::default(), clock());
-    // How far a text is read is told apart from the rest: both at once would be new too often.
-    let mut read_so_far = HashSet::new();
+    // How far a text is read, and what is answered of files, are told apart from the rest: all at once would
+    // be new too often.
+    let (mut read_so_far, mut filed_so_far) = (HashSet::new(), HashSet::new());
     let mut done = 0;
     while go_on(done) {
         let mut bytes = kept[random.below(kept.len())].clone();
         let other = kept[random.below(kept.len())].clone();
         (0..=random.below(4)).for_each(|_| change(&mut random, &mut bytes, &other));
         let ran = read(&bytes).hold();
-        let is_new = seen.insert(shown(&ran)) | read_so_far.insert(ran.texts.clone());
+        let is_new = seen.insert(shown(&ran))
+            | read_so_far.insert(ran.texts.clone())
+            | filed_so_far.insert((ran.saved, ran.loaded));
         if is_new && kept.len() < MOST_KEPT {
             kept.push(bytes);
         }
@@ -153,6 +167,7 @@ fn changed_byte_strings() {
     }
     tally.print("byte strings");
     tally.assert_met(&BATCH_STATUSES, &CALL_STATUSES, &TYPE_STATUSES);
+    tally.assert_met_in_files(&SAVE_STATUSES, &LOAD_STATUSES);
 }
 
 #[test]

@@ -3,7 +3,7 @@
 use std::fmt;
 
 use zelmotar::{raw, Store};
-use zelmotar_model::{plain, random};
+use zelmotar_model::{files, plain, random};
 
 use crate::guarded::Guarded;
 use crate::shrink::{lessened, shrunk};
@@ -12,8 +12,9 @@ use crate::shrink::{lessened, shrunk};
 /// a rule.
 const LETTERS: [u8; 16] = *b"(0123456789) () ";
 
-/// What goes into the seven functions of the library. The answer space serves as text space too, four
-/// bytes a word. Those bytes up to the first 255 are the text that is typed in, each for one of [`LETTERS`].
+/// What goes into the nine functions of the library. The answer space serves as text space too, four
+/// bytes a word, as the space that the store is saved into, and as the file that is loaded into its words.
+/// Those bytes up to the first 255 are the text that is typed in, each for one of [`LETTERS`].
 #[derive(Clone, Debug)]
 pub struct Case {
     pub words: Vec<u32>,
@@ -34,6 +35,10 @@ pub struct Ran {
     pub freed: bool,
     /// The status and the value of each text that is typed in.
     pub texts: Vec<(u32, usize)>,
+    /// The status and the value of the store when it is saved.
+    pub saved: Option<(u32, u32)>,
+    /// The status and the value of the file when it is loaded.
+    pub loaded: Option<(u32, u32)>,
 }
 
 /// The reply of the model in the library's type.
@@ -63,6 +68,17 @@ fn same_words(entry: &str, library: &[u32], model: &[u32]) -> Result<(), String>
     }
 }
 
+/// Says where two byte lists differ.
+fn same_bytes(entry: &str, library: &[u8], model: &[u8]) -> Result<(), String> {
+    match library.iter().zip(model).position(|(ours, theirs)| ours != theirs) {
+        None => Ok(()),
+        Some(i) => Err(format!(
+            "{entry}: byte {i} is {} by the library and {} by the model",
+            library[i], model[i]
+        )),
+    }
+}
+
 /// Prints a register by the library and by the model, and says what differs first; else gives what both
 /// answer. Where there is a text, it is what the terms of a look are written as.
 pub fn compare_print(
@@ -81,10 +97,7 @@ pub fn compare_print(
         return Err(format!("print: the library answers {library:?}, the model {model:?}"));
     }
     let our_space = our_space.opened("text space of print")?;
-    if let Some(i) = (0..space.len()).find(|&i| our_space[i] != their_space[i]) {
-        let (ours, theirs) = (our_space[i], their_space[i]);
-        return Err(format!("print: byte {i} is {ours} by the library and {theirs} by the model"));
-    }
+    same_bytes("print", &our_space, &their_space)?;
     let looked = match status {
         0 => Store::from_parts(ours.lent(), top).look(register).to_string(),
         _ => String::new(),
@@ -120,8 +133,44 @@ pub fn compare_type(
     }
 }
 
+/// Saves a store by the library and by the model, and says what differs first; else gives what both answer,
+/// with the words and the bytes that they leave.
+pub fn compare_save(
+    words: &[u32],
+    top: usize,
+    space: &[u8],
+) -> Result<(files::Saved, Vec<u32>, Vec<u8>), String> {
+    let (mut ours, mut our_space) = (Guarded::around(words), Guarded::around(space));
+    let (mut theirs, mut their_space) = (words.to_vec(), space.to_vec());
+    let raw::Saved { status, value, top: new_top, length } =
+        raw::save(ours.lent(), top, our_space.lent());
+    let library = files::Saved { status, value, top: new_top, length };
+    let model = files::save(&mut theirs, top, &mut their_space);
+    if library != model {
+        return Err(format!("save: the library answers {library:?}, the model {model:?}"));
+    }
+    same_bytes("save", &our_space.opened("space of save")?, &their_space)?;
+    same_words("save", &ours.opened("save")?, &theirs)?;
+    Ok((model, theirs, their_space))
+}
+
+/// Loads a file by the library and by the model, and says what differs first; else gives what both answer, with
+/// the words that they leave.
+pub fn compare_load(words: &[u32], file: &[u8]) -> Result<(plain::Reply, Vec<u32>), String> {
+    let (mut ours, mut our_file) = (Guarded::around(words), Guarded::around(file));
+    let mut theirs = words.to_vec();
+    let library = raw::load(ours.lent(), our_file.lent());
+    let model = files::load(&mut theirs, file);
+    same_reply("load", library, model)?;
+    same_words("load", &ours.opened("load")?, &theirs)?;
+    match our_file.opened("file of load")? == file {
+        true => Ok((model, theirs)),
+        false => Err("load: the file is written, and not only read".to_string()),
+    }
+}
+
 impl Case {
-    /// Runs the case through all seven functions, and says what differs first.
+    /// Runs the case through all nine functions, and says what differs first.
     pub fn compare(&self) -> Result<Ran, String> {
         self.compare_check()?;
         self.compare_fresh()?;
@@ -132,7 +181,14 @@ impl Case {
         let letters = space.iter().take_while(|&&byte| byte != 255);
         let text: Vec<u8> = letters.map(|byte| LETTERS[usize::from(byte % 16)]).collect();
         let typed = compare_type(&self.words, self.top, self.register, &text)?;
-        Ok(Ran { texts: vec![(typed.status, typed.value)], ..self.compare_run()? })
+        let (saved, ..) = compare_save(&self.words, self.top, &space)?;
+        let (loaded, _) = compare_load(&self.words, &space)?;
+        Ok(Ran {
+            texts: vec![(typed.status, typed.value)],
+            saved: Some((saved.status, saved.value)),
+            loaded: Some((loaded.status, loaded.value)),
+            ..self.compare_run()?
+        })
     }
 
     /// Runs the case and fails with a small version of it if anything differs.
@@ -214,6 +270,8 @@ impl Case {
             statuses: answers.chunks(2).take(count).map(|answer| answer[0]).collect(),
             freed: reply.top < self.top,
             texts: Vec::new(),
+            saved: None,
+            loaded: None,
         }
     }
 }

@@ -1,10 +1,12 @@
-//! The safe wrapper: its calls, its answers, its stores, a list that stops at a refusal, and texts printed
-//! and typed in.
+//! The safe wrapper: its calls, its answers, its stores, a list that stops at a refusal, texts printed and
+//! typed in, and files.
 
 use zelmotar::{
-    status_text, Answer, Call, Fault, Refusal, Stopped, Store, MAX_CALLS, MAX_CELLS, MAX_CODE,
-    MAX_DEPTH, STATUSES,
+    file_bytes, raw, status_text, Answer, Call, Fault, Refusal, Stopped, Store, Trailer, EDITION,
+    MAX_CALLS, MAX_CELLS, MAX_CODE, MAX_DEPTH, STATUSES,
 };
+use zelmotar_model::files;
+use zelmotar_model::make::files::{file, Kind};
 use zelmotar_model::make::{self, Runs};
 use zelmotar_model::random::Random;
 
@@ -122,8 +124,9 @@ fn every_status_has_its_own_number_name_and_text() {
         }
     }
     let numbers: Vec<u32> = STATUSES.iter().map(|status| status.number).collect();
-    assert_eq!(numbers, [0, 1, 2, 3, 4, 5, 10, 11, 12, 13, 14, 15, 16, 20, 21, 22, 23]);
-    for number in [6, 9, 17, 19, 24, u32::MAX] {
+    let expected = [0..=5, 10..=16, 20..=23, 30..=35].into_iter().flatten();
+    assert_eq!(numbers, expected.collect::<Vec<u32>>());
+    for number in [6, 9, 17, 19, 24, 29, 36, u32::MAX] {
         assert_eq!(status_text(number), "no such status");
     }
 }
@@ -442,4 +445,119 @@ fn the_longest_text_that_there_is_room_for() {
     assert_eq!(store.type_str(1, &long), Err(Refusal::NotText { offset: 1_000_000 }));
     assert_eq!(store.type_str(1, &(long + "7")), Err(Refusal::NoRoom));
     assert_eq!(store.type_str(1, &"9".repeat(1_000_000)), Err(Refusal::BadCode { offset: 8 }));
+}
+
+/// A full store of 24 cells with `(7 1 12) 65` in register 3, and three dead cells.
+fn readings() -> Store {
+    let mut store = fresh(24);
+    for text in ["1 2 3", "(7 1 12) 65"] {
+        store.type_str(3, text).expect("there is room");
+    }
+    store
+}
+
+#[test]
+fn a_file_is_a_part_of_the_space_that_is_lent() {
+    let mut store = readings();
+    let mut space = vec![b'?'; 200];
+    let top = store.top();
+    assert_eq!(store.save(&mut space[..183]), Err(Refusal::ShortSpace));
+    // The store is collected all the same, and says so.
+    assert!(store.top() < top);
+    assert_eq!((store.top(), store.look(3).to_string()), (21, "(7 1 12) 65".into()));
+    assert_eq!((&space[..183], &space[183..]), (&[0; 183][..], &[b'?'; 17][..]));
+    assert_eq!(store.save(&mut space[..190]), Ok(file_bytes(21)));
+    assert_eq!((file_bytes(21), &space[184..]), (184, &b"\0\0\0\0\0\0??????????"[..]));
+    let file = &space[..184];
+    assert_eq!(store.to_file().as_deref(), Ok(file));
+    let trailer = Trailer { distance: 184, heap_cells: 5, capacity: 24, edition: EDITION };
+    assert_eq!((Trailer::of(file), trailer.words()), (Some(trailer), 48));
+    assert_eq!(Store::from_file(file).as_ref(), Ok(&store));
+    let mut words = [7; 48];
+    let loaded = Store::load(&mut words, file).expect("it is as many words as it asks for");
+    assert_eq!((loaded.top(), loaded.words()), (store.top(), store.words()));
+}
+
+#[test]
+fn every_refusal_of_a_file_by_name() {
+    let good = readings().to_file().expect("the store is sound");
+    let with = |at: usize, byte: u8| {
+        let mut file = good.clone();
+        file[at] = byte;
+        file
+    };
+    let end = good.len();
+    // Cell 16 is the 7. Register 3 has five heap cells and three registers before it, and cell 20, the 65,
+    // as its right end.
+    let damaged = Store::from_file(&with(4, 1)).expect_err("7 is no symbol then");
+    let rows = [
+        (good[..15].to_vec(), Refusal::ShortFile, 30),
+        (with(end - 4, 2), Refusal::BadEdition, 31),
+        (good[1..].to_vec(), Refusal::BadDistance, 32),
+        (with(end - 8, 20), Refusal::BadCapacity, 33),
+        (with(end - 5, 128), Refusal::BadCapacity, 33),
+        (with(8 * 8 + 4, 19), Refusal::NotCollected, 34),
+        (with(4, 1), damaged, 3),
+    ];
+    for (file, refusal, number) in rows {
+        assert_eq!(Store::from_file(&file), Err(refusal));
+        let mut words = [7; 48];
+        assert_eq!(Store::load(&mut words, &file), Err(refusal));
+        assert_eq!(words, [7; 48]);
+        assert_eq!((refusal.number(), refusal.offset()), (number, None));
+        let (cell, place) = if number == 3 { (Some(16), ": cell 16") } else { (None, "") };
+        assert_eq!(refusal.cell(), cell);
+        assert_eq!(refusal.to_string(), status_text(number).to_owned() + place);
+    }
+    for n in [0, 24, 47, 49, 96] {
+        assert_eq!(Store::load(vec![7; n], &good), Err(Refusal::WrongSlice));
+    }
+    assert_eq!(Refusal::WrongSlice.number(), 35);
+}
+
+#[test]
+fn a_store_that_is_refused_is_not_saved() {
+    let damaged = Store::from_parts(vec![0; 32], 16);
+    let rows = [
+        (Store::from_parts(vec![0; 33], 16), 1),
+        (Store::from_parts(vec![0; 32], usize::MAX), 2),
+        (damaged, 3),
+    ];
+    for (mut store, number) in rows {
+        let (before, mut space) = (store.clone(), [b'?'; 200]);
+        let refusal = store.save(&mut space).expect_err("each is refused");
+        assert_eq!((refusal.number(), space), (number, [0; 200]));
+        assert_eq!(store.to_file(), Err(refusal));
+        assert_eq!(store, before);
+    }
+}
+
+/// The wrapper takes the words that a file asks for, whatever it asks for, and its answer is that of the
+/// library.
+#[test]
+fn files_of_every_kind_have_the_words_that_they_ask_for() {
+    let mut random = Random::of("wrapped files");
+    let mut met = [0; 36];
+    for round in 0..20_000 {
+        let (capacity, kind) = (make::capacity(&mut random), Kind::ALL[round % Kind::ALL.len()]);
+        let file = file(&mut random, capacity, kind);
+        let n = Trailer::of(&file).map_or(0, Trailer::words);
+        let mut words = vec![7; n];
+        let reply = raw::load(&mut words, &file);
+        match Store::from_file(&file) {
+            Ok(mut store) => {
+                assert_eq!((0, reply.top, &words[..]), (reply.status, store.top(), store.words()));
+                let distance = files::distance(store.top() as u64 - 16) as usize;
+                assert_eq!(store.to_file().as_deref(), Ok(&file[file.len() - distance..]));
+                assert_eq!(file_bytes(store.top()), distance);
+            }
+            Err(refusal) => {
+                assert_eq!(refusal.number(), reply.status);
+                assert_eq!(refusal.cell().unwrap_or(0), reply.value);
+            }
+        }
+        met[reply.status as usize] += 1;
+    }
+    assert!([0, 3, 30, 31, 32, 33, 34].iter().all(|&status| met[status] > 20), "{met:?}");
+    assert_eq!(met[35], 0, "{met:?}");
 }

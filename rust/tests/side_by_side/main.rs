@@ -1,4 +1,5 @@
-//! The linked library beside the model: every status, value, word, `top`, answer word and byte of text.
+//! The linked library beside the model: every status, value, word, `top`, answer word and byte of a text
+//! or a file.
 //!
 //! Random numbers are repeatable; `ZELMOTAR_SEED` sets another seed than the usual one. A case that
 //! differs is made smaller by dropping calls, then printed. In order:
@@ -9,10 +10,11 @@
 //! - [`batches`]: random stores, sound and damaged, with random lists and answer spaces.
 //! - [`prints`]: random registers, printed into text spaces of every length.
 //! - [`types`]: random texts, typed into stores that have about as much room as they need.
+//! - [`files`]: random stores saved as files, and files of every kind loaded.
 //! - [`room`]: calls and texts on nearly full stores, where what a register holds makes room or does not.
 //! - [`meaning`]: call for call, and text for text, against expressions with no addresses.
 //! - [`alike`]: stores that differ in dead cells, collections and cuts between batches only.
-//! - [`bytes`]: raw bytes as store, calls, answer space and text.
+//! - [`bytes`]: raw bytes as store, calls, answer space, text and file.
 //!
 //! [`act`], [`case`], [`guarded`], [`pages`], [`shrink`] and [`tally`] serve these. Cases lend their words
 //! and bytes between pages that fault when touched.
@@ -23,6 +25,7 @@ mod batches;
 mod bytes;
 mod case;
 mod face;
+mod files;
 mod guarded;
 mod meaning;
 mod pages;

@@ -50,7 +50,8 @@ pub fn compare(words: &[u32], top: usize, acts: &[Act]) -> Result<Ran, String> {
             Act::Text(..) => texts.push(answer),
         }
     }
-    Ok(Ran { status: 0, value: 0, statuses, freed: false, texts })
+    let (saved, loaded) = (None, None);
+    Ok(Ran { status: 0, value: 0, statuses, freed: false, texts, saved, loaded })
 }
 
 #[test]

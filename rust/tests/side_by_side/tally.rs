@@ -19,6 +19,12 @@ pub const PRINT_STATUSES: [u32; 7] = [0, 1, 2, 3, 20, 21, 22];
 /// Every number that a text typed in can be answered with.
 pub const TYPE_STATUSES: [u32; 9] = [0, 1, 2, 3, 13, 16, 20, 21, 23];
 
+/// Every number that a save can be answered with.
+pub const SAVE_STATUSES: [u32; 5] = [0, 1, 2, 3, 22];
+
+/// Every number that a load can be answered with.
+pub const LOAD_STATUSES: [u32; 8] = [0, 3, 30, 31, 32, 33, 34, 35];
+
 /// Each status with its count.
 fn listed(counts: &BTreeMap<u32, usize>) -> String {
     counts.iter().map(|(status, count)| format!(" {status}:{count}")).collect()
@@ -133,17 +139,60 @@ impl Rooms {
     }
 }
 
-/// Counts of cases, and of batches, calls and texts typed in by status.
+/// Counts of files saved or loaded by their kind and status, and by what more is to be said of them.
+#[derive(Default)]
+pub struct Files {
+    kinds: BTreeMap<&'static str, BTreeMap<u32, usize>>,
+    came: BTreeMap<&'static str, usize>,
+}
+
+impl Files {
+    /// Counts one file of a kind, and what came of it, which may have several names.
+    pub fn add(&mut self, kind: &'static str, status: u32, came: &[&'static str]) {
+        *self.kinds.entry(kind).or_default().entry(status).or_default() += 1;
+        for name in came {
+            *self.came.entry(name).or_default() += 1;
+        }
+    }
+
+    /// Prints the counts.
+    pub fn print(&self, name: &str) {
+        let count = self.kinds.values().flat_map(BTreeMap::values).sum::<usize>();
+        let kinds = self.kinds.iter().map(|(kind, counts)| format!("; {kind}{}", listed(counts)));
+        let (kinds, came) = (kinds.collect::<String>(), named(&self.came));
+        say(name, &format!("{count} files{kinds}{came}"));
+    }
+
+    /// Asserts that files of a kind were answered each of the given statuses so many times.
+    pub fn assert_met(&self, kind: &str, statuses: &[u32], least: usize) {
+        for status in statuses {
+            let count = self.kinds.get(kind).and_then(|counts| counts.get(status)).unwrap_or(&0);
+            assert!(*count >= least, "{kind}: {count} were answered {status}");
+        }
+    }
+
+    /// Asserts that each of the given names occurred so many times.
+    pub fn assert_came(&self, names: &[&str], least: usize) {
+        for name in names {
+            let count = *self.came.get(name).unwrap_or(&0);
+            assert!(count >= least, "{name}: {count}");
+        }
+    }
+}
+
+/// Counts of cases, and of batches, calls, texts typed in, stores saved and files loaded by status.
 #[derive(Default)]
 pub struct Tally {
     cases: usize,
     batches: BTreeMap<u32, usize>,
     calls: BTreeMap<u32, usize>,
     texts: BTreeMap<u32, usize>,
+    saves: BTreeMap<u32, usize>,
+    loads: BTreeMap<u32, usize>,
 }
 
 impl Tally {
-    /// Counts one case and what its batch, calls and texts were answered.
+    /// Counts one case and what all that is in it was answered.
     pub fn add(&mut self, ran: &Ran) {
         self.cases += 1;
         *self.batches.entry(ran.status).or_default() += 1;
@@ -153,13 +202,25 @@ impl Tally {
         for &(status, _) in &ran.texts {
             *self.texts.entry(status).or_default() += 1;
         }
+        for (counts, answer) in [(&mut self.saves, ran.saved), (&mut self.loads, ran.loaded)] {
+            if let Some((status, _)) = answer {
+                *counts.entry(status).or_default() += 1;
+            }
+        }
     }
 
     /// Prints the counts.
     pub fn print(&self, name: &str) {
-        let [batches, calls, texts] = [&self.batches, &self.calls, &self.texts].map(listed);
-        let cases = self.cases;
-        say(name, &format!("{cases} cases; batches{batches}; calls{calls}; texts{texts}"));
+        let counted = [
+            ("batches", &self.batches),
+            ("calls", &self.calls),
+            ("texts", &self.texts),
+            ("saves", &self.saves),
+            ("loads", &self.loads),
+        ];
+        let met = counted.iter().filter(|(_, counts)| !counts.is_empty());
+        let met = met.map(|(name, counts)| format!("; {name}{}", listed(counts)));
+        say(name, &format!("{} cases{}", self.cases, met.collect::<String>()));
     }
 
     /// Asserts that each of the given statuses did occur.
@@ -172,6 +233,16 @@ impl Tally {
         }
         for status in texts {
             assert!(self.texts.contains_key(status), "no text was answered {status}");
+        }
+    }
+
+    /// Asserts that each of the given statuses did occur when a store was saved or a file loaded.
+    pub fn assert_met_in_files(&self, saves: &[u32], loads: &[u32]) {
+        for status in saves {
+            assert!(self.saves.contains_key(status), "no save was answered {status}");
+        }
+        for status in loads {
+            assert!(self.loads.contains_key(status), "no load was answered {status}");
         }
     }
 }

@@ -1,4 +1,7 @@
-//! Rows that are worked out by hand: P1 to P12, T1 to T24, and the rows that are only run.
+//! Rows that are worked out by hand: P1 to P12, T1 to T24, in [`files`] those of files, and the rows that are
+//! only run.
+
+mod files;
 
 use zelmotar::raw::{self, Reply, Text, Typed};
 use zelmotar::{Answer, Call, Fault, Refusal, Store};
@@ -75,13 +78,9 @@ fn overlapping() -> Vec<u32> {
     )
 }
 
-#[test]
-fn p2_and_p3_overlapping_runs_close_up_once() {
-    let mut store = Store::from_parts(overlapping(), 23);
-    assert_eq!(store.look(0).to_string(), "(66 67 68) (65 66 67)");
-    assert_eq!(store.collect(), Ok(6));
-    assert_eq!(store.top(), 22);
-    let expected = words(
+/// The same collected. Its `top` is 22.
+fn closed_up() -> Vec<u32> {
+    words(
         24,
         &[
             (0, [20, EMPTY + 21]),
@@ -92,11 +91,19 @@ fn p2_and_p3_overlapping_runs_close_up_once() {
             (20, [17, EMPTY + 19]),
             (21, [16, EMPTY + 18]),
         ],
-    );
-    assert_eq!(store.words(), expected);
+    )
+}
+
+#[test]
+fn p2_and_p3_overlapping_runs_close_up_once() {
+    let mut store = Store::from_parts(overlapping(), 23);
     assert_eq!(store.look(0).to_string(), "(66 67 68) (65 66 67)");
     assert_eq!(store.collect(), Ok(6));
-    assert_eq!((store.top(), store.words()), (22, &expected[..]));
+    assert_eq!(store.top(), 22);
+    assert_eq!(store.words(), closed_up());
+    assert_eq!(store.look(0).to_string(), "(66 67 68) (65 66 67)");
+    assert_eq!(store.collect(), Ok(6));
+    assert_eq!((store.top(), store.words()), (22, &closed_up()[..]));
 }
 
 #[test]

@@ -1,10 +1,12 @@
-//! Random cases for the definitions, as a module of antt: stores, calls, answer spaces, text spaces, texts
-//! and inputs with what the model makes of them.
+//! Random cases for the definitions, as a module of antt: stores, calls, answer spaces, text spaces, texts,
+//! files and inputs with what the model makes of them.
 //!
 //! `cases COUNT` writes the module to standard output. The definitions compute each case when the
 //! module is checked. A group of cases is one theorem, so that a refusal names its group.
 
 use std::fmt::Write;
+use zelmotar_model::files::{self, Saved};
+use zelmotar_model::make::files::{put_trailer_word, trailer_word, Kind};
 use zelmotar_model::make::{self, Runs};
 use zelmotar_model::plain::{self, Reply, Text, Typed, FIRST_HEAP_CELL};
 use zelmotar_model::random::Random;
@@ -18,6 +20,12 @@ const MAX_CELLS: usize = 30;
 /// And so do text spaces and texts, all but a few in which as many brackets fit as may be open.
 const MAX_TEXT: usize = 60;
 
+/// The longest file: that of such a store, with a few bytes or another short one before it.
+const MAX_FILE: usize = 8 * (MAX_CELLS + 1) + 16 + 176;
+
+/// The largest capacity that a file may tell. None over the limit is allowed, however large.
+const MAX_TOLD: u32 = 10_000;
+
 /// Everything before the cases: their type, and the test of each kind.
 const HEAD: &str = "\
 -- Random cases, written by a program from the model. Assumes nothing.
@@ -28,6 +36,7 @@ use lib.Dec.{eqb, T}
 use Rattle.bytes.specs.Decimal.{decimal}
 use Rattle.bytes.specs.Space.{filled}
 use Rattle.meaning.specs.Limits.{firstHeapCell, limit, codeTest, depthLimit, callsLimit, programCells, programBytes}
+use Rattle.meaning.specs.Limits.{edition}
 use Rattle.meaning.specs.Sound.{at}
 use Rattle.meaning.specs.Meaning.{meaning}
 use Rattle.meaning.specs.Reach.{reached, live}
@@ -47,6 +56,8 @@ use Rattle.meaning.specs.Judge.{isDigit, withDigit, firstMove, laterMove, moreM
 use Rattle.meaning.specs.Reader.{atStart, isWhole, stopVerdict, read, blank}
 use Rattle.meaning.specs.Lay.{newCells}
 use Rattle.meaning.specs.Typed.{typedOf, typeIn}
+use Rattle.meaning.specs.File.{Saved, firstOf, fileWords, fileOf, trailer, cellsIn, image, distanceTest}
+use Rattle.meaning.specs.File.{capacityTest, checkStore, checkAs, checkFile, loadIn, savedAs, saveIn}
 use Rattle.meaning.specs.Program.{written, refusal, output, inputFault, program}
 use Rattle.meaning.specs.Rows.{same}
 
@@ -57,6 +68,8 @@ data Case : Type 0 where
   looks : List ℕ → ℕ → ℕ → ℕ → ℕ → Case
   prints : List ℕ → ℕ → ℕ → ℕ → ℕ → ℕ → ℕ → List ℕ → Case
   types : List ℕ → ℕ → ℕ → List ℕ → ℕ → ℕ → List ℕ → ℕ → Case
+  saves : List ℕ → ℕ → ℕ → ℕ → ℕ → ℕ → List ℕ → ℕ → List ℕ → Case
+  loads : List ℕ → List ℕ → ℕ → ℕ → List ℕ → ℕ → Case
   writes : List ℕ → List ℕ → Case
 
 verdict : Verdict → ℕ → ℕ → Bool
@@ -75,6 +88,10 @@ span s from to = eqb (s .from) from && eqb (s .to) to
 textual : Printed → ℕ → ℕ → ℕ → List ℕ → Bool
 textual p s v n t = verdict (p .verdict) s v && eqb (p .size) n && same (p .space) t
 
+filed : Saved → ℕ → ℕ → ℕ → List ℕ → ℕ → List ℕ → Bool
+filed r s v n ws top bs =
+    verdict (r .verdict) s v && eqb (r .size) n && same (r .words) ws && eqb (r .top) top && same (r .space) bs
+
 right : Case → Bool
 right (batches ws top calls out s v ws′ top′ answers) =
     outcome (batch firstHeapCell ws top calls out) s v ws′ top′ answers
@@ -83,6 +100,8 @@ right (makes ws s ws′ top′) = left (freshIn firstHeapCell ws) s 0 ws′ top�
 right (looks ws top i from to) = span (lookSpan firstHeapCell ws top i) from to
 right (prints ws top i n s v m t) = textual (printIn firstHeapCell ws top i n) s v m t
 right (types ws top d bs s v ws′ top′) = left (typeIn firstHeapCell ws top d bs) s v ws′ top′
+right (saves ws top n s v m ws′ top′ bs) = filed (saveIn edition firstHeapCell ws top n) s v m ws′ top′ bs
+right (loads bs ws s v ws′ top′) = left (loadIn bs ws) s v ws′ top′
 right (writes input said) = same (program firstHeapCell input) said
 
 every : List Case → Bool
@@ -98,7 +117,9 @@ unfolding limit codeTest callsLimit programCells programBytes at reached live ne
     codeFirst newSymbol newBracket newRunOf newRun names isOperand keeps sought planOf lacks roomWords roomTop
     withRoom carryOut perform stepAfter step ended callsTest batchOf batch decimal written refusal output inputFault
     program depthLimit meaning leftAfter tooDeep filled printed printIn isDigit withDigit firstMove laterMove moreMove
-    atStart isWhole stopVerdict read blank newCells typedOf typeIn verdict outcome left span textual right every";
+    atStart isWhole stopVerdict read blank newCells typedOf typeIn firstOf fileWords fileOf trailer cellsIn image
+    distanceTest capacityTest checkStore checkAs checkFile loadIn savedAs saveIn verdict outcome left span textual filed
+    right every";
 
 /// A list of numbers in antt.
 fn list<T: std::fmt::Display>(numbers: &[T]) -> String {
@@ -240,6 +261,51 @@ fn typed(random: &mut Random) -> String {
     format!("types {lent} {status} {value} {} {top}", list(&words))
 }
 
+/// A store saved.
+fn saved(random: &mut Random) -> String {
+    let (mut words, top) = store(random);
+    let mut space = make::files::space(random, &words, top);
+    let lent = format!("{} {top} {}", list(&words), space.len());
+    let Saved { status, value, top, length } = files::save(&mut words, top, &mut space);
+    format!("saves {lent} {status} {value} {length} {} {top} {}", list(&words), list(&space))
+}
+
+/// A short file of any kind; now and then one without a trailer, or with a capacity that is too small or
+/// too large.
+fn file(random: &mut Random) -> Vec<u8> {
+    let mut file = loop {
+        let capacity = random.within(FIRST_HEAP_CELL..=MAX_CELLS);
+        let kind = match random.one_in(5) {
+            true => Kind::Uncollected,
+            false => random.pick(&Kind::ALL),
+        };
+        let file = make::files::file(random, capacity, kind);
+        if file.len() <= MAX_FILE && trailer_word(&file, 2).is_none_or(|word| word <= MAX_TOLD) {
+            break file;
+        }
+    };
+    match (random.below(20), trailer_word(&file, 1)) {
+        (0, _) => file.truncate(random.below(16)),
+        (1 | 2, Some(heap_cells)) => {
+            let capacity = random.pick(&[15, heap_cells.wrapping_add(15), 4_097]);
+            put_trailer_word(&mut file, 2, capacity.min(MAX_TOLD));
+        }
+        _ => {}
+    }
+    file
+}
+
+/// A file loaded into a few words of any kind.
+fn loaded(random: &mut Random) -> String {
+    let file = file(random);
+    let mut words = make::files::slice(random, &file);
+    let most = random.pick(&[36, 2 * MAX_CELLS + 4, 2 * MAX_CELLS + 4]);
+    words.truncate(most);
+    let lent = format!("{} {}", list(&file), list(&words));
+    let Reply { status, value, top } = files::load(&mut words, &file);
+    format!("loads {lent} {status} {value} {} {top}", list(&words))
+}
+
 /// The little-endian word that four bytes spell.
 fn word(bytes: &[u8]) -> u32 {
     u32::from_le_bytes(bytes.try_into().expect("four bytes"))
@@ -276,13 +342,15 @@ fn program(random: &mut Random) -> String {
 
 /// One case of any kind, batches more often than not.
 fn case(random: &mut Random) -> String {
-    match random.below(17) {
+    match random.below(18) {
         0..=4 => batch(random),
         5..=6 => collection(random),
         7 => fresh(random),
         8 => look(random),
         9..=11 => print(random),
         12..=15 => typed(random),
+        16 if random.one_in(3) => saved(random),
+        16 => loaded(random),
         _ => program(random),
     }
 }
