@@ -16,18 +16,25 @@
 //     print R N       register R goes as text to a space of N bytes, each of them 7
 //     type R "TEXT"   the text between the quotes, which may have no bytes, is typed into register R;
 //                     a comma with a blank behind it would end the step
+//     save N          the store goes as a file to a space of N bytes, each of them 7
+//     byte I B, less N, more N    byte I of that file becomes B; N bytes less at its front; N bytes
+//                     more there, each of them 7
+//     load N          N words are lent, each of them 7, and the file is loaded into them
 //     bytes N B ..    the program reads N bytes: these, then zeros
 //     word W in N     the four bytes of W go to a space of N bytes, each of them 7, then zeros
 // A batch answers with its status and value, `run`; if it is run, with those of each call; with the
-// words of the answer space after those, `answers`; and with `top`. `check`, `fresh`, `collect` and
-// `type` answer with status, value and `top`, a look with its two word numbers, a print with status,
-// value and length, then with the bytes of its space, `space`. The cells come last.
+// words of the answer space after those, `answers`; and with `top`. `check`, `fresh`, `collect`, `type`
+// and `load` answer with status, value and `top`, a look with its two word numbers, a print with
+// status, value and length, then with the bytes of its space, `space`; `save` with status, value,
+// `top` and length, then with the bytes of its space, four to an answer, `bytes I`. The cells come
+// last.
 #![allow(warnings)]
 mod build;
 mod bytes;
 mod calls;
 mod capi;
 mod collect;
+mod file;
 mod meaning;
 mod reader;
 mod serve;
@@ -83,6 +90,7 @@ struct Lent {
     ws: String,
     t: String,
     space: Option<usize>,
+    file: Vec<u8>,
     batch: Vec<(String, Vec<u32>)>,
     said: Option<String>,
 }
@@ -215,10 +223,40 @@ impl Lent {
                 let done = format!("(typeIn 16 {ws} {t} {r} ({}))", list(&typed));
                 self.answered(text, a.status, a.value as u32, a.top, done);
             }
+            ("save", &[n]) => self.save(text, n as usize),
+            ("byte", &[i, b]) => self.file[i as usize] = b as u8,
+            ("less", &[n]) => drop(self.file.drain(..n as usize)),
+            ("more", &[n]) => drop(self.file.splice(..0, vec![7; n as usize])),
+            ("load", &[n]) => {
+                self.words = vec![7; n as usize];
+                let a = capi::zelmotar_load(&mut self.words, &self.file);
+                let file: Vec<u32> = self.file.iter().map(|&b| b as u32).collect();
+                let done = format!("(loadIn ({}) (replicate {n} 7))", list(&file));
+                self.answered(text, a.status, a.value, a.top, done);
+            }
             ("bytes", [n, first @ ..]) => program(*n as usize, first),
             ("word", &[w, n]) => self.word(w, n as usize),
             _ => panic!("no step is `{text}`"),
         }
+    }
+
+    // The file is what the space has of it, for the steps that load it.
+    fn save(&mut self, text: &str, n: usize) {
+        let mut space = vec![7; n];
+        let done = format!("(saveIn edition 16 {} {} {n})", self.ws, self.t);
+        let a = capi::zelmotar_save(&mut self.words, self.top, &mut space);
+        let term = format!(
+            "{done} .verdict .status ∷ {done} .verdict .value ∷ {done} .top ∷ {done} .size ∷ []"
+        );
+        self.say(text, &[a.status, a.value, a.top as u32, a.length as u32], term);
+        for (i, four) in space.chunks(4).enumerate() {
+            let four: Vec<u32> = four.iter().map(|&b| b as u32).collect();
+            let term = format!("take 4 (drop {} ({done} .space))", 4 * i);
+            self.say(&format!("bytes {}", 4 * i), &four, term);
+        }
+        space.truncate(a.length);
+        self.file = space;
+        self.left(a.top, done);
     }
 
     fn word(&self, w: u32, n: usize) {
@@ -243,8 +281,8 @@ fn main() {
     let mut args = std::env::args().skip(1);
     let input = args.next().expect("an input");
     let (ws, t) = ("[]".to_string(), "16".to_string());
-    let mut lent =
-        Lent { words: vec![], top: 16, ws, t, space: None, batch: vec![], said: args.next() };
+    let (said, words, batch, file) = (args.next(), vec![], vec![], vec![]);
+    let mut lent = Lent { words, top: 16, ws, t, space: None, file, batch, said };
     input.split(", ").for_each(|step| lent.step(step));
     lent.run();
     for (c, cell) in lent.words.chunks(2).enumerate() {
