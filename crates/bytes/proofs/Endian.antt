@@ -46,29 +46,26 @@ word-at (a ∷ b ∷ c ∷ d ∷ bs) (suc j) h =
 pub word-none : (bs : List ℕ) (j : ℕ) → length bs / 4 ≤ j → getD (wordsOf bs) j 0 ≡ 0
 word-none bs j h = List·getD-eq-default (wordsOf bs) 0 (omega (arith, words-length bs))
 
-pub words-take : (k : ℕ) (bs : List ℕ) → wordsOf (take (4 * k) bs) ≡ take k (wordsOf bs)
-words-take zero bs = refl
-words-take (suc k) bs = let e : 4 * suc k ≡ suc (suc (suc (suc (4 * k)))) = omega arith in rw e (go bs (words-take k))
+-- the first n bytes have the first k words, and those after them the rest
+abbrev Cut : ℕ → ℕ → List ℕ → Type 0
+Cut n k bs = (wordsOf (take n bs) ≡ take k (wordsOf bs)) × (wordsOf (drop n bs) ≡ drop k (wordsOf bs))
+
+words-cut : (k : ℕ) (bs : List ℕ) → Cut (4 * k) k bs
+words-cut zero bs = (refl, refl)
+words-cut (suc k) bs = let e : 4 * suc k ≡ suc (suc (suc (suc (4 * k)))) = omega arith in rw e (go bs (words-cut k))
   where
-    go : (xs : List ℕ) → ((ys : List ℕ) → wordsOf (take (4 * k) ys) ≡ take k (wordsOf ys))
-        → wordsOf (take (suc (suc (suc (suc (4 * k))))) xs) ≡ take (suc k) (wordsOf xs)
-    go [] r = refl
-    go (a ∷ []) r = refl
-    go (a ∷ b ∷ []) r = refl
-    go (a ∷ b ∷ c ∷ []) r = refl
-    go (a ∷ b ∷ c ∷ d ∷ xs) r = ap (λ (x : List ℕ). four a b c d ∷ x) (r xs)
+    go : (xs : List ℕ) → ((ys : List ℕ) → Cut (4 * k) k ys) → Cut (suc (suc (suc (suc (4 * k))))) (suc k) xs
+    go [] r = (refl, refl)
+    go (a ∷ []) r = (refl, refl)
+    go (a ∷ b ∷ []) r = (refl, refl)
+    go (a ∷ b ∷ c ∷ []) r = (refl, refl)
+    go (a ∷ b ∷ c ∷ d ∷ xs) r = (ap (λ (x : List ℕ). four a b c d ∷ x) (r xs .0), r xs .1)
+
+pub words-take : (k : ℕ) (bs : List ℕ) → wordsOf (take (4 * k) bs) ≡ take k (wordsOf bs)
+words-take k bs = words-cut k bs .0
 
 pub words-drop : (k : ℕ) (bs : List ℕ) → wordsOf (drop (4 * k) bs) ≡ drop k (wordsOf bs)
-words-drop zero bs = refl
-words-drop (suc k) bs = let e : 4 * suc k ≡ suc (suc (suc (suc (4 * k)))) = omega arith in rw e (go bs (words-drop k))
-  where
-    go : (xs : List ℕ) → ((ys : List ℕ) → wordsOf (drop (4 * k) ys) ≡ drop k (wordsOf ys))
-        → wordsOf (drop (suc (suc (suc (suc (4 * k))))) xs) ≡ drop (suc k) (wordsOf xs)
-    go [] r = refl
-    go (a ∷ []) r = refl
-    go (a ∷ b ∷ []) r = refl
-    go (a ∷ b ∷ c ∷ []) r = refl
-    go (a ∷ b ∷ c ∷ d ∷ xs) r = r xs
+words-drop k bs = words-cut k bs .1
 
 pub bytes-append : (xs ys : List ℕ) → bytesOf (xs ++ ys) ≡ bytesOf xs ++ bytesOf ys
 bytes-append [] ys = refl

@@ -37,7 +37,7 @@ filled-length n xs =
     length-take-le n (xs ++ replicate n 0)
     (omega (arith, length-append xs (replicate n 0), length-replicate {A = ℕ} n 0))
 
-pub filled-at : (n : ℕ) (xs : List ℕ) (i : ℕ) → i < n → getD (filled n xs) i 0 ≡ getD xs i 0
+filled-at : (n : ℕ) (xs : List ℕ) (i : ℕ) → i < n → getD (filled n xs) i 0 ≡ getD xs i 0
 unfolding filled
 filled-at n xs i h = getD-take n (xs ++ replicate n 0) i 0 h ∙ padded-at xs n i
 

@@ -1,4 +1,12 @@
--- A window's notes: one cell more, and what a look along them tells. Assumes nothing.
+-- A window's notes: one cell more, and what a look along them tells. In order:
+--   noted-none, noted-run          a cell without a run that belongs to the window, and one with such a run
+--   window-length, noted-begin     before the first cell
+--   noted-turn                     a turn of the loop over the cells
+--   between-past, held-past        a cell is held where a run that begins at or before it reaches beyond it
+--   past-or, past-none             how far the runs reach that pass one test or another, or none
+--   along-held                     a look along a window tells whether each of its cells is held
+--   look-end, look-stop, look-turn the loop of the look
+-- Assumes nothing.
 use mathlib.Core.Path.{_≡_, refl, sym, ap, ap₂, _∙_, subst}
 use mathlib.Core.Bool.{Bool, true, false, cond, _&&_, _||_}
 use mathlib.Core.List.{List, [], _∷_}
@@ -19,7 +27,7 @@ use Rattle.file.specs.Windows.{heldFrom, pastIf, past, placed, Noted, no
 
 -- ---- one cell more
 
-pub noted-length : (w : ℕ) (b : Cell) (far : List ℕ) → length (noted w b far) ≡ length far
+noted-length : (w : ℕ) (b : Cell) (far : List ℕ) → length (noted w b far) ≡ length far
 noted-length w (code a) far = refl
 noted-length w empty far = refl
 noted-length w (ends l r) far = length-set far (l - w) (max (getD far (l - w) 0) (suc r))
@@ -39,7 +47,7 @@ noted-place w (ends l r) far j x h e = go (eqb (l - w) j) refl
         rw q (getD-set-other far (l - w) j (max (getD far (l - w) 0) (suc r)) 0 (λ d. eqb-false (l - w) j q (sym d))
         ∙ (e ∙ sym (zero-max x)))
 
-pub noted-step : (k : ℕ → Cell) (m w : ℕ) (far : List ℕ) → Noted k m w far → Noted k (suc m) w (noted w (k m) far)
+noted-step : (k : ℕ → Cell) (m w : ℕ) (far : List ℕ) → Noted k m w far → Noted k (suc m) w (noted w (k m) far)
 noted-step k m w far h j l =
     let g : j < length far = subst (λ (y : ℕ). j < y) (noted-length w (k m) far) l in
     noted-place w (k m) far j (past (placed w j) k m) g (h j g)

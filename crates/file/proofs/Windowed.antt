@@ -1,5 +1,8 @@
--- The heap window by window: cells that are held one after the other; and a store all of whose heap cells are held is
--- collected. Assumes nothing.
+-- The heap window by window. In order:
+--   turn, stop, finish    cells that are held one after the other, a part of them and the rest
+--   held-each, each-held  all of them are held where each is;  there and back
+--   held-live             a store all of whose heap cells are held is collected
+-- Assumes nothing.
 use mathlib.Core.Path.{_≡_, refl, sym, ap, _∙_, subst}
 use mathlib.Core.Bool.{Bool, true, false, _&&_, false≢true}
 use mathlib.Core.List.{List}
@@ -48,7 +51,7 @@ module _ (k : ℕ → Cell) (m : ℕ) where
   both false b e = absurd (false≢true e)
 
   -- one by one
-  pub held-each : (x n : ℕ) → heldFrom k m x n ≡ true → (c : ℕ) → x ≤ c → c < x + n → heldBelow k m c ≡ true
+  held-each : (x n : ℕ) → heldFrom k m x n ≡ true → (c : ℕ) → x ≤ c → c < x + n → heldBelow k m c ≡ true
   held-each x zero e c l h = absurd (omega arith)
   held-each x (suc n) e c l h =
       let q = both (heldBelow k m x) (heldFrom k m (suc x) n) e in
@@ -59,7 +62,7 @@ module _ (k : ℕ → Cell) (m : ℕ) where
       go zero f p r = let z : x ≡ c = omega arith in subst (λ (y : ℕ). heldBelow k m y ≡ true) z p
       go (suc d) f p r = r (omega arith) (omega arith)
 
-  pub each-held : (x n : ℕ) → ((c : ℕ) → x ≤ c → c < x + n → heldBelow k m c ≡ true) → heldFrom k m x n ≡ true
+  each-held : (x n : ℕ) → ((c : ℕ) → x ≤ c → c < x + n → heldBelow k m c ≡ true) → heldFrom k m x n ≡ true
   each-held x zero h = refl
   each-held x (suc n) h =
       rw (h x (omega arith) (omega arith)) (each-held (suc x) n (λ c l g. h c (omega arith) (omega arith)))

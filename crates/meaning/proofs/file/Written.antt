@@ -87,7 +87,7 @@ module _ (e F : ℕ) (ws : List ℕ) (top : ℕ) (s : Sound F ws top) where
     pub file-long : length (pre ++ fileOf e F ws top) ≡ length pre + distanceFor F (top - F)
     file-long = omega (arith, length-append pre (fileOf e F ws top), file-bytes, s .low)
 
-    pub trailer-of : trailer (pre ++ fileOf e F ws top) ≡ distanceFor F (top - F) ∷ (top - F) ∷ capacity ws ∷ e ∷ []
+    trailer-of : trailer (pre ++ fileOf e F ws top) ≡ distanceFor F (top - F) ∷ (top - F) ∷ capacity ws ∷ e ∷ []
     unfolding trailer fileOf
     trailer-of =
         let W = fileWords e F ws top in

@@ -107,7 +107,7 @@ module _ (e F : ℕ) (ws : List ℕ) (top : ℕ) (low : F ≤ top) (high : 2 * t
           let p : 2 * top + (j - 2 * top) ≡ j = omega arith in
           subst (λ (x : ℕ). wordAt bs x ≡ getD (fileWords e F ws top) x 0) p (end (j - 2 * top) (omega arith))
 
-  pub file-is : (bs : List ℕ) → FileIs e F ws top bs → wordsOf bs ≡ fileWords e F ws top
+  file-is : (bs : List ℕ) → FileIs e F ws top bs → wordsOf bs ≡ fileWords e F ws top
   file-is bs i =
       let l = words-length bs in
       ext-getD 0 (wordsOf bs) (fileWords e F ws top) (omega (arith, i .long, words-long))
