@@ -3,25 +3,28 @@
 --   write-then, write-step                   bytes, then bytes; the first of what is left to write is written
 --   bytes-next, bytes-none                   bytes, a byte a turn
 --   words-next, words-none                   words, a word a turn
+--   sets-next, sets-none                     the same where all of them fit, from a place on
 --   same-space                               the space stays as long
+--   words-fit, words-set                     words whose bytes all fit, set at once
 --   write-fits, pen-fits                     bytes that fit, and the pen after them
 --   write-stops, write-short                 bytes that do not
 -- Assumes nothing.
 use mathlib.Core.Path.{_≡_, refl, sym, ap, _∙_}
-use mathlib.Core.Bool.{Bool, true, false, cond}
+use mathlib.Core.Bool.{Bool, true, false, cond, false≢true}
 use mathlib.Core.List.{List, [], _∷_, _++_}
-use Prim.Native.Nat.{ℕ, suc, _+_, _≤_, _<_}
+use Prim.Native.Nat.{ℕ, suc, _+_, _*_, _/_, _%_, _≤_, _<_}
 use native.Mathlib.Omega.{arith}
 use native.Mathlib.Numerals.{add-one}
-use lib.Dec.{ltb}
+use lib.Dec.{ltb, leb}
 use lib.ListN.{length, getD, drop, set, length-set, drop-of-length-le}
 use lib.Seq.{sets, sets-eq, drop-cons}
-use borrow.Author.Tests.{lt-ltb, le-ltb, ltb-true, ltb-false}
+use borrow.Author.Tests.{lt-ltb, le-ltb, ltb-true, ltb-false, leb-true}
 use Rattle.bytes.specs.Little.{bytesOf}
 use Rattle.bytes.specs.Space.{Space, upTo, blank, putByte, write}
 use Rattle.bytes.specs.Pens.{space}
 use Rattle.bytes.specs.declared.writing.Pen.{Pen}
 use Rattle.bytes.specs.Claims.{WriteFits, WriteShort, WriteStops}
+use Rattle.bytes.proofs.Endian.{bytes-length}
 
 -- ---- one byte
 
@@ -87,6 +90,26 @@ words-next l i s s′ x h e f =
 pub words-none : (l : List ℕ) (i : ℕ) (s x : Space) → length l ≤ i → write (bytesOf (drop i l)) s ≡ x → s ≡ x
 words-none l i s x h f = rw (drop-of-length-le l h) at f
 
+-- words that fit, set from a place on
+pub sets-next : (ws out x : List ℕ) (place i : ℕ) → i < length ws
+    → sets out (place + 4 * i) (bytesOf (drop i ws)) ≡ x
+    → sets
+    (set
+    (set
+    (set (set out (place + 4 * i) (getD ws i 0 % 256)) (place + 4 * i + 1) (getD ws i 0 / 256 % 256))
+    (place + 4 * i + 2) (getD ws i 0 / 65536 % 256))
+    (place + 4 * i + 3) (getD ws i 0 / 16777216)) (place + 4 * (i + 1)) (bytesOf (drop (i + 1) ws)) ≡ x
+sets-next ws out x place i h f =
+    let a : place + 4 * i + 1 ≡ suc (place + 4 * i) = omega arith in
+    let b : place + 4 * i + 2 ≡ suc (suc (place + 4 * i)) = omega arith in
+    let c : place + 4 * i + 3 ≡ suc (suc (suc (place + 4 * i))) = omega arith in
+    let d : place + 4 * suc i ≡ suc (suc (suc (suc (place + 4 * i)))) = omega arith in
+    rw (add-one i, d, c, b, a) (rw (drop-cons ws i 0 h) at f)
+
+pub sets-none : (ws out x : List ℕ) (place i : ℕ) → length ws ≤ i
+    → sets out place (bytesOf (drop i ws)) ≡ x → out ≡ x
+sets-none ws out x place i h f = rw (drop-of-length-le ws h) at f
+
 write-length : (xs : List ℕ) (s : Space) → length (write xs s .bytes) ≡ length (s .bytes)
 write-length [] s = refl
 write-length (x ∷ xs) s = write-length xs (putByte x s) ∙ put-length s x
@@ -105,6 +128,28 @@ write-sets (x ∷ xs) out place h =
     let f : suc place ≡ place + 1 = omega arith in
     ap (write xs) (put-in (upTo out place) x refl (omega arith))
     ∙ (write-sets xs (set out place x) (place + 1) (omega (arith, length-set out place x)) ∙ rw (e, f) refl)
+
+-- words whose bytes all fit, set at once
+module _ (p : Pen) (ws out : List ℕ) (t : Bool)
+    (e : t ≡ cond (p .short) false (leb (p .place + 4 * length ws) (length out))) (h : t ≡ true) where
+  all-fit : (p .short ≡ false) × (p .place + 4 * length ws ≤ length out)
+  all-fit = go (p .short) (sym e ∙ h)
+    where
+      go : (s : Bool) → cond s false (leb (p .place + 4 * length ws) (length out)) ≡ true
+          → (s ≡ false) × (p .place + 4 * length ws ≤ length out)
+      go true q = absurd (false≢true q)
+      go false q = (refl, leb-true (p .place + 4 * length ws) (length out) q)
+
+  pub words-fit : p .place + 4 * length ws ≤ length out
+  words-fit = all-fit .1
+
+  pub words-set : (out′ : List ℕ) → out′ ≡ sets out (p .place) (bytesOf ws)
+      → space out′ (record { place = p .place + 4 * length ws; short = false }) ≡ write (bytesOf ws) (space out p)
+  words-set out′ f =
+      let n = bytes-length ws in
+      let g = write-sets (bytesOf ws) out (p .place) (omega (arith, n, words-fit)) in
+      rw (f, ← n) (sym g ∙ ap (λ (s : Bool). write (bytesOf ws) (record { bytes = out; place = p .place; short = s }))
+      (sym (all-fit .0)))
 
 pub write-fits : WriteFits
 write-fits xs out h =

@@ -1,9 +1,12 @@
 // A lent space of bytes, written from left to right. Where a byte does not fit, the pen is short, and from then on
 // nothing is written. Each function takes the pen, writes its bytes and gives the pen as it is after them.
 ghost use mathlib.Core.Path.{_≡_};
+ghost use mathlib.Core.Bool.{false, cond};
 ghost use mathlib.Core.List.{List, [], _∷_};
-ghost use Prim.Native.Nat.{ℕ};
+ghost use Prim.Native.Nat.{ℕ, _+_, _*_, _≤_};
+ghost use lib.Dec.{leb};
 ghost use lib.ListN.{length, take};
+ghost use lib.Seq.{sets};
 ghost use Rattle.bytes.specs.Little.{bytesOf};
 ghost use Rattle.bytes.specs.Decimal.{decimal};
 ghost use Rattle.bytes.specs.Space.{blank, putByte, write, filled};
@@ -85,8 +88,38 @@ pub fn put_word(out: &mut [u8], pen: Pen, w: u32) -> Pen
     put(out, r, (w / 16777216) as u8)
 }
 
-// The bytes of words.
-pub fn put_words(out: &mut [u8], pen: Pen, ws: &[u32]) -> Pen
+// Whether the bytes of n words fit, and every byte before them did.
+fn all_fit(pen: Pen, n: usize, len: usize) -> bool
+    ensures { λ r. ⌜ r ≡ cond (pen .short) false (leb (pen .place + 4 * n) len) ⌝ }
+{
+    if pen.short {
+        return false;
+    }
+    if len / 4 < n {
+        return false;
+    }
+    pen.place <= len - 4 * n
+}
+
+// The bytes of words from a place on, where all of them fit.
+fn set_words(out: &mut [u8], place: usize, ws: &[u32])
+    requires { ⌜ place + 4 * length (now ws) ≤ length (now out) ⌝ }
+    ensures { λ _. ⌜ now (out .exit) ≡ sets (now (out .entry)) place (bytesOf (now (ws .entry))) ⌝ }
+{
+    let mut i: usize = 0;
+    while i < ws.len() {
+        let w = ws[i];
+        let at = place + 4 * i;
+        out[at] = (w % 256) as u8;
+        out[at + 1] = (w / 256 % 256) as u8;
+        out[at + 2] = (w / 65536 % 256) as u8;
+        out[at + 3] = (w / 16777216) as u8;
+        i += 1;
+    }
+}
+
+// The bytes of words, of which some may not fit.
+fn put_each(out: &mut [u8], pen: Pen, ws: &[u32]) -> Pen
     ensures { λ r. ⌜ space (now (out .exit)) r ≡ write (bytesOf (now (ws .entry))) (space (now (out .entry)) pen) ⌝ }
 {
     let mut next = pen;
@@ -96,6 +129,21 @@ pub fn put_words(out: &mut [u8], pen: Pen, ws: &[u32]) -> Pen
         i += 1;
     }
     next
+}
+
+// The bytes of words. Where all of them fit, the space is asked once and not for each byte.
+pub fn put_words(out: &mut [u8], pen: Pen, ws: &[u32]) -> Pen
+    ensures { λ r. ⌜ space (now (out .exit)) r ≡ write (bytesOf (now (ws .entry))) (space (now (out .entry)) pen) ⌝ }
+{
+    if all_fit(pen, ws.len(), out.len()) {
+        let place = pen.place;
+        set_words(out, place, ws);
+        return Pen {
+            place: place + 4 * ws.len(),
+            short: false,
+        };
+    }
+    put_each(out, pen, ws)
 }
 
 // Zeros from a place on.
