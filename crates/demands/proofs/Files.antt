@@ -5,16 +5,18 @@
 --   save-then-load, load-then-save   back and forth
 -- Assumes nothing.
 use mathlib.Core.Path.{_≡_, refl, sym, ap, _∙_, subst}
-use mathlib.Core.Logic.{_⊎_, inl, inr, _≢_}
+use mathlib.Core.Logic.{inl, inr, _≢_}
+use mathlib.Core.Bool.{Bool, true, false}
 use mathlib.Core.List.{List, [], _∷_, _++_}
-use Prim.Native.Nat.{ℕ, zero, suc, _+_, _-_, _<_}
+use Prim.Native.Nat.{ℕ, _+_, _-_, _<_}
 use native.Mathlib.Omega.{arith}
+use lib.Dec.{eqb}
 use lib.ListN.{length, take, replicate}
 use lib.Seq.{take-at}
+use borrow.Author.Tests.{eqb-true, eqb-false}
 use Rattle.meaning.specs.Limits.{firstHeapCell, edition}
 use Rattle.meaning.specs.Sound.{Sound}
-use Rattle.meaning.specs.Meaning.{meaning}
-use Rattle.meaning.specs.Verdicts.{only, Done}
+use Rattle.meaning.specs.Verdicts.{Done}
 use Rattle.meaning.specs.File as file
 use Rattle.meaning.specs.File.{firstOf, fileDistance, fileEdition, body, loadIn, saveIn}
 use Rattle.store.specs.Answers.{refusalOf}
@@ -29,19 +31,19 @@ use Rattle.file.proofs.Final.{one-load, one-save}
 use Rattle.promises.specs.Table.{OneOf}
 use Rattle.promises.specs.Files as tables
 use Rattle.promises.specs.Files.{StoreIn, AllReached, LoadedAs, LoadTable, SavedAs, SaveTable}
-use Rattle.promises.specs.Alike.{Alike}
 use Rattle.promises.specs.Swap.{Restored, fileIn, Rewritten}
 use Rattle.promises.proofs.table.Rules.{judged-number}
-use Rattle.promises.proofs.Final.{load-answers, save-answers, saved-loads, loaded-saves}
+use Rattle.promises.proofs.Final.{one-edition, load-answers, save-answers, saved-loads, loaded-saves}
 use Rattle.demands.specs.Files.{Loading, LoadMeets, Saving, SaveMeets, SaveThenLoad, LoadThenSave}
 use Rattle.demands.proofs.Uses.{refusal-not}
 
 -- one edition has stores, and its first heap cell is the code's
 first-of : (e : ℕ) → 0 < firstOf e → (e ≡ edition) × (firstOf e ≡ firstHeapCell)
-unfolding firstOf
-first-of zero h = absurd (omega arith)
-first-of (suc zero) h = (refl, refl)
-first-of (suc (suc e)) h = absurd (omega arith)
+first-of e h = go (eqb e 1) refl
+  where
+    go : (t : Bool) → eqb e 1 ≡ t → (e ≡ edition) × (firstOf e ≡ firstHeapCell)
+    go true q = let x = eqb-true e 1 q in (x, one-edition e .0 x)
+    go false q = let z = one-edition e .1 (eqb-false e 1 q) in absurd (omega arith)
 
 -- ---- a file loaded
 
@@ -160,14 +162,13 @@ restored-is ws top t m v a l k =
     }
 
 pub save-then-load : SaveThenLoad
-unfolding firstOf
 save-then-load ws top out t m v a h pre lent len r w l =
     let good : saveIn edition firstHeapCell ws top (length out) .verdict .status ≡ 0 =
     ap (λ (d : file.Saved). d .verdict .status) (sym h) in
     let bs = pre ++ take m a in
     let k : Restored firstHeapCell ws top (savedIn (saved.Done t m) v top a) (loadIn bs lent) =
     subst (λ (d : file.Saved). Restored firstHeapCell ws top d (loadIn (fileIn pre d) lent)) (sym h)
-    (saved-loads edition firstHeapCell (omega arith) refl ws top (length out) pre lent good len) in
+    (saved-loads edition firstHeapCell (omega arith) (one-edition edition .0 refl) ws top (length out) pre lent good len) in
     let x = one-load bs lent r (loaded.Ready t) w v l (restored-is ws top t m v a (loadIn bs lent) k) in
     (x .0, x .1, λ i g. rw (x .1, ← k .words) (k .registers i g), rw (x .1, ← k .words, ← k .tops) (k .alike))
 

@@ -4,15 +4,15 @@
 --   part-body                                       the part of a file from its first heap cell on
 --   judge-edition to judge-stored                   the tests of the trailer, as the code makes them, then the store
 -- Assumes nothing.
-use mathlib.Core.Path.{_≡_, refl, sym, ap, _∙_, subst}
+use mathlib.Core.Path.{_≡_, refl, sym, ap, _∙_}
 use mathlib.Core.Logic.{_⊎_, inl, inr, _≢_}
 use mathlib.Core.Bool.{Bool, true, false, cond}
 use mathlib.Core.List.{List, _++_}
-use Prim.Native.Nat.{ℕ, zero, suc, _+_, _-_, _*_, _%_, _≤_, _<_}
+use Prim.Native.Nat.{ℕ, zero, suc, _+_, _-_, _*_, _≤_, _<_}
 use native.Mathlib.Omega.{arith}
 use lib.Dec.{leb, eqb}
 use lib.ListN.{length, getD, replicate, List·getD-eq-default}
-use borrow.Author.Tests.{leb-true, eqb-true, lt-ltb, le-ltb, le-leb, eq-eqb, ne-eqb}
+use borrow.Author.Tests.{lt-ltb, le-ltb, ne-eqb}
 use Rattle.words.specs.Cell.{firstWord, secondWord}
 use Rattle.bytes.specs.Little.{wordsOf}
 use Rattle.bytes.proofs.Filling.{padded-at}
@@ -24,10 +24,12 @@ use Rattle.meaning.specs.Check.{cellTest, damaged, lengthTest, topTest, verdict
 use Rattle.meaning.specs.File.{firstOf, distanceFor, fileCells, fileCapacity, fileEdition, body, cellsIn, image}
 use Rattle.meaning.specs.File.{distanceTest, capacityTest, checkStore, checkAs}
 use Rattle.meaning.proofs.Lists.{lt-or-ge}
-use Rattle.meaning.proofs.check.Checking.{damaged-before, tests-sound, sound-check}
+use Rattle.meaning.proofs.check.Checking.{yes-length, yes-top, yes-cell, damaged-before, tests-sound, sound-check}
 use Rattle.meaning.proofs.check.Scanning.{check-cells, verdict-damaged}
 use Rattle.meaning.proofs.file.Images.{held-zeros, damaged-zeros}
-use Rattle.meaning.proofs.file.Accepted.{Framed, body-long, occupied, image-is, image-long, both, some}
+use Rattle.meaning.proofs.reader.Moves.{positive}
+use Rattle.meaning.proofs.file.Accepted.{Framed, body-long, occupied, image-is, image-long, distance-yes, capacity-yes}
+use Rattle.meaning.proofs.file.Accepted.{as-edition, as-distance, as-capacity, as-slice, as-store}
 use Rattle.file.specs.Answers.{Gives}
 use Rattle.file.specs.Body.{storeIn, Whole}
 use Rattle.file.specs.Windows.{heldFrom}
@@ -97,27 +99,26 @@ module _ (f : ℕ) (bs : List ℕ) (a : Framed f bs) where
   cells = omega (arith, long)
 
   length-right : lengthTest f (length ws) ≡ true
-  unfolding lengthTest
   length-right =
-      let q : 2 * fileCapacity bs % 2 ≡ 0 = omega arith in
-      rw (
-        long,
-        q,
-        le-ltb (2 * fileCapacity bs) (2 * f) (omega (arith, a .enough)),
-        le-leb (2 * fileCapacity bs) (2 * limit) (omega (arith, a .allowed)),
-      ) refl
+      yes-length f (length ws) (record {
+        even = omega (arith, long);
+        large = omega (arith, long, a .enough);
+        small = omega (arith, long, a .allowed);
+      })
 
   top-right : topTest f (capacity ws) (f + n) ≡ true
-  unfolding topTest
-  top-right = rw (cells, le-ltb (f + n) f (omega arith), le-leb (f + n) (fileCapacity bs) (a .enough)) refl
+  top-right = yes-top f (capacity ws) (f + n) (omega arith) (omega (arith, cells, a .enough))
 
   free-right : (c : ℕ) → f + n ≤ c → cellTest f (f + n) c (firstWord ws c) (secondWord ws c) ≡ true
-  unfolding cellTest
   free-right c h =
       let z = occupied f bs a in
       let p : getD xs (2 * c) 0 ≡ 0 = List·getD-eq-default xs 0 (omega arith) in
       let q : getD xs (2 * c + 1) 0 ≡ 0 = List·getD-eq-default xs 0 (omega arith) in
-      rw (le-ltb c f (omega arith), le-ltb c (f + n) h, padded-at xs m (2 * c), padded-at xs m (2 * c + 1), p, q) refl
+      yes-cell f ws (f + n) c (record {
+        register = λ l. absurd (omega arith);
+        occupied = λ l r. absurd (omega arith);
+        free = λ l. (padded-at xs m (2 * c) ∙ p, padded-at xs m (2 * c + 1) ∙ q);
+      })
 
   -- no damage below `top`
   sound : f + n ≤ damaged f ws (f + n) 0 (f + n) → Sound f ws (f + n)
@@ -183,8 +184,7 @@ module _ (bs : List ℕ) (len : ℕ) (t : Trailer) (o : TrailerOf bs t) where
   top = firstOf (fileEdition bs) + fileCells bs
 
   pub judge-edition : t .first ≡ 0 → Gives loaded.BadEdition v top
-  unfolding checkAs
-  judge-edition h = rw (← o .first, eq-eqb (t .first) 0 h) (refl, refl)
+  judge-edition h = rw (as-edition F bs len (sym (o .first) ∙ h)) (refl, refl)
 
   module _ (h : t .first ≢ 0) (r : Bool)
       (er : r ≡ cond (eqb (t .distance) (distanceFor (t .first) (t .cells))) (leb (t .distance) (length bs)) false)
@@ -193,12 +193,11 @@ module _ (bs : List ℕ) (len : ℕ) (t : Trailer) (o : TrailerOf bs t) where
       unfolding distanceTest
       is-distance = rw (← o .first, ← o .cells, ← o .distance) (sym er)
 
-      is-kind : eqb F 0 ≡ false
-      is-kind = rw (← o .first) (ne-eqb (t .first) 0 h)
+      is-kind : 0 < F
+      is-kind = rw (← o .first) (positive (t .first) (ne-eqb (t .first) 0 h))
 
       pub judge-distance : r ≡ false → Gives loaded.BadDistance v top
-      unfolding checkAs
-      judge-distance q = rw (is-kind, is-distance, q) (refl, refl)
+      judge-distance q = rw (as-distance F bs len is-kind (is-distance ∙ q)) (refl, refl)
 
       module _ (y : r ≡ true) (r′ : Bool)
           (er′ : r′ ≡ cond (leb (t .first + t .cells) (t .capacity)) (leb (t .capacity) limit) false) where
@@ -207,30 +206,24 @@ module _ (bs : List ℕ) (len : ℕ) (t : Trailer) (o : TrailerOf bs t) where
         is-capacity = rw (← o .first, ← o .cells, ← o .capacity) (sym er′)
 
         pub judge-capacity : r′ ≡ false → Gives loaded.BadCapacity v top
-        unfolding checkAs
-        judge-capacity q = rw (is-kind, is-distance, y, is-capacity, q) (refl, refl)
+        judge-capacity q = rw (as-capacity F bs len is-kind (is-distance ∙ y) (is-capacity ∙ q)) (refl, refl)
 
         module _ (y′ : r′ ≡ true) where
           pub judge-slice : len ≢ 2 * t .capacity → Gives loaded.WrongSlice v top
-          unfolding checkAs
           judge-slice q =
-              rw (is-kind, is-distance, y, is-capacity, y′, ← o .capacity, ne-eqb len (2 * t .capacity) q) (refl, refl)
+              rw (as-slice F bs len is-kind (is-distance ∙ y) (is-capacity ∙ y′) (rw (← o .capacity) q)) (refl, refl)
 
           pub framed : 16 ≤ length bs → Framed (firstOf (fileEdition bs)) bs
           framed l =
-              let p = both _ _ (sym er ∙ y) in
-              let q = both _ _ (sym er′ ∙ y′) in
-              let d = eqb-true _ _ (p .0) in
-              let w = leb-true _ _ (p .1) in
-              let e = leb-true _ _ (q .0) in
-              let c = leb-true _ _ (q .1) in
+              let d = distance-yes F bs (is-distance ∙ y) in
+              let c = capacity-yes F bs (is-capacity ∙ y′) in
               record {
                 long = l;
-                kind = rw (← o .first) (some (t .first) h);
-                reach = rw (← o .first, ← o .cells, ← o .distance) d;
-                within = rw (← o .distance) w;
-                enough = rw (← o .first, ← o .cells, ← o .capacity) e;
-                allowed = rw (← o .capacity) c;
+                kind = is-kind;
+                reach = d .0;
+                within = d .1;
+                enough = c .0;
+                allowed = c .1;
               }
 
           pub judge-stored : 16 ≤ length bs → len ≡ 2 * t .capacity → (R : Loaded)
@@ -238,9 +231,8 @@ module _ (bs : List ℕ) (len : ℕ) (t : Trailer) (o : TrailerOf bs t) where
               (foundIn (t .first) (t .cells) (storeIn (t .first) (t .cells) (part bs (length bs - t .distance))))
               (t .first + t .cells)
               → Gives R v top
-          unfolding checkAs
           judge-stored l q R g =
               let x : v ≡ foundIn F (fileCells bs) (storeIn F (fileCells bs) (body bs)) =
-              rw (is-kind, is-distance, y, is-capacity, y′, ← o .capacity, eq-eqb len (2 * t .capacity) q)
-              (store-found F bs (framed l)) in
+              as-store F bs len is-kind (is-distance ∙ y) (is-capacity ∙ y′) (rw (← o .capacity) q)
+              ∙ store-found F bs (framed l) in
               rw x (rw (part-body bs t o, o .first, o .cells) at g)

@@ -11,12 +11,12 @@ use Prim.Native.Nat.{ℕ, _+_, _-_, _*_, _≤_, _<_}
 use native.Mathlib.Omega.{arith}
 use lib.Dec.{eqb}
 use lib.ListN.{length}
-use borrow.Author.Tests.{lt-ltb, le-ltb, eqb-true, eqb-false}
+use borrow.Author.Tests.{eqb-true, eqb-false}
 use Rattle.bytes.specs.Space.{filled}
 use Rattle.meaning.specs.Verdicts.{Verdict, ifSound}
 use Rattle.meaning.specs.File.{firstOf, fileCells, fileEdition, image, checkAs, checkFile, loadIn}
 use Rattle.meaning.proofs.check.Checking.{onZero-no}
-use Rattle.meaning.proofs.file.Accepted.{Framed, Accepted, accepted-as}
+use Rattle.meaning.proofs.file.Accepted.{Framed, Accepted, accepted-as, checked-short, checked-long}
 use Rattle.file.specs.Answers.{verdictOf, topOf, Gives, Loads}
 use Rattle.file.specs.Body.{storeIn}
 use Rattle.file.specs.Judged.{TrailerOf}
@@ -27,8 +27,8 @@ use Rattle.file.proofs.Parts.{part}
 use Rattle.file.proofs.Judges.{part-body}
 
 pub load-short : (bs ws : List ℕ) → length bs < 16 → Loads bs ws loaded.ShortFile ws
-unfolding loadIn checkFile
-load-short bs ws h = rw (lt-ltb (length bs) 16 h) refl
+unfolding loadIn
+load-short bs ws h = rw (checked-short bs (length ws) h) refl
 
 module _ (bs ws : List ℕ) (l : 16 ≤ length bs) (R : Loaded)
     (g : Gives R (checkAs (firstOf (fileEdition bs)) bs (length ws)) (firstOf (fileEdition bs) + fileCells bs))
@@ -37,8 +37,7 @@ module _ (bs ws : List ℕ) (l : 16 ≤ length bs) (R : Loaded)
   f = firstOf (fileEdition bs)
 
   is-checked : checkFile bs (length ws) ≡ verdictOf R
-  unfolding checkFile
-  is-checked = rw (le-ltb (length bs) 16 l) (sym (g .0))
+  is-checked = checked-long bs (length ws) l ∙ sym (g .0)
 
   is-top : topOf R ≡ ifSound (verdictOf R) (f + fileCells bs) 0
   is-top = subst (λ (v : Verdict). topOf R ≡ ifSound v (f + fileCells bs) 0) (sym (g .0)) (g .1)

@@ -8,12 +8,13 @@ use mathlib.Core.List.{List, [], _++_, append-nil}
 use Prim.Native.Nat.{ℕ, _+_, _-_, _*_, _≤_}
 use native.Mathlib.Omega.{arith}
 use lib.ListN.{length, take, drop, length-append, length-drop, drop-of-length-le}
-use lib.Seq.{length-take-le, take-all, take-at, drop-at}
+use lib.Seq.{length-take-le, take-all, take-at}
 use Rattle.bytes.specs.Little.{wordsOf}
 use Rattle.bytes.specs.Space.{filled}
 use Rattle.bytes.proofs.Endian.{words-length, words-take, words-drop}
 use Rattle.bytes.proofs.Filling.{filled-long, filled-then}
 use Rattle.meaning.specs.File.{cellsIn}
+use Rattle.meaning.proofs.file.Images as images
 use Rattle.file.specs.Body.{storeIn, Whole}
 
 abbrev pub part : List ℕ → ℕ → List ℕ
@@ -33,9 +34,7 @@ module _ (f n : ℕ) (body ws : List ℕ) (o : Whole f n body) (h : 2 * (f + n) 
   m = length ws - 2 * f
 
   regs-long : length regs ≡ 2 * f
-  regs-long =
-      length-take-le (2 * f) (drop (2 * n) w)
-      (omega (arith, length-drop (2 * n) w, words-length body, o .long))
+  regs-long = images.regs-long f n w (omega (arith, words-length body, o .long))
 
   four : 8 * n ≡ 4 * (2 * n)
   four = omega arith

@@ -4,7 +4,7 @@
 --   held-live             a store all of whose heap cells are held is collected
 -- Assumes nothing.
 use mathlib.Core.Path.{_≡_, refl, sym, ap, _∙_, subst}
-use mathlib.Core.Bool.{Bool, true, false, _&&_, false≢true}
+use mathlib.Core.Bool.{Bool, true, false, _&&_}
 use mathlib.Core.List.{List}
 use Prim.Native.Nat.{ℕ, zero, suc, _+_, _-_, _≤_, _<_}
 use native.Mathlib.Omega.{arith}
@@ -12,6 +12,7 @@ use lib.Dec.{eqb}
 use borrow.Author.Tests.{eqb-true, eq-eqb}
 use Rattle.meaning.specs.Sound.{Cell, at, Sound}
 use Rattle.meaning.specs.Reach.{heldBelow, live}
+use Rattle.meaning.proofs.Counting.{both-true}
 use Rattle.meaning.proofs.collected.Held.{held-whole, whole-held}
 use Rattle.file.specs.Windows.{heldFrom}
 
@@ -46,15 +47,11 @@ module _ (k : ℕ → Cell) (m : ℕ) where
   pub finish : (top x : ℕ) → top ≤ x → heldFrom k m x (top - x) ≡ true
   finish top x h = let e : top - x ≡ 0 = omega arith in rw e refl
 
-  both : (a b : Bool) → (a && b) ≡ true → (a ≡ true) × (b ≡ true)
-  both true b e = (refl, e)
-  both false b e = absurd (false≢true e)
-
   -- one by one
   held-each : (x n : ℕ) → heldFrom k m x n ≡ true → (c : ℕ) → x ≤ c → c < x + n → heldBelow k m c ≡ true
   held-each x zero e c l h = absurd (omega arith)
   held-each x (suc n) e c l h =
-      let q = both (heldBelow k m x) (heldFrom k m (suc x) n) e in
+      let q = both-true (heldBelow k m x) (heldFrom k m (suc x) n) e in
       go (c - x) refl (q .0) (held-each (suc x) n (q .1) c)
     where
       go : (d : ℕ) → c - x ≡ d → heldBelow k m x ≡ true

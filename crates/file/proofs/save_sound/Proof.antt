@@ -1,5 +1,4 @@
 -- `file::save_sound` meets its contract. Assumes nothing.
-use mathlib.Core.Path.{sym, ap, _∙_}
 use native.Mathlib.Omega.{arith}
 use Rattle.meaning.specs.Limits.{firstHeapCell}
 use Rattle.meaning.proofs.collected.Collecting.{collected-sound}

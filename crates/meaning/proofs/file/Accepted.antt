@@ -3,7 +3,8 @@
 --   body-long, words-long, occupied    how many bytes and words the file has from its first heap cell on
 --   image-long, image-is               the store in it, its words and zeros after them
 --   distance-yes, yes-distance, capacity-yes, yes-capacity   what the tests of the trailer say
---   checked-short to checked-store     the verdict, test by test
+--   as-edition to as-store             the verdict, test by test
+--   checked-short, checked-long        30, or those
 --   Accepted, accepted-as, accepted    all tests are passed
 -- Assumes nothing.
 use mathlib.Core.Path.{_≡_, refl, _∙_}
@@ -14,7 +15,7 @@ use Prim.Native.Nat.{ℕ, zero, suc, _+_, _-_, _*_, _≤_, _<_}
 use native.Mathlib.Omega.{arith}
 use lib.Dec.{ltb, leb, eqb}
 use lib.ListN.{length, replicate, length-drop}
-use borrow.Author.Tests.{leb-true, ltb-false, eqb-true, eqb-false, lt-ltb, le-ltb, le-leb, eq-eqb, ne-eqb}
+use borrow.Author.Tests.{leb-true, ltb-false, eqb-true, lt-ltb, le-ltb, le-leb, eq-eqb, ne-eqb}
 use Rattle.bytes.specs.Little.{wordsOf}
 use Rattle.bytes.proofs.Endian.{words-length}
 use Rattle.bytes.proofs.Filling.{filled-length, filled-fits}
@@ -26,6 +27,7 @@ use Rattle.meaning.specs.Check.{check}
 use Rattle.meaning.specs.File.{firstOf, distanceFor, fileDistance, fileCells, fileCapacity, fileEdition, body}
 use Rattle.meaning.specs.File.{cellsIn, image, distanceTest, capacityTest, checkStore, checkAs, checkFile}
 use Rattle.meaning.proofs.check.Checking.{check-sound}
+use Rattle.meaning.proofs.reader.Moves.{positive}
 use Rattle.meaning.proofs.file.Images.{cells-long}
 
 pub record Framed (f : ℕ) (bs : List ℕ) : Type 0 where
@@ -63,7 +65,7 @@ image-long f bs = filled-length (2 * fileCapacity bs) (cellsIn f (fileCells bs) 
 
 -- ---- the tests of the trailer
 
-pub both : (s t : Bool) → cond s t false ≡ true → (s ≡ true) × (t ≡ true)
+both : (s t : Bool) → cond s t false ≡ true → (s ≡ true) × (t ≡ true)
 both true t e = (refl, e)
 both false t e = absurd (false≢true e)
 
@@ -94,41 +96,41 @@ module _ (f : ℕ) (bs : List ℕ) where
 
 -- ---- the verdict, test by test
 
-module _ (bs : List ℕ) (len : ℕ) where
-  abbrev F : ℕ
-  F = firstOf (fileEdition bs)
+module _ (f : ℕ) (bs : List ℕ) (len : ℕ) where
+  pub as-edition : f ≡ 0 → checkAs f bs len ≡ only 31
+  unfolding checkAs
+  as-edition e = rw e refl
 
+  module _ (p : 0 < f) where
+    is-kind : eqb f 0 ≡ false
+    is-kind = ne-eqb f 0 (λ q. omega arith)
+
+    pub as-distance : distanceTest f bs ≡ false → checkAs f bs len ≡ only 32
+    unfolding checkAs
+    as-distance e = rw (is-kind, e) refl
+
+    module _ (d : distanceTest f bs ≡ true) where
+      pub as-capacity : capacityTest f bs ≡ false → checkAs f bs len ≡ only 33
+      unfolding checkAs
+      as-capacity e = rw (is-kind, d, e) refl
+
+      module _ (c : capacityTest f bs ≡ true) where
+        pub as-slice : len ≢ 2 * fileCapacity bs → checkAs f bs len ≡ only 35
+        unfolding checkAs
+        as-slice h = rw (is-kind, d, c, ne-eqb len (2 * fileCapacity bs) h) refl
+
+        pub as-store : len ≡ 2 * fileCapacity bs → checkAs f bs len ≡ checkStore f (image f bs) (fileCells bs)
+        unfolding checkAs
+        as-store h = rw (is-kind, d, c, eq-eqb len (2 * fileCapacity bs) h) refl
+
+module _ (bs : List ℕ) (len : ℕ) where
   pub checked-short : length bs < 16 → checkFile bs len ≡ only 30
   unfolding checkFile
   checked-short h = rw (lt-ltb (length bs) 16 h) refl
 
-  module _ (l : 16 ≤ length bs) where
-    pub checked-edition : firstOf (fileEdition bs) ≡ 0 → checkFile bs len ≡ only 31
-    unfolding checkFile checkAs
-    checked-edition e = rw (le-ltb (length bs) 16 l, e) refl
-
-    module _ (p : 0 < firstOf (fileEdition bs)) where
-      pub checked-distance : distanceTest (firstOf (fileEdition bs)) bs ≡ false → checkFile bs len ≡ only 32
-      unfolding checkFile checkAs
-      checked-distance e = rw (le-ltb (length bs) 16 l, ne-eqb F 0 (λ q. omega arith), e) refl
-
-      module _ (d : distanceTest (firstOf (fileEdition bs)) bs ≡ true) where
-        pub checked-capacity : capacityTest (firstOf (fileEdition bs)) bs ≡ false → checkFile bs len ≡ only 33
-        unfolding checkFile checkAs
-        checked-capacity e = rw (le-ltb (length bs) 16 l, ne-eqb F 0 (λ q. omega arith), d, e) refl
-
-        module _ (c : capacityTest (firstOf (fileEdition bs)) bs ≡ true) where
-          pub checked-slice : len ≢ 2 * fileCapacity bs → checkFile bs len ≡ only 35
-          unfolding checkFile checkAs
-          checked-slice h =
-              rw (le-ltb (length bs) 16 l, ne-eqb F 0 (λ q. omega arith), d, c, ne-eqb len (2 * fileCapacity bs) h) refl
-
-          pub checked-store : len ≡ 2 * fileCapacity bs
-              → checkFile bs len
-              ≡ checkStore (firstOf (fileEdition bs)) (image (firstOf (fileEdition bs)) bs) (fileCells bs)
-          unfolding checkFile checkAs
-          checked-store h =
-              rw (le-ltb (length bs) 16 l, ne-eqb F 0 (λ q. omega arith), d, c, eq-eqb len (2 * fileCapacity bs) h) refl
+  pub checked-long : 16 ≤ length bs → checkFile bs len ≡ checkAs (firstOf (fileEdition bs)) bs len
+  unfolding checkFile
+  checked-long l = rw (le-ltb (length bs) 16 l) refl
 
 -- ---- all tests passed
 
@@ -137,7 +139,6 @@ pub record Accepted (f : ℕ) (bs : List ℕ) (len : ℕ) : Type 0 where
   pub slice : len ≡ 2 * fileCapacity bs
   pub sound : Sound f (image f bs) (f + fileCells bs)
   pub whole : live f (image f bs) (f + fileCells bs) ≡ fileCells bs
-  pub verdict : checkAs f bs len ≡ only 0
 
 -- a chain of tests that ends in 0
 first : (t : Bool) (x y : Verdict) → 0 < y .status → cond t x y .status ≡ 0 → (t ≡ true) × (x .status ≡ 0)
@@ -151,10 +152,6 @@ second false x y h e = (refl, e)
 stored : (s : ℕ) (x v : Verdict) → v .status ≡ s → onZero s x v .status ≡ 0 → (s ≡ 0) × (x .status ≡ 0)
 stored zero x v e h = (refl, h)
 stored (suc s) x v e h = absurd (omega arith)
-
-pub some : (x : ℕ) → x ≢ 0 → 0 < x
-some zero z = absurd (z refl)
-some (suc x) z = omega arith
 
 module _ (f : ℕ) (bs : List ℕ) (len : ℕ) (l : 16 ≤ length bs) (e : checkAs f bs len .status ≡ 0) where
   abbrev v : Verdict
@@ -188,7 +185,6 @@ module _ (f : ℕ) (bs : List ℕ) (len : ℕ) (l : 16 ≤ length bs) (e : check
       record { edition = q0 .0; distance = q1 .0; capacity = q2 .0; slice = q3 .0; sound = q4 .0; whole = q5 .0 }
 
   pub accepted-as : Accepted f bs len
-  unfolding checkAs checkStore
   accepted-as =
       let p = passed in
       let d = distance-yes f bs (p .distance) in
@@ -196,7 +192,7 @@ module _ (f : ℕ) (bs : List ℕ) (len : ℕ) (l : 16 ≤ length bs) (e : check
       record {
         frame = record {
           long = l;
-          kind = some f (eqb-false f 0 (p .edition));
+          kind = positive f (p .edition);
           reach = d .0;
           within = d .1;
           enough = c .0;
@@ -205,7 +201,6 @@ module _ (f : ℕ) (bs : List ℕ) (len : ℕ) (l : 16 ≤ length bs) (e : check
         slice = eqb-true len (2 * fileCapacity bs) (p .slice);
         sound = check-sound f (image f bs) (f + fileCells bs) (p .sound);
         whole = eqb-true (live f (image f bs) (f + fileCells bs)) (fileCells bs) (p .whole);
-        verdict = rw (p .edition, p .distance, p .capacity, p .slice, p .sound, p .whole) refl;
       }
 
 pub accepted : (bs : List ℕ) (len : ℕ) → checkFile bs len .status ≡ 0 → Accepted (firstOf (fileEdition bs)) bs len

@@ -5,29 +5,29 @@
 --   words-again, file-again  the words and bytes of a file are those of the store in it
 --   LoadedFrom, loaded-from  a loaded store
 -- Assumes nothing.
-use mathlib.Core.Path.{_≡_, refl, sym, ap, ap₂, _∙_}
+use mathlib.Core.Path.{_≡_, refl, sym, ap, _∙_}
 use mathlib.Core.List.{List, [], _∷_, _++_, append-assoc}
 use Prim.Native.Nat.{ℕ, _+_, _-_, _*_, _/_, _≤_, _<_}
 use native.Mathlib.Omega.{arith}
 use lib.ListN.{length, getD, take, drop, replicate, length-drop, take-append-drop}
 use lib.Seq.{getD-drop, drop-drop, length-take-le, take-at, drop-at}
-use borrow.Author.Tests.{le-ltb, le-leb, eq-eqb, ne-eqb}
+use borrow.Author.Tests.{eq-eqb}
 use Rattle.bytes.specs.Little.{wordsOf, bytesOf}
 use Rattle.bytes.proofs.Endian.{bytes-back, words-drop, words-length}
-use Rattle.meaning.specs.Limits.{limit}
-use Rattle.meaning.specs.Sound.{Sound, capacity}
+use Rattle.meaning.specs.Sound.{Sound}
 use Rattle.meaning.specs.Reach.{live}
 use Rattle.meaning.specs.Collected.{collected, collectedTop}
 use Rattle.meaning.specs.Verdicts.{only, done}
 use Rattle.meaning.specs.File.{firstOf, distanceFor, fileWords, fileOf, trailer, fileDistance, fileCells}
-use Rattle.meaning.specs.File.{fileCapacity, fileEdition, body, cellsIn, image, distanceTest, capacityTest}
-use Rattle.meaning.specs.File.{checkStore, checkAs, checkFile, loadIn}
+use Rattle.meaning.specs.File.{fileCapacity, fileEdition, body, cellsIn, image}
+use Rattle.meaning.specs.File.{checkStore, checkFile, loadIn}
 use Rattle.meaning.proofs.check.Checking.{sound-check}
 use Rattle.meaning.proofs.collected.Collecting.{collected-sound, length-collected}
 use Rattle.meaning.proofs.collected.Again.{live-kept}
 use Rattle.meaning.proofs.collected.Whole.{collected-whole}
 use Rattle.meaning.proofs.file.Images.{regs-long}
 use Rattle.meaning.proofs.file.Accepted.{Framed, accepted, body-long, words-long, image-is, image-long}
+use Rattle.meaning.proofs.file.Accepted.{yes-distance, yes-capacity, as-store, checked-long}
 use Rattle.meaning.proofs.file.Written.{file-long, distance-of, cells-of, capacity-of, edition-of, image-of}
 
 -- ---- saving, then loading
@@ -38,28 +38,19 @@ module _ (e F : ℕ) (ws : List ℕ) (top : ℕ) (p : 0 < F) (k : firstOf e ≡ 
   bs = pre ++ fileOf e F ws top
 
   judged : checkFile (pre ++ fileOf e F ws top) (length lent) ≡ only 0
-  unfolding checkFile checkAs distanceTest capacityTest checkStore
+  unfolding checkStore
   judged =
       let l = file-long e F ws top s pre in
+      let d = distance-of e F ws top s pre in
+      let n = cells-of e F ws top s pre in
+      let c = capacity-of e F ws top s pre in
       let a : F + (top - F) ≡ top = omega (arith, s .low) in
-      rw (
-        le-ltb (length bs) 16 (omega arith),
-        edition-of e F ws top s pre,
-        k,
-        ne-eqb F 0 (λ y. omega arith),
-        distance-of e F ws top s pre,
-        cells-of e F ws top s pre,
-        capacity-of e F ws top s pre,
-        eq-eqb (distanceFor F (top - F)) (distanceFor F (top - F)) refl,
-        le-leb (distanceFor F (top - F)) (length bs) (omega arith),
-        a,
-        le-leb top (capacity ws) (s .high),
-        le-leb (capacity ws) limit (omega (arith, s .allowed .small)),
-        eq-eqb (length lent) (2 * capacity ws) (omega (arith, s .allowed .even)),
-        image-of e F ws top s pre,
-        sound-check F ws top s,
-        eq-eqb (live F ws top) (top - F) whole,
-      ) refl
+      checked-long bs (length lent) (omega arith)
+      ∙ rw (edition-of e F ws top s pre, k)
+      (as-store F bs (length lent) p (yes-distance F bs (d ∙ rw n refl) (omega (arith, d)))
+      (yes-capacity F bs (omega (arith, n, c, s .low, s .high)) (omega (arith, c, s .allowed .small)))
+      (omega (arith, c, s .allowed .even))
+      ∙ rw (image-of e F ws top s pre, n, a, sound-check F ws top s, eq-eqb (live F ws top) (top - F) whole) refl)
 
   read-back : loadIn (pre ++ fileOf e F ws top) lent ≡ done ws top 0
   unfolding loadIn

@@ -1,12 +1,13 @@
 -- The file of a store, part by part, and its store read back, whatever bytes stand before it. In order:
---   heap-part, regs-part, file-parts     the words of its cells, and the bytes part by part
+--   heap-long, regs-long                 how many words its cells have, sound or not
+--   file-parts                           its bytes part by part
 --   file-words, file-bytes               how many there are
 --   trailer-of, distance-of, cells-of, capacity-of, edition-of   its trailer
 --   body-of, image-of                    its bytes, and the store in it
 -- Assumes nothing.
-use mathlib.Core.Path.{_≡_, refl, sym, ap, _∙_}
+use mathlib.Core.Path.{_≡_, sym, ap, _∙_}
 use mathlib.Core.List.{List, [], _∷_, _++_, append-assoc}
-use Prim.Native.Nat.{ℕ, _+_, _-_, _*_, _<_}
+use Prim.Native.Nat.{ℕ, _+_, _-_, _*_, _≤_, _<_}
 use native.Mathlib.Omega.{arith}
 use lib.ListN.{length, getD, take, drop, replicate, length-append, length-drop, length-replicate, getD-replicate}
 use lib.ListN.{take-append-drop}
@@ -19,6 +20,13 @@ use Rattle.meaning.specs.File.{distanceFor, fileWords, fileOf, trailer, 
 use Rattle.meaning.specs.File.{fileEdition, body, cellsIn, image}
 use Rattle.meaning.proofs.sound.Cells.{free-words}
 
+module _ (F : ℕ) (ws : List ℕ) (top : ℕ) (low : F ≤ top) (high : 2 * top ≤ length ws) where
+  pub heap-long : length (take (2 * (top - F)) (drop (2 * F) ws)) ≡ 2 * (top - F)
+  heap-long = length-take-le (2 * (top - F)) (drop (2 * F) ws) (omega (arith, length-drop (2 * F) ws))
+
+  pub regs-long : length (take (2 * F) ws) ≡ 2 * F
+  regs-long = length-take-le (2 * F) ws (omega arith)
+
 module _ (e F : ℕ) (ws : List ℕ) (top : ℕ) (s : Sound F ws top) where
   abbrev heap : List ℕ
   heap = take (2 * (top - F)) (drop (2 * F) ws)
@@ -30,11 +38,10 @@ module _ (e F : ℕ) (ws : List ℕ) (top : ℕ) (s : Sound F ws top) where
   tail = distanceFor F (top - F) ∷ (top - F) ∷ capacity ws ∷ e ∷ []
 
   heap-part : length heap ≡ 2 * (top - F)
-  heap-part =
-      length-take-le (2 * (top - F)) (drop (2 * F) ws) (omega (arith, length-drop (2 * F) ws, s .low, s .high))
+  heap-part = heap-long F ws top (s .low) (omega (arith, s .high))
 
   regs-part : length regs ≡ 2 * F
-  regs-part = length-take-le (2 * F) ws (s .allowed .large)
+  regs-part = regs-long F ws top (s .low) (omega (arith, s .high))
 
   pub file-parts : fileOf e F ws top
       ≡ bytesOf (take (2 * (top - F)) (drop (2 * F) ws))

@@ -3,29 +3,29 @@
 --   image-store                the store in a file
 --   load-answers, one-load     the claims
 -- Assumes nothing.
-use mathlib.Core.Path.{_≡_, refl, sym, ap, _∙_, subst}
+use mathlib.Core.Path.{_≡_, refl, sym, _∙_}
 use mathlib.Core.Logic.{_⊎_, inl, inr, _≢_}
 use mathlib.Core.Bool.{Bool, true, false, cond}
 use mathlib.Core.List.{List, [], _∷_}
-use Prim.Native.Nat.{ℕ, zero, suc, _+_, _-_, _*_, _≤_, _<_}
+use Prim.Native.Nat.{ℕ, _+_, _-_, _*_, _≤_, _<_}
 use native.Mathlib.Omega.{arith}
 use lib.Dec.{eqb}
-use lib.ListN.{length, getD, replicate, List·getD-eq-default}
+use lib.ListN.{length, getD, List·getD-eq-default}
 use borrow.Author.Tests.{eqb-true, eqb-false, eq-eqb, ne-eqb}
 use Rattle.bytes.specs.Little.{wordsOf}
 use Rattle.bytes.proofs.Filling.{padded-at}
-use Rattle.meaning.specs.Sound.{capacity, Allowed, Sound}
+use Rattle.meaning.specs.Sound.{Allowed, Sound}
 use Rattle.meaning.specs.Reach.{live}
 use Rattle.meaning.specs.Verdicts.{Verdict, only, Done, done, refused}
 use Rattle.meaning.specs.Check.{check}
 use Rattle.meaning.specs.File.{firstOf, fileCells, fileCapacity, fileEdition, body, cellsIn, image, distanceTest}
-use Rattle.meaning.specs.File.{capacityTest, checkStore, checkFile, loadIn}
+use Rattle.meaning.specs.File.{capacityTest, checkStore, checkAs, checkFile, loadIn}
 use Rattle.meaning.proofs.Lists.{lt-or-ge}
-use Rattle.meaning.proofs.check.Checking.{onZero-no, check-sound, sound-check}
+use Rattle.meaning.proofs.check.Checking.{onZero-no, sound-check}
 use Rattle.meaning.proofs.collected.Held.{reached-all, all-whole}
 use Rattle.meaning.proofs.file.Accepted.{Framed, body-long, occupied, image-is, image-long, distance-yes, yes-distance}
-use Rattle.meaning.proofs.file.Accepted.{capacity-yes, yes-capacity, checked-short, checked-edition, checked-distance}
-use Rattle.meaning.proofs.file.Accepted.{checked-capacity, checked-slice, checked-store}
+use Rattle.meaning.proofs.file.Accepted.{capacity-yes, yes-capacity, as-edition, as-distance, as-capacity, as-slice}
+use Rattle.meaning.proofs.file.Accepted.{as-store, checked-short, checked-long}
 use Rattle.meaning.proofs.file.Swapping.{words-again}
 use Rattle.promises.specs.Table.{OneOf, Not, TopRule, Judged, badLength, badTop, badCell, isSound}
 use Rattle.promises.specs.Files.{StoreIn, AllReached, Passed, LoadedAs, shortFile, badEdition, badDistance}
@@ -56,6 +56,9 @@ module _ (bs ws : List ℕ) where
   load-taken : checkFile bs (length ws) ≡ only 0 → loadIn bs ws ≡ done v top 0
   unfolding loadIn
   load-taken e = rw e refl
+
+  checked : {s : Verdict} → 16 ≤ length bs → checkAs f bs (length ws) ≡ s → checkFile bs (length ws) ≡ s
+  checked l e = checked-long bs (length ws) l ∙ e
 
   -- ---- 30 to 35 are passed
 
@@ -94,8 +97,9 @@ module _ (bs ws : List ℕ) where
 
     stored : checkFile bs (length ws) ≡ checkStore f v (fileCells bs)
     stored =
-        checked-store bs (length ws) (p .long) (p .kind) (yes-distance f bs (p .distance .0) (p .distance .1))
-        (yes-capacity f bs (p .room .0) (p .room .1)) (p .slice)
+        checked (p .long)
+        (as-store f bs (length ws) (p .kind) (yes-distance f bs (p .distance .0) (p .distance .1))
+        (yes-capacity f bs (p .room .0) (p .room .1)) (p .slice))
 
     store-unsound : (s : Verdict) → check f v top ≡ s → s .status ≢ 0 → checkFile bs (length ws) ≡ s
     unfolding checkStore
@@ -170,7 +174,7 @@ module _ (bs ws : List ℕ) where
           })
       slice l p d c false e =
           let z = eqb-false (length ws) (2 * fileCapacity bs) e in
-          table-refused (only 35) (checked-slice bs (length ws) l p d c z) (λ q. omega arith)
+          table-refused (only 35) (checked l (as-slice f bs (length ws) p d c z)) (λ q. omega arith)
           (inr (inr (inr (inr (inr (inr (inr (inl refl)))))))) (λ _. refl)
           (wrongSlice l p (distance-yes f bs d) (capacity-yes f bs c) z)
 
@@ -178,7 +182,7 @@ module _ (bs ws : List ℕ) where
           → LoadTable bs ws (loadIn bs ws)
       room l p d true e = slice l p d e (eqb (length ws) (2 * fileCapacity bs)) refl
       room l p d false e =
-          table-refused (only 33) (checked-capacity bs (length ws) l p d e) (λ q. omega arith)
+          table-refused (only 33) (checked l (as-capacity f bs (length ws) p d e)) (λ q. omega arith)
           (inr (inr (inr (inr (inr (inl refl)))))) (λ _. refl)
           (badCapacity l p (distance-yes f bs d)
           (refuted (capacityTest f bs) (λ r. yes-capacity f bs (r .0) (r .1)) e))
@@ -186,7 +190,7 @@ module _ (bs ws : List ℕ) where
       distance : 16 ≤ length bs → 0 < f → (t : Bool) → distanceTest f bs ≡ t → LoadTable bs ws (loadIn bs ws)
       distance l p true e = room l p e (capacityTest f bs) refl
       distance l p false e =
-          table-refused (only 32) (checked-distance bs (length ws) l p e) (λ q. omega arith)
+          table-refused (only 32) (checked l (as-distance f bs (length ws) p e)) (λ q. omega arith)
           (inr (inr (inr (inr (inl refl))))) (λ _. refl)
           (badDistance l p (refuted (distanceTest f bs) (λ r. yes-distance f bs (r .0) (r .1)) e))
 
@@ -194,7 +198,7 @@ module _ (bs ws : List ℕ) where
       kind l (inl p) = distance l p (distanceTest f bs) refl
       kind l (inr p) =
           let e : f ≡ 0 = omega arith in
-          table-refused (only 31) (checked-edition bs (length ws) l e) (λ q. omega arith)
+          table-refused (only 31) (checked l (as-edition f bs (length ws) e)) (λ q. omega arith)
           (inr (inr (inr (inl refl)))) (λ _. refl) (badEdition l e)
 
       short : (length bs < 16) ⊎ (16 ≤ length bs) → LoadTable bs ws (loadIn bs ws)
@@ -210,17 +214,17 @@ module _ (bs ws : List ℕ) where
 
   loaded-once : (r : Done) → LoadedAs f bs ws r → loadIn bs ws ≡ r
   loaded-once r (shortFile h) = load-refused (only 30) (checked-short bs (length ws) h) (λ q. omega arith)
-  loaded-once r (badEdition l e) = load-refused (only 31) (checked-edition bs (length ws) l e) (λ q. omega arith)
+  loaded-once r (badEdition l e) = load-refused (only 31) (checked l (as-edition f bs (length ws) e)) (λ q. omega arith)
   loaded-once r (badDistance l p n) =
       let d = no (distanceTest f bs) (λ y. n (distance-yes f bs y)) in
-      load-refused (only 32) (checked-distance bs (length ws) l p d) (λ q. omega arith)
+      load-refused (only 32) (checked l (as-distance f bs (length ws) p d)) (λ q. omega arith)
   loaded-once r (badCapacity l p d n) =
       let c = no (capacityTest f bs) (λ y. n (capacity-yes f bs y)) in
       let far = yes-distance f bs (d .0) (d .1) in
-      load-refused (only 33) (checked-capacity bs (length ws) l p far c) (λ q. omega arith)
+      load-refused (only 33) (checked l (as-capacity f bs (length ws) p far c)) (λ q. omega arith)
   loaded-once r (wrongSlice l p d c n) =
       load-refused (only 35)
-      (checked-slice bs (length ws) l p (yes-distance f bs (d .0) (d .1)) (yes-capacity f bs (c .0) (c .1)) n)
+      (checked l (as-slice f bs (length ws) p (yes-distance f bs (d .0) (d .1)) (yes-capacity f bs (c .0) (c .1)) n))
       (λ q. omega arith)
   loaded-once r (damaged p w s c h n b) =
       let e = same-store p w s in

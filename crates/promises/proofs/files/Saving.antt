@@ -2,19 +2,18 @@
 --   save-unsound, save-short, save-fits   what is left, by the check and by the space
 --   save-answers, one-save                the claims
 -- Assumes nothing.
-use mathlib.Core.Path.{_≡_, refl, sym, ap, _∙_}
+use mathlib.Core.Path.{_≡_, refl, sym, _∙_}
 use mathlib.Core.Logic.{_⊎_, inl, inr, _≢_}
 use mathlib.Core.List.{List, [], _∷_, _++_}
 use Prim.Native.Nat.{ℕ, zero, suc, _+_, _-_, _*_, _≤_, _<_}
 use native.Mathlib.Omega.{arith}
-use lib.ListN.{length, getD, replicate, List·getD-append}
+use lib.ListN.{length, getD, replicate}
 use borrow.Author.Tests.{le-leb, lt-leb}
-use Rattle.bytes.specs.Space.{filled}
 use Rattle.bytes.proofs.Final.{filled-fits}
 use Rattle.bytes.proofs.Filling.{padded-at}
 use Rattle.meaning.specs.Sound.{Sound}
 use Rattle.meaning.specs.Reach.{live}
-use Rattle.meaning.specs.Collected.{collected, collectedTop}
+use Rattle.meaning.specs.Collected.{collected}
 use Rattle.meaning.specs.Verdicts.{Verdict, only}
 use Rattle.meaning.specs.Check.{check}
 use Rattle.meaning.specs.File.{fileOf, Saved, unsaved, savedAs, saveIn}
@@ -22,9 +21,7 @@ use Rattle.meaning.proofs.Lists.{lt-or-ge}
 use Rattle.meaning.proofs.check.Checking.{onZero-no, check-sound, sound-check}
 use Rattle.meaning.proofs.collected.Collecting.{collected-sound}
 use Rattle.meaning.proofs.file.Written.{file-bytes}
-use Rattle.promises.specs.Table.{OneOf, Judged}
-use Rattle.promises.specs.Collecting.{CollectedFrom}
-use Rattle.promises.specs.Files.{FileIs, SavedAs, unsound, shortSpace, saved, SaveTable, SaveAnswers}
+use Rattle.promises.specs.Files.{SavedAs, unsound, shortSpace, saved, SaveTable, SaveAnswers}
 use Rattle.promises.specs.Unique.{OneSave}
 use Rattle.promises.proofs.table.Rules.{judged, judged-number, judged-value}
 use Rattle.promises.proofs.unique.Outcomes.{judged-once, one-collected}

@@ -12,9 +12,9 @@ use lib.Seq.{take-at}
 use Rattle.meaning.specs.Sound.{Sound, capacity}
 use Rattle.meaning.specs.Meaning.{meaning}
 use Rattle.meaning.specs.Collected.{collected, collectedTop}
-use Rattle.meaning.specs.Verdicts.{Verdict, Done, done}
+use Rattle.meaning.specs.Verdicts.{Done, done}
 use Rattle.meaning.specs.Check.{check}
-use Rattle.meaning.specs.File.{firstOf, fileOf, fileDistance, fileEdition, body, loadIn, Saved, saveIn}
+use Rattle.meaning.specs.File.{firstOf, fileOf, fileDistance, fileEdition, body, loadIn, saveIn}
 use Rattle.meaning.proofs.Lists.{lt-or-ge}
 use Rattle.meaning.proofs.check.Checking.{check-sound}
 use Rattle.meaning.proofs.collected.Collecting.{collected-sound, length-collected, meaning-kept}
@@ -22,7 +22,7 @@ use Rattle.meaning.proofs.collected.Again.{live-kept}
 use Rattle.meaning.proofs.collected.Whole.{collected-again}
 use Rattle.meaning.proofs.file.Swapping as swapping
 use Rattle.promises.specs.Alike.{Alike}
-use Rattle.promises.specs.Swap.{fileIn, SavedLoads, LoadedIsSound, LoadedSaves}
+use Rattle.promises.specs.Swap.{SavedLoads, LoadedIsSound, LoadedSaves}
 use Rattle.promises.proofs.alike.Alikes.{collect-sound, alike-is-collected}
 use Rattle.promises.proofs.files.Saving.{save-unsound, long, save-short, save-fits}
 

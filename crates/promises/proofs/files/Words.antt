@@ -9,13 +9,14 @@ use mathlib.Core.Logic.{_⊎_, inl, inr}
 use mathlib.Core.List.{List, [], _∷_, _++_}
 use Prim.Native.Nat.{ℕ, zero, suc, _+_, _-_, _*_, _≤_, _<_}
 use native.Mathlib.Omega.{arith}
-use lib.ListN.{length, getD, take, drop, length-append, length-drop, List·getD-append}
-use lib.Seq.{getD-append-add, getD-drop, getD-take, length-take-le, ext-getD}
+use lib.ListN.{length, getD, take, drop, length-append, List·getD-append}
+use lib.Seq.{getD-append-add, getD-drop, getD-take, ext-getD}
 use Rattle.bytes.specs.Little.{wordsOf, bytesOf}
 use Rattle.bytes.proofs.Endian.{words-length, word-at, words-back, bytes-back}
-use Rattle.meaning.specs.Sound.{capacity, Sound}
+use Rattle.meaning.specs.Sound.{capacity}
 use Rattle.meaning.specs.File.{distanceFor, firstOf, fileWords, fileOf, fileCells}
 use Rattle.meaning.proofs.Lists.{lt-or-ge}
+use Rattle.meaning.proofs.file.Written as written
 use Rattle.meaning.proofs.file.Written.{file-bytes}
 use Rattle.promises.specs.Files.{wordAt, FileIs, FileInWords, OneFile, OneEdition, StoreIn}
 
@@ -30,10 +31,10 @@ module _ (e F : ℕ) (ws : List ℕ) (top : ℕ) (low : F ≤ top) (high : 2 * t
   tail = distanceFor F (top - F) ∷ (top - F) ∷ capacity ws ∷ e ∷ []
 
   heap-long : length heap ≡ 2 * (top - F)
-  heap-long = length-take-le (2 * (top - F)) (drop (2 * F) ws) (omega (arith, length-drop (2 * F) ws))
+  heap-long = written.heap-long F ws top low high
 
   regs-long : length regs ≡ 2 * F
-  regs-long = length-take-le (2 * F) ws (omega arith)
+  regs-long = written.regs-long F ws top low high
 
   words-long : length (fileWords e F ws top) ≡ 2 * top + 4
   unfolding fileWords

@@ -6,7 +6,6 @@ use lib.ListN.{length, drop, length-set}
 use lib.Seq.{sets}
 use Rattle.bytes.specs.Little.{bytesOf}
 use Rattle.bytes.proofs.Spaces.{sets-next, sets-none}
-use borrow.Author.Needs.{needs}
 use Rattle.bytes.proofs.writing.set_words.Statement.{statement}
 use Rattle.bytes.proofs.writing.set_words.Tie as tie
 

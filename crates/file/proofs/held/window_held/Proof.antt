@@ -4,7 +4,6 @@ use Prim.Native.Nat.{ℕ, _+_}
 use native.Mathlib.Omega.{arith}
 use lib.ListN.{length}
 use Rattle.meaning.specs.Sound.{at}
-use Rattle.meaning.proofs.sound.Cells.{limit-fits}
 use Rattle.file.specs.Body.{storeIn}
 use Rattle.file.specs.Windows.{heldFrom}
 use Rattle.file.proofs.Noting.{along-held}

@@ -1,6 +1,6 @@
 -- `file::writing::put_file` meets its contract: the parts of a file, one after the other. Assumes nothing.
-use mathlib.Core.Path.{sym, ap, _∙_}
-use Prim.Native.Nat.{_+_, _-_, _*_}
+use mathlib.Core.Path.{sym}
+use Prim.Native.Nat.{_-_, _*_}
 use native.Mathlib.Omega.{arith}
 use lib.Seq.{length-take-le}
 use Rattle.meaning.specs.Limits.{firstHeapCell, edition}
