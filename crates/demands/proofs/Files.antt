@@ -168,7 +168,8 @@ save-then-load ws top out t m v a h pre lent len r w l =
     let bs = pre ++ take m a in
     let k : Restored firstHeapCell ws top (savedIn (saved.Done t m) v top a) (loadIn bs lent) =
     subst (λ (d : file.Saved). Restored firstHeapCell ws top d (loadIn (fileIn pre d) lent)) (sym h)
-    (saved-loads edition firstHeapCell (omega arith) (one-edition edition .0 refl) ws top (length out) pre lent good len) in
+    (saved-loads edition firstHeapCell (omega arith) (one-edition edition .0 refl) ws top (length out) pre lent good
+    len) in
     let x = one-load bs lent r (loaded.Ready t) w v l (restored-is ws top t m v a (loadIn bs lent) k) in
     (x .0, x .1, λ i g. rw (x .1, ← k .words) (k .registers i g), rw (x .1, ← k .words, ← k .tops) (k .alike))
 

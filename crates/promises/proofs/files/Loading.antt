@@ -235,7 +235,8 @@ module _ (bs ws : List ℕ) where
       (judged-once f v top (check f v top) (record { status = 3; value = c }) (judged f v top) j) (λ q. omega arith))
       (λ q. omega arith)
   loaded-once r (notCollected p w s k z) =
-      let e = same-store p w s in load-refused (only 34) (store-uncollected p (rw e at k) (rw e at z)) (λ q. omega arith)
+      let e = same-store p w s in
+      load-refused (only 34) (store-uncollected p (rw e at k) (rw e at z)) (λ q. omega arith)
   loaded-once r (loaded p w s k a) =
       let e = same-store p w s in load-taken (store-whole p (rw e at k) (rw e at a)) ∙ rw e refl
 
