@@ -186,7 +186,7 @@ fn fault_number(fault: Fault) -> u32
     ensures { λ r. ⌜ r ≡ faultOf fault ⌝ }
 {
     match fault {
-        Fault::LargeCode => 13,
+        Fault::NoCode => 13,
         Fault::TooDeep => 21,
         Fault::NotText => 23,
     }

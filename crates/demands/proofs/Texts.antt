@@ -53,7 +53,7 @@ refusal-small unsound.BadTop z = omega (arith, z)
 refusal-small (unsound.Damaged c) z = omega (arith, z)
 
 fault-away : (f : Fault) → (faultOf f ≢ 0) × (faultOf f ≢ 16)
-fault-away fault.LargeCode = (λ z. omega (arith, z), λ z. omega (arith, z))
+fault-away fault.NoCode = (λ z. omega (arith, z), λ z. omega (arith, z))
 fault-away fault.TooDeep = (λ z. omega (arith, z), λ z. omega (arith, z))
 fault-away fault.NotText = (λ z. omega (arith, z), λ z. omega (arith, z))
 

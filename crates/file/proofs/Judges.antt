@@ -24,10 +24,10 @@ use Rattle.meaning.specs.Check.{cellTest, damaged, lengthTest, topTest, verdict
 use Rattle.meaning.specs.File.{firstOf, distanceFor, fileCells, fileCapacity, fileEdition, body, cellsIn, image}
 use Rattle.meaning.specs.File.{distanceTest, capacityTest, checkStore, checkAs}
 use Rattle.meaning.proofs.Lists.{lt-or-ge}
+use Rattle.meaning.proofs.Counting.{positive}
 use Rattle.meaning.proofs.check.Checking.{yes-length, yes-top, yes-cell, damaged-before, tests-sound, sound-check}
 use Rattle.meaning.proofs.check.Scanning.{check-cells, verdict-damaged}
 use Rattle.meaning.proofs.file.Images.{held-zeros, damaged-zeros}
-use Rattle.meaning.proofs.reader.Moves.{positive}
 use Rattle.meaning.proofs.file.Accepted.{Framed, body-long, occupied, image-is, image-long, distance-yes, capacity-yes}
 use Rattle.meaning.proofs.file.Accepted.{as-edition, as-distance, as-capacity, as-slice, as-store}
 use Rattle.file.specs.Answers.{Gives}

@@ -1,5 +1,6 @@
--- Tests at the next number, and how many cells below one are in a set. In order:
+-- Tests of numbers, and how many cells below one are in a set. In order:
 --   leb-suc                      a test at the next number is the test at this one, but for one number
+--   positive                     a number that is not 0
 --   both-true                    two tests that hold together hold each
 --   count                        how many cells below c are in a set
 --   count-same, count-less-one   of two sets alike, and of a set with one cell taken out
@@ -10,8 +11,8 @@ use mathlib.Core.Bool.{Bool, true, false, cond, _&&_}
 use Prim.Native.Nat.{ℕ, zero, suc, _<_}
 use native.Mathlib.Omega.{arith}
 use native.Mathlib.Decide.{ℕ-discrete}
-use lib.Dec.{leb}
-use borrow.Author.Tests.{leb-true, le-leb}
+use lib.Dec.{leb, eqb}
+use borrow.Author.Tests.{leb-true, le-leb, eqb-false}
 
 iff-eq : (a b : Bool) → (a ≡ true → b ≡ true) → (b ≡ true → a ≡ true) → a ≡ b
 iff-eq true b f h = sym (f refl)
@@ -22,6 +23,9 @@ pub leb-suc : (c x : ℕ) → c ≢ x → leb (suc x) c ≡ leb x c
 leb-suc c x n =
     iff-eq (leb (suc x) c) (leb x c) (λ e. le-leb x c (omega (arith, leb-true (suc x) c e)))
     (λ e. le-leb (suc x) c (omega (arith, leb-true x c e)))
+
+pub positive : (a : ℕ) → eqb a 0 ≡ false → 0 < a
+positive a z = let n = eqb-false a 0 z in omega (arith, n)
 
 pub both-true : (a b : Bool) → (a && b) ≡ true → (a ≡ true) × (b ≡ true)
 both-true true b e = (refl, e)

@@ -21,7 +21,7 @@ use Rattle.reader.specs.declared.Found.the-variants.{Whole, Bad}
 
 -- SCOPE's number for each reason to refuse a text (5.8)
 abbrev pub faultOf : Fault → ℕ
-faultOf fault.LargeCode = 13
+faultOf fault.NoCode = 13
 faultOf fault.TooDeep = 21
 faultOf fault.NotText = 23
 

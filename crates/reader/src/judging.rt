@@ -7,9 +7,9 @@ ghost use Rattle.meaning.specs.Judge.{isDigit, withDigit, firstMove, laterMove,
 ghost use Rattle.reader.specs.Readers.{standOf, moveOf, IsMove};
 use store::cells::is_code;
 
-// Why a text is refused: a code over the limit, a bracket that is one too many, or a byte that cannot continue a text.
+// Why a text is refused: a number that is no code, a bracket that is one too many, or a byte that cannot continue a text.
 pub enum Fault {
-    LargeCode,
+    NoCode,
     TooDeep,
     NotText,
 }
@@ -61,7 +61,7 @@ fn first_move(depth: usize, b: u8) -> Move
         if is_code(with_digit(0, b)) {
             return Move::Begins;
         }
-        return Move::Stops(Fault::LargeCode);
+        return Move::Stops(Fault::NoCode);
     }
     if b == b'(' {
         if depth < meaning::DEPTH_LIMIT {
@@ -100,7 +100,7 @@ fn more_move(code: u32, depth: usize, b: u8) -> Move
         if is_code(with_digit(code, b)) {
             return Move::Grows;
         }
-        return Move::Stops(Fault::LargeCode);
+        return Move::Stops(Fault::NoCode);
     }
     later_move(depth, b)
 }

@@ -19,7 +19,7 @@ abbrev answerBy : Verdict → ℕ → ℕ → Typed
 answerBy v t s =
     onZero s (typed.Done t)
     (cond (ltb s 13) (typed.Refused (unsoundOf v))
-    (cond (eqb s 13) (typed.BadText fault.LargeCode (v .value))
+    (cond (eqb s 13) (typed.BadText fault.NoCode (v .value))
     (cond (eqb s 16) (typed.NoRoom t)
     (cond (eqb s 20) typed.NoRegister
     (cond (eqb s 21) (typed.BadText fault.TooDeep (v .value)) (typed.BadText fault.NotText (v .value)))))))
@@ -34,7 +34,7 @@ answer-back : (r : Typed) (top : ℕ) (vs : List ℕ) → answerOf (typedIn r to
 answer-back (typed.Done t) top vs = refl
 answer-back (typed.Refused u) top vs = refusal-back (refusalOf u) top u ∙ ap typed.Refused (unsoundOf-back u)
 answer-back typed.NoRegister top vs = refl
-answer-back (typed.BadText fault.LargeCode at) top vs = refl
+answer-back (typed.BadText fault.NoCode at) top vs = refl
 answer-back (typed.BadText fault.TooDeep at) top vs = refl
 answer-back (typed.BadText fault.NotText at) top vs = refl
 answer-back (typed.NoRoom t) top vs = refl

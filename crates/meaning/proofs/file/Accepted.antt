@@ -26,8 +26,8 @@ use Rattle.meaning.specs.Verdicts.{Verdict, only, onZero}
 use Rattle.meaning.specs.Check.{check}
 use Rattle.meaning.specs.File.{firstOf, distanceFor, fileDistance, fileCells, fileCapacity, fileEdition, body}
 use Rattle.meaning.specs.File.{cellsIn, image, distanceTest, capacityTest, checkStore, checkAs, checkFile}
+use Rattle.meaning.proofs.Counting.{positive}
 use Rattle.meaning.proofs.check.Checking.{check-sound}
-use Rattle.meaning.proofs.reader.Moves.{positive}
 use Rattle.meaning.proofs.file.Images.{cells-long}
 
 pub record Framed (f : ℕ) (bs : List ℕ) : Type 0 where

@@ -13,16 +13,17 @@ use Prim.Native.Nat.{ℕ, zero, suc, _+_, _*_, _/_, _%_, _≤_, _<_}
 use native.Mathlib.Omega.{arith}
 use native.Mathlib.Nat.{not-suc-le-zero}
 use lib.ListN.{length, length-append}
-use borrow.Author.Tests.{lt-ltb, le-leb, leb-true, ne-eqb}
+use borrow.Author.Tests.{lt-ltb, ne-eqb}
 use Rattle.bytes.specs.Decimal.{decimal}
 use Rattle.bytes.proofs.Decimals.{decimal-one, decimal-more}
-use Rattle.meaning.specs.Limits.{codeTest, depthLimit}
+use Rattle.meaning.specs.Limits.{depthLimit}
 use Rattle.meaning.specs.Sound.{IsCode}
 use Rattle.meaning.specs.Judge.{Stand, begun, spaced, number, closed, stopped}
 use Rattle.meaning.specs.Judge.{Move, begins, grows, opens, closes, parts}
 use Rattle.meaning.specs.Judge.{isDigit, withDigit, firstMove, laterMove, moreMove, judge}
 use Rattle.meaning.specs.Reader.{reader, Draft, takes, read, reads}
 use Rattle.meaning.proofs.Lists.{lt-or-ge}
+use Rattle.meaning.proofs.sound.Cells.{code-range, range-code}
 use Rattle.meaning.proofs.reader.Moves.{is-digit}
 
 pub reads-append : (xs ys : List ℕ) (r : Draft) → reads r (xs ++ ys) ≡ reads (reads r xs) ys
@@ -116,8 +117,7 @@ numbered a n r = record {
 }
 
 smaller-code : (a b : ℕ) → a ≤ b → IsCode b → IsCode a
-unfolding codeTest
-smaller-code a b h l = le-leb a 268435455 (omega (arith, leb-true b 268435455 l))
+smaller-code a b h l = range-code a (omega (arith, code-range b l))
 
 module _ (r : Draft) (ready : Ready (r .place .stand)) where
   one-digit : (a : ℕ) → IsCode a → a < 10 → read (48 + a) r ≡ numbered a (suc (r .place .offset)) r

@@ -7,12 +7,14 @@
 use mathlib.Core.Path.{_≡_, refl, sym, ap, _∙_, subst}
 use mathlib.Core.List.{List, [], _∷_, _++_, append-assoc, append-nil}
 use Prim.Native.Nat.{ℕ, suc}
+use native.Mathlib.Omega.{arith}
 use Rattle.bytes.specs.Decimal.{decimal}
-use Rattle.meaning.specs.Limits.{codeTest, depthLimit}
+use Rattle.meaning.specs.Limits.{depthLimit}
 use Rattle.meaning.specs.Expr.{Expr, nothing, symbol, parens, append}
 use Rattle.meaning.specs.Text.{text, Readable}
 use Rattle.meaning.specs.Judge.{Stand, begun, spaced, number, closed, stopped}
 use Rattle.meaning.specs.Reader.{Reader, advances, atStart, reads, blank}
+use Rattle.meaning.proofs.sound.Cells.{range-code}
 use Rattle.meaning.proofs.text.Texts.{gap-filled, text-code, readable-append}
 use Rattle.meaning.proofs.reader.Drafts.{behind, Stack, Kept, Inv, so-far}
 use Rattle.meaning.proofs.reader.Keeping.{closed-bytes, bytes-inv}
@@ -55,7 +57,6 @@ Going (stopped s) = ⊥
 module _ (depth total : ℕ) (ar : List Expr) (own : Expr) (pre : List ℕ) where
   -- a term behind the space
   with-term : Kept spaced depth total ar own pre → Completed pre
-  unfolding codeTest
   with-term k =
       let f = append own (symbol 1 nothing) in
       let e : behind ar ++ text f ≡ pre ++ decimal 1 =
@@ -65,7 +66,8 @@ module _ (depth total : ℕ) (ar : List Expr) (own : Expr) (pre : List ℕ) wher
       ∙ ap (λ (t : List ℕ). t ++ decimal 1) (k .bytes)) in
       earlier pre (decimal 1)
       (subst (λ (t : List ℕ). Completed t) e
-      (shut-all (k .left) ar f (readable-append (k .left) own (symbol 1 nothing) (k .level) (refl, tt)) (k .stack)))
+      (shut-all (k .left) ar f (readable-append (k .left) own (symbol 1 nothing) (k .level) (range-code 1 (omega arith), tt))
+      (k .stack)))
 
   completed : (s : Stand) → Inv s depth total ar own pre → Going s → Completed pre
   completed begun k g =

@@ -12,14 +12,16 @@ use Prim.Native.Nat.{ℕ, suc, _+_, _≤_, _<_}
 use native.Mathlib.Omega.{arith}
 use lib.Dec.{ltb, eqb}
 use lib.ListN.{length, getD, take}
-use borrow.Author.Tests.{ltb-false, le-ltb, le-leb, eqb-true, ne-eqb}
+use borrow.Author.Tests.{ltb-false, le-ltb, eqb-true, ne-eqb}
 use Rattle.meaning.specs.Limits.{codeTest, depthLimit}
 use Rattle.meaning.specs.Text.{text}
 use Rattle.meaning.specs.Judge.{Stand, begun, spaced, number, closed, stopped}
 use Rattle.meaning.specs.Judge.{Move, stops, begins, grows, opens, closes, parts}
 use Rattle.meaning.specs.Judge.{isDigit, withDigit, firstMove, laterMove, moreMove, judge}
 use Rattle.meaning.specs.Reader.{Reader, reader, moved, advance, advances, atStart, isWhole, reads, blank}
-use Rattle.meaning.proofs.reader.Moves.{either, positive, digit-range}
+use Rattle.meaning.proofs.Counting.{positive}
+use Rattle.meaning.proofs.sound.Cells.{range-code}
+use Rattle.meaning.proofs.reader.Moves.{either, digit-range}
 use Rattle.meaning.proofs.reader.Forth.{reads-place}
 use Rattle.meaning.proofs.reader.Codes.{Ready}
 use Rattle.meaning.proofs.reader.Back.{read-back}
@@ -117,8 +119,8 @@ pub data Why (s : Stand) (depth b : ℕ) : ℕ → Type 0 where
 
 -- a code of one digit is never too large
 digit-code : (b : ℕ) → isDigit b ≡ true → codeTest (withDigit 0 b) ≡ true
-unfolding codeTest withDigit
-digit-code b e = le-leb (withDigit 0 b) 268435455 (omega (arith, digit-range b e .1))
+unfolding withDigit
+digit-code b e = range-code (withDigit 0 b) (omega (arith, digit-range b e .1))
 
 module _ (s : Stand) (depth b : ℕ) where
   abbrev Stopping : Move → Type 0

@@ -1,7 +1,6 @@
 -- What a byte can do, by cases: what holds of every move that can be judged, with what the byte is, holds of the one
 -- that is. In order:
 --   either                                 a choice by a test
---   positive                               a number that is not 0
 --   digit-range, is-digit                  a byte that is a digit
 --   first-cases, later-cases, more-cases   a byte where a term may begin, after a whole term, after a digit
 --   judge-cases                            a byte wherever the reader stands
@@ -11,20 +10,18 @@ use mathlib.Core.Bool.{Bool, true, false, cond, _&&_, false≢true}
 use Prim.Native.Nat.{ℕ, _+_, _-_, _*_, _≤_, _<_}
 use native.Mathlib.Omega.{arith}
 use lib.Dec.{ltb, leb, eqb}
-use borrow.Author.Tests.{ltb-true, leb-true, le-leb, eqb-true, eqb-false}
+use borrow.Author.Tests.{ltb-true, leb-true, le-leb, eqb-true}
 use Rattle.meaning.specs.Limits.{codeTest, depthLimit}
 use Rattle.meaning.specs.Sound.{IsCode}
 use Rattle.meaning.specs.Judge.{Stand, begun, spaced, number, closed, stopped}
 use Rattle.meaning.specs.Judge.{Move, stops, begins, grows, opens, closes, parts}
 use Rattle.meaning.specs.Judge.{isDigit, withDigit, firstMove, laterMove, moreMove, judge}
+use Rattle.meaning.proofs.Counting.{positive}
 
 pub either : {A : Type 0} (P : A → Type 0) (t : Bool) {x y : A} → (t ≡ true → P x) → (t ≡ false → P y)
     → P (cond t x y)
 either P true f g = f refl
 either P false f g = g refl
-
-pub positive : (a : ℕ) → eqb a 0 ≡ false → 0 < a
-positive a z = let n = eqb-false a 0 z in omega (arith, n)
 
 pub digit-range : (b : ℕ) → isDigit b ≡ true → (48 ≤ b) × (b ≤ 57)
 unfolding isDigit

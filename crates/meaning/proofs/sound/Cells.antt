@@ -1,5 +1,6 @@
 -- What soundness says of a store's cells, apart from words; and back to words. In order:
---   limit-fits, code-fits       an address and a code fit 28 bits
+--   limit-fits                  an address fits 28 bits
+--   code-range, range-code      what a code may be;  code-fits  it fits 28 bits
 --   BracketIn, TermIn           a bracket, or any term, whose ends lie from F on and below a limit
 --   SoundCells                  what the cells of a sound store are
 --   term-of-bracket             such a bracket is such a term
@@ -22,7 +23,7 @@ use native.Mathlib.Nat.{not-suc-le-zero, add-sub-cancel-left}
 use native.Mathlib.Omega.{arith}
 use lib.Dec.{ltb}
 use lib.ListN.{length, getD}
-use borrow.Author.Tests.{leb-true, ltb-true, ltb-false, le-ltb}
+use borrow.Author.Tests.{leb-true, le-leb, ltb-true, ltb-false, le-ltb}
 use Rattle.words.specs.Cell.{firstWord, secondWord}
 use Rattle.meaning.specs.Limits.{codeTest, limit}
 use Rattle.meaning.specs.Sound.{IsCode, Cell, code, empty, ends, fst, snd, bracketOf, cellOf, at, IsBracket}
@@ -33,10 +34,18 @@ pub limit-fits : limit ≤ 268435456
 unfolding limit
 limit-fits = omega arith
 
+-- All that proofs know of codes: their range. No other proof looks into `codeTest`.
+pub code-range : (a : ℕ) → IsCode a → a ≤ 268435455
+unfolding codeTest
+code-range a h = leb-true a 268435455 h
+
+pub range-code : (a : ℕ) → a ≤ 268435455 → IsCode a
+unfolding codeTest
+range-code a h = le-leb a 268435455 h
+
 -- a code fits the 28 bits in which it sits for a while
 pub code-fits : (a : ℕ) → IsCode a → a < 268435456
-unfolding codeTest
-code-fits a h = omega (arith, leb-true a 268435455 h)
+code-fits a h = omega (arith, code-range a h)
 
 abbrev pub BracketIn : ℕ → ℕ → Cell → Type 0
 BracketIn F lim (code a) = ⊥
