@@ -8,12 +8,13 @@
  * registers, and the cells from 16 up to but not including top are occupied. A register holds an
  * expression: terms in order, each a symbol with a code or a bracket around an expression.
  *
- *   second word 0x00000000        a symbol; the first word is its code, at most ZELMOTAR_MAX_CODE
+ *   second word 0x00000000        a symbol; the first word is its code, ZELMOTAR_MIN_CODE to ZELMOTAR_MAX_CODE
  *   second word 0x80000000        an empty bracket or register; the first word is 0
  *   second word 0x80000000 + r    a bracket or register around the cells l to r; the first word is l
  *
  * Both ends are inclusive. A register's ends lie between 16 and top, those of a bracket in cell c between
- * 16 and c. Cells from top on are zero. A store that keeps all these rules is sound.
+ * 16 and c. Cells from top on are zero, and no other cell has both words zero: a cell below top that was wiped is
+ * damaged. A store that keeps all these rules is sound.
  *
  * What holds for all nine functions:
  *
@@ -80,6 +81,7 @@ extern "C" {
 #define ZELMOTAR_MIN_WORDS 32         /* words of the smallest store, 16 cells */
 #define ZELMOTAR_MAX_WORDS 8192       /* words of the largest store, 4,096 cells */
 #define ZELMOTAR_MAX_CALL_WORDS 4096  /* words of the longest call list, 1,024 calls */
+#define ZELMOTAR_MIN_CODE 1u          /* the least code of a symbol; 0 is none */
 #define ZELMOTAR_MAX_CODE 0x0fffffffu /* the largest code of a symbol, 268,435,455 */
 #define ZELMOTAR_MAX_DEPTH 64         /* the most brackets that may be open at one place of a text */
 #define ZELMOTAR_EDITION 1            /* the edition of a file, its last word */
@@ -179,7 +181,7 @@ enum {
     ZELMOTAR_BAD_OPERATION = 10, /* the operation is over 11 */
     ZELMOTAR_BAD_REGISTER = 11,  /* a register word that the call uses is over 15 */
     ZELMOTAR_STRAY_WORD = 12,    /* a word that the call does not use is not 0 */
-    ZELMOTAR_BAD_CODE = 13,      /* SYMBOL, or a text, with a code over 268,435,455 */
+    ZELMOTAR_BAD_CODE = 13,      /* SYMBOL, or a text, with a code that is 0 or over 268,435,455 */
     ZELMOTAR_EMPTY = 14,         /* HEAD, REST, OPEN or FIRST on an empty register */
     ZELMOTAR_WRONG_KIND = 15,    /* OPEN on a symbol, or FIRST on a bracket */
     ZELMOTAR_NO_ROOM = 16        /* no room for the new cells; no expression changes, and the store is left collected */
@@ -192,7 +194,8 @@ enum {
  * Status of a register typed in: the first that applies of ZELMOTAR_BAD_LENGTH to ZELMOTAR_DAMAGED, with its value;
  * ZELMOTAR_NO_REGISTER with value 0; ZELMOTAR_BAD_CODE, ZELMOTAR_TOO_DEEP or ZELMOTAR_NOT_TEXT, whichever is at the
  * byte farthest left, with the offset of this byte as value, counted from 0; ZELMOTAR_NO_ROOM with value 0; and
- * ZELMOTAR_DONE with value 0. ZELMOTAR_BAD_CODE is at the digit that takes a code over 268,435,455. */
+ * ZELMOTAR_DONE with value 0. ZELMOTAR_BAD_CODE is at a 0 that begins a term, or at the digit that takes a code over
+ * 268,435,455. */
 enum {
     ZELMOTAR_NO_REGISTER = 20, /* the register is over 15; a store that is not sound is told first */
     ZELMOTAR_TOO_DEEP = 21,    /* the next byte would open a 65th bracket */
@@ -248,7 +251,7 @@ static inline const char *zelmotar_status_text(uint32_t status)
     case ZELMOTAR_BAD_OPERATION: return "no such operation";
     case ZELMOTAR_BAD_REGISTER: return "no such register";
     case ZELMOTAR_STRAY_WORD: return "a word that it does not use is not 0";
-    case ZELMOTAR_BAD_CODE: return "the code is too large";
+    case ZELMOTAR_BAD_CODE: return "the code is 0 or too large";
     case ZELMOTAR_EMPTY: return "the register is empty";
     case ZELMOTAR_WRONG_KIND: return "its first term is of the other kind";
     case ZELMOTAR_NO_ROOM: return "no room";
@@ -341,7 +344,7 @@ ZELMOTAR_USE_RESULT zelmotar_text zelmotar_print(const uint32_t *words, size_t n
                                                   size_t text_n);
 
 /* Types a register in: it becomes what a text of text_n bytes says. A text is what zelmotar_print writes and nothing
- * else: no code has leading zeros, one blank stands between neighbours and none elsewhere, and no zero byte or end of
+ * else: no code begins with 0, one blank stands between neighbours and none elsewhere, and no zero byte or end of
  * line is part of it. A text of no bytes makes the register empty.
  *
  * Reads the n words, and the text as far as it is in order. Writes the words of the new cells and of the register, and

@@ -62,6 +62,7 @@ int main(void)
     type("(7 1 12", ZELMOTAR_NOT_TEXT);          /* the end comes too soon */
     type("(7  1 12)", ZELMOTAR_NOT_TEXT);        /* one blank too many */
     type("(7 1 4294967295)", ZELMOTAR_BAD_CODE); /* at the digit that makes it too large */
+    type("(7 0 12)", ZELMOTAR_BAD_CODE);         /* at the 0, which no code begins with */
     type("8 2", ZELMOTAR_DONE);                  /* the cells of the line before are dead now */
     type("(8 2) 3", ZELMOTAR_DONE);              /* and have gone with those of 8 2, as there was no other room */
     type("(7 1 12) (8 2 13)", ZELMOTAR_NO_ROOM);

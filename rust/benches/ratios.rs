@@ -532,7 +532,8 @@ fn prints() {
 
 /// A text of so many symbols side by side, with codes of all lengths up to five digits.
 fn symbols(count: usize) -> Vec<u8> {
-    let codes = (0..count).map(|i| (i * i % 65_537).to_string());
+    // 65,537 is prime, so no code is 0.
+    let codes = (1..=count).map(|i| (i * i % 65_537).to_string());
     codes.collect::<Vec<_>>().join(" ").into_bytes()
 }
 

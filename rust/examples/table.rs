@@ -5,7 +5,7 @@ use std::mem::{offset_of, size_of};
 
 use zelmotar::raw::{Reply, Saved, Span, Text, Typed};
 use zelmotar::{file_bytes, status_text, Call, Trailer};
-use zelmotar::{EDITION, MAX_CALLS, MAX_CELLS, MAX_CODE, MAX_DEPTH, REGISTERS, STATUSES};
+use zelmotar::{EDITION, MAX_CALLS, MAX_CELLS, MAX_CODE, MAX_DEPTH, MIN_CODE, REGISTERS, STATUSES};
 
 /// A call of each operation, in order.
 fn operations() -> impl Iterator<Item = Call> {
@@ -52,6 +52,7 @@ fn main() {
     println!("registers {REGISTERS}");
     println!("most cells {MAX_CELLS}");
     println!("most calls {MAX_CALLS}");
+    println!("least code {MIN_CODE}");
     println!("most code {MAX_CODE}");
     println!("most depth {MAX_DEPTH}");
     for status in STATUSES {

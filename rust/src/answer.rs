@@ -93,7 +93,7 @@ pub enum Fault {
     Register,
     /// 12: a word that the call does not use is not 0. No [`Call`] has such a word.
     StrayWord,
-    /// 13: a symbol's code is over [`MAX_CODE`](crate::MAX_CODE).
+    /// 13: a symbol's code is 0, or over [`MAX_CODE`](crate::MAX_CODE).
     Code,
     /// 14: the call asks for the first term of an empty register.
     Empty,
@@ -169,7 +169,7 @@ pub enum Refusal {
     BadCalls,
     /// 5: the answer space is under two words a call.
     ShortAnswers,
-    /// 13: a digit of a typed text takes a code over [`MAX_CODE`](crate::MAX_CODE).
+    /// 13: a term of a typed text begins with 0, or a digit takes a code over [`MAX_CODE`](crate::MAX_CODE).
     BadCode {
         /// The place of the digit in the text, from 0.
         offset: usize,

@@ -57,7 +57,7 @@ pub enum Call {
     Symbol {
         /// The register that changes.
         d: u32,
-        /// The code of the symbol, at most [`MAX_CODE`](crate::MAX_CODE).
+        /// The code of the symbol, [`MIN_CODE`](crate::MIN_CODE) to [`MAX_CODE`](crate::MAX_CODE).
         code: u32,
     },
     /// Register `d` becomes one bracket around the expression of `a`. It needs one new cell; what `d` held

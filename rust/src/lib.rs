@@ -129,6 +129,9 @@ pub const MAX_CELLS: usize = 4096;
 /// The most calls in one batch.
 pub const MAX_CALLS: usize = 1024;
 
+/// The least code of a symbol: 0 is none, so that a word that was wiped is no symbol.
+pub const MIN_CODE: u32 = 1;
+
 /// The largest code of a symbol.
 pub const MAX_CODE: u32 = 0x0fff_ffff;
 

@@ -33,7 +33,7 @@ pub const STATUSES: [Status; 23] = [
     row(10, "BAD_OPERATION", "no such operation"),
     row(11, "BAD_REGISTER", "no such register"),
     row(12, "STRAY_WORD", "a word that it does not use is not 0"),
-    row(13, "BAD_CODE", "the code is too large"),
+    row(13, "BAD_CODE", "the code is 0 or too large"),
     row(14, "EMPTY", "the register is empty"),
     row(15, "WRONG_KIND", "its first term is of the other kind"),
     row(16, "NO_ROOM", "no room"),

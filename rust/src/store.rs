@@ -522,7 +522,7 @@ impl<W: AsRef<[u32]> + AsMut<[u32]>> Store<W> {
     /// Types a text into a register: the register becomes the expression of which this is the text, laid in
     /// new cells, one a term. It allocates nothing.
     ///
-    /// Only a text as [`print`](Store::print) writes it is read: codes in decimal without leading zeros,
+    /// Only a text as [`print`](Store::print) writes it is read: codes in decimal, none of which begins with 0,
     /// one blank between two terms and none elsewhere, and at most [`MAX_DEPTH`](crate::MAX_DEPTH) brackets
     /// open at one place. A text of no bytes makes the register empty. The store collects itself where the
     /// new cells would not fit otherwise, and only there. What the register held does not count then and
@@ -532,8 +532,8 @@ impl<W: AsRef<[u32]> + AsMut<[u32]>> Store<W> {
     ///
     /// As for [`check`](Store::check), then [`Refusal::NoRegister`] if the register is over 15. Else what
     /// comes first in the text, with its offset: [`Refusal::NotText`] at a byte that cannot stand there or
-    /// where the text ends too soon, [`Refusal::BadCode`] at a digit that takes a code over
-    /// [`MAX_CODE`](crate::MAX_CODE), [`Refusal::TooDeepAt`] at a bracket with which too many would be open.
+    /// where the text ends too soon, [`Refusal::BadCode`] at a 0 that begins a term or a digit that takes a code
+    /// over [`MAX_CODE`](crate::MAX_CODE), [`Refusal::TooDeepAt`] at a bracket with which too many would be open.
     /// The store is then as it was. Last [`Refusal::NoRoom`], and then the store has been collected and
     /// every register has its expression.
     ///
@@ -553,6 +553,7 @@ impl<W: AsRef<[u32]> + AsMut<[u32]>> Store<W> {
     ///
     /// assert_eq!(store.type_in(1, b"65  66"), Err(Refusal::NotText { offset: 3 }));
     /// assert_eq!(store.type_in(1, b"268435456"), Err(Refusal::BadCode { offset: 8 }));
+    /// assert_eq!(store.type_in(1, b"10 0"), Err(Refusal::BadCode { offset: 3 }));
     /// assert_eq!(store.type_in(2, b"65"), Err(Refusal::NoRoom));
     /// assert_eq!(store.type_in(16, b"65"), Err(Refusal::NoRegister));
     /// assert_eq!(store.type_in(1, b"1 2 3 4 5 6"), Err(Refusal::NoRoom));

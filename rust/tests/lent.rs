@@ -137,6 +137,7 @@ fn each_field_of_an_answer_is_where_c_has_it() {
     let mut words = [0; 48];
     assert_eq!(raw::fresh(&mut words).top, 16);
     words[..2].copy_from_slice(&[17, 0x8000_0000 + 18]);
+    words[32..42].copy_from_slice(&[1, 0, 2, 0, 3, 0, 4, 0, 5, 0]);
     let span = raw::look(&words, 21, 0);
     assert_eq!((span.from, span.to), (34, 38));
     let text = raw::print(&words, 21, 0, &mut [7; 9]);

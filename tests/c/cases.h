@@ -132,13 +132,22 @@ static inline void make_store(struct test_case *c)
         twin(c, (uint32_t)c->reg, below(16));
 }
 
+/* A heap cell loses both of its words, if there is one. */
+static inline void wipe(struct test_case *c)
+{
+    size_t cells = c->top - ZELMOTAR_REGISTERS, at = ZELMOTAR_REGISTERS + (cells > 0 ? below(cells) : 0);
+    if (cells > 0)
+        ZELMOTAR_FIRST_WORD(c->words, at) = ZELMOTAR_SECOND_WORD(c->words, at) = 0;
+}
+
 static inline void damage(struct test_case *c)
 {
     const size_t tops[6] = {0, 15, c->words_n / 2 + 1, c->words_n / 2, SIZE_MAX, c->top + 1};
     const size_t lengths[6] = {0, 1, 30, c->words_n - 1, c->words_n + 1, MOST_STORE};
-    switch (below(3)) {
+    switch (below(4)) {
     case 0: c->words[below(c->words_n)] ^= (uint32_t)1 << below(32); break;
     case 1: c->top = tops[below(6)]; break;
+    case 2: wipe(c); break;
     default: c->words_n = lengths[below(6)]; break;
     }
 }
@@ -165,15 +174,15 @@ static inline size_t random_space(void)
 
 static inline void type_byte(struct test_case *c, char byte) { c->typed[c->typed_n++] = (uint8_t)byte; }
 
-/* Codes have any number of digits; now and then one is about the largest, or over it. */
+/* Codes have any number of digits; now and then one is 0, about the largest, or over it. */
 static inline void type_code(struct test_case *c)
 {
     char digits[12];
     const char *p;
     uint32_t code = random_word() & ZELMOTAR_MAX_CODE;
-    code = below(4) ? code % 100 : code >> below(28);
+    code = ZELMOTAR_MIN_CODE + (below(4) ? code % 100 : code >> below(28));
     if (below(300) == 0)
-        code = ZELMOTAR_MAX_CODE - 1 + (uint32_t)below(4);
+        code = below(3) ? ZELMOTAR_MAX_CODE - 1 + (uint32_t)below(4) : 0;
     snprintf(digits, sizeof digits, "%lu", (unsigned long)code);
     for (p = digits; *p != '\0'; p++)
         type_byte(c, *p);
@@ -193,7 +202,7 @@ static inline size_t type_more(struct test_case *c, size_t open)
     return type_code(c), open;
 }
 
-/* The text of an expression, but that its codes may be too large and its brackets too deep. Such a walk hardly ever
+/* The text of an expression, but that its codes may be none and its brackets too deep. Such a walk hardly ever
  * gets as deep as a text may go, so now and then it begins about there. */
 static inline void make_text(struct test_case *c)
 {

@@ -254,8 +254,8 @@ static void rows_of_terms(void)
     prints(0, 9, 0, 0, "268435455");
     start(16, 16), put(100000002, 0);
     prints(0, 9, 0, 0, "100000002");
-    start(16, 16), put(0, 0);
-    prints(0, 2, 0, 0, "0");
+    start(16, 16), put(1, 0);
+    prints(0, 2, 0, 0, "1");
 }
 
 static void rows_of_depth(void)
@@ -282,6 +282,8 @@ static void rows_of_refusals(void)
     prints(16, 3, 2, 0, "");
     c.words_n = 30;
     prints(16, 3, 1, 0, "");
+    start(16, 16), put(0, 0); /* T27: a wiped cell */
+    prints(0, 2, 3, 16, "");
 }
 
 /* A text typed into a register of the case: the answer that is expected, with the case's `top`, and the case's store as
@@ -340,8 +342,12 @@ static void typed_rows_of_terms(void)
     types(fresh_one(17), 0, "268435455", 0, 0);
     start_with(17, 0, 16, 16), put(100000002, 0);
     types(fresh_one(17), 0, "100000002", 0, 0);
-    start_with(17, 0, 16, 16), put(0, 0);
-    types(fresh_one(17), 0, "0", 0, 0);
+    start_with(17, 0, 16, 16), put(1, 0);
+    types(fresh_one(17), 0, "1", 0, 0);
+    start_with(17, 0, 16, 16), put(10, 0); /* T26: a 0 that begins no term */
+    types(fresh_one(17), 0, "10", 0, 0);
+    start_with(18, 0, 16, 17), put(100, 0), put(20, 0);
+    types(fresh_one(18), 0, "100 20", 0, 0);
 }
 
 /* So many opening brackets, and what stands behind them. */
@@ -383,6 +389,7 @@ static void typed_rows_of_room(void)
     refuses(0, "1", 16, 0);
     fill(0, 0); /* a text of no bytes does not collect, and one that is refused by itself does not */
     refuses(0, "", 0, 0), refuses(0, "1 1 ", 23, 4), refuses(0, "1 268435456", 13, 10);
+    refuses(0, "0", 13, 0);
     start_with(18, 0, 16, 16), put(7, 0), full = c; /* nor does one for which there is room */
     start_with(18, 0, 17, 17), put(7, 0), put(9, 0);
     types(&full, 0, "9", 0, 0);
@@ -413,10 +420,13 @@ static void typed_rows_of_bytes(void)
 {
     start_with(16, 0, 0, 0);
     refuses(0, " ", 23, 0), refuses(0, ")", 23, 0), refuses(0, "x", 23, 0); /* T15 */
-    refuses(0, "01", 23, 1), refuses(0, "1)", 23, 1), refuses(0, "1(", 23, 1), refuses(0, "1  2", 23, 2); /* T16 */
+    refuses(0, "1)", 23, 1), refuses(0, "1(", 23, 1), refuses(0, "1  2", 23, 2); /* T16 */
     refuses(0, "( )", 23, 1), refuses(0, "(1 )", 23, 3), refuses(0, "()1", 23, 2), refuses(0, "())", 23, 2);
     refuses(0, "1 ", 23, 2), refuses(0, "(", 23, 1), refuses(0, "(1", 23, 2), refuses(0, "() ", 23, 3); /* T17 */
     refuses(0, "268435456", 13, 8), refuses(0, "99999999999", 13, 8), refuses(0, "(268435456", 13, 9); /* T18 */
+    refuses(0, "0", 13, 0), refuses(0, "01", 13, 0), refuses(0, "0x", 13, 0), refuses(0, "10 0", 13, 3); /* T25 */
+    refuses(0, "(0)", 13, 1), refuses(0, "(1 0", 13, 3), refuses(0, "1 0 x", 13, 2);
+    refuses(0, "()0", 23, 2);           /* T26 */
     types_from(&c, 0, "1\0", 2, 23, 1); /* a C string with the byte that ends it */
 }
 
@@ -431,6 +441,8 @@ static void typed_rows_of_refusals(void)
     refuses(16, "x", 2, 0);
     c.words_n = 30;
     refuses(16, "x", 1, 0);
+    start_with(17, 0, 16, 16), put(0, 0); /* T27 */
+    refuses(0, "1", 3, 16), refuses(16, "0", 3, 16);
 }
 
 /* A call on a store: its status, with value 0, and the case's store as the one that it leaves. */
@@ -461,8 +473,10 @@ static void rows_of_symbols(void)
     runs(&c, ZELMOTAR_WRAP, 0, 0, 0, 16); /* but not where it is read, or where another is set */
     runs(&c, ZELMOTAR_SYMBOL, 1, 66, 0, 16);
     hold(1, 16, 16), runs(&c, ZELMOTAR_SYMBOL, 0, 66, 0, 16); /* what another register reaches counts */
-    start_with(17, 0, 16, 16), put(0, 0);                     /* a code that is the register's number */
-    runs(&full, ZELMOTAR_SYMBOL, 0, 0, 0, 0);
+    start_with(17, 5, 16, 16), put(65, 0), full = c;
+    start_with(17, 5, 16, 16), put(5, 0); /* a code that is the register's number */
+    runs(&full, ZELMOTAR_SYMBOL, 5, 5, 0, 0);
+    runs(&c, ZELMOTAR_SYMBOL, 5, 0, 0, 13); /* P13: no code, for which nothing is collected */
     start_with(18, 0, 16, 16), put(65, 0), full = c; /* where there is room nothing goes, */
     start_with(18, 0, 17, 17), put(65, 0), put(66, 0);
     runs(&full, ZELMOTAR_SYMBOL, 0, 66, 0, 0);
@@ -610,6 +624,7 @@ static void rows_of_saving(void)
     c.top = 25, saves(&c, 5, 2, 0);
     c.top = 0, saves(&c, 192, 2, 0);
     c.words_n = 3, saves(&c, 5, 1, 0), saves(&c, 0, 1, 0);
+    start_with(17, 0, 16, 16), put(0, 0), saves(&c, 152, 3, 16); /* S8 */
 }
 
 static void rows_of_loading(void)
@@ -663,6 +678,9 @@ static void rows_of_cells(void)
     file_of_one(65, 0, ZELMOTAR_EMPTY_CELL, 17), loads(34, 34, 0); /* L11 */
     c.file_n = 0, add_cell(65, 0), add_cell(ZELMOTAR_BRACKET_CELL(16, 16)); /* held, and still not reached */
     add_empty(16), add_trailer(160, 2, 20, 1), loads(40, 34, 0);
+    file_of_one(0, 0, 16, ZELMOTAR_BRACKET + 16, 17), loads(34, 3, 16); /* L13 */
+    file_of_one(0, 0, ZELMOTAR_EMPTY_CELL, 17), loads(34, 3, 16);
+    start_with(17, 0, 16, 16), put(1, 0), file_of_one(1, 0, 16, ZELMOTAR_BRACKET + 16, 17), loads(34, 0, 0);
 }
 
 /* The case's file, into the words of P2, held against the second reader. */

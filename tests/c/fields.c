@@ -55,12 +55,22 @@ static void reads(zelmotar_reply answer, uint32_t status, uint32_t value, size_t
     EXPECT(answer.top == top && AT(answer, top, top));
 }
 
+/* A store whose heap cells below top are symbols, with register 0 on those from l to r. */
+static void symbols(size_t top, uint32_t l, uint32_t r)
+{
+    const uint32_t holder[2] = {ZELMOTAR_BRACKET_CELL(l, r)};
+    size_t c;
+    EXPECT(zelmotar_fresh(words, WORDS).status == ZELMOTAR_DONE);
+    memcpy(words, holder, sizeof holder);
+    for (c = ZELMOTAR_REGISTERS; c < top; c++)
+        ZELMOTAR_FIRST_WORD(words, c) = 7;
+}
+
 /* Register 0 on the symbols 17 and 18, and cell 19 a bracket around itself. */
 static void damaged_store(void)
 {
-    const uint32_t holder[2] = {ZELMOTAR_BRACKET_CELL(17, 18)}, knot[2] = {ZELMOTAR_BRACKET_CELL(19, 19)};
-    EXPECT(zelmotar_fresh(words, WORDS).status == ZELMOTAR_DONE);
-    memcpy(words, holder, sizeof holder);
+    const uint32_t knot[2] = {ZELMOTAR_BRACKET_CELL(19, 19)};
+    symbols(21, 17, 18);
     memcpy(words + 38, knot, sizeof knot);
 }
 
@@ -75,7 +85,7 @@ static void answers(void)
     reads(zelmotar_collect(words, WORDS, far), 2, 0, far);
     reads(zelmotar_fresh(words, WORDS), 0, 0, 16);
     reads(zelmotar_fresh(words, WORDS - 1), 1, 0, 0);
-    words[0] = 17, words[1] = ZELMOTAR_BRACKET + 18;
+    symbols(21, 17, 18);
     reads(zelmotar_collect(words, WORDS, 21), 0, 2, 18);
 }
 
@@ -83,8 +93,7 @@ static void spans(void)
 {
     const size_t from = 34, to = 38;
     zelmotar_span span;
-    EXPECT(zelmotar_fresh(words, WORDS).status == ZELMOTAR_DONE);
-    words[0] = 17, words[1] = ZELMOTAR_BRACKET + 18;
+    symbols(21, 17, 18);
     span = zelmotar_look(words, WORDS, 21, 0);
     EXPECT(span.from == from && AT(span, from, from));
     EXPECT(span.to == to && AT(span, to, to));
@@ -106,8 +115,7 @@ static void texts(void)
     damaged_store();
     reads_text(zelmotar_print(words, WORDS, 21, 0, text, 5), 3, 19, 0);
     reads_text(zelmotar_print(words, WORDS, 50, 0, text, 5), 2, 0, 0);
-    EXPECT(zelmotar_fresh(words, WORDS).status == ZELMOTAR_DONE);
-    words[0] = 16, words[1] = ZELMOTAR_BRACKET + 17;
+    symbols(18, 16, 17);
     reads_text(zelmotar_print(words, WORDS, 18, 0, text, 5), 0, 0, 3);
     reads_text(zelmotar_print(words, WORDS, 18, 16, text, 5), 20, 0, 0);
     reads_text(zelmotar_print(words, WORDS, 18, 0, text, 2), 22, 0, 0);
@@ -138,7 +146,7 @@ static void typings(void)
     reads_typed(zelmotar_type(words, WORDS, 21, 0, text, 3), 3, 19, 21);
     reads_typed(zelmotar_type(words, WORDS, far, 0, text, 3), 2, 0, far);
     reads_typed(zelmotar_type(words, WORDS - 1, far, 0, text, 3), 1, 0, far);
-    EXPECT(zelmotar_fresh(words, WORDS).status == ZELMOTAR_DONE);
+    symbols(17, 0, 0);
     reads_typed(zelmotar_type(words, WORDS, 17, 16, text, 3), 20, 0, 17);
     reads_typed(zelmotar_type(words, WORDS, 17, far, text, 3), 20, 0, 17);
     reads_typed(zelmotar_type(words, WORDS, 17, 0, text, 2), 23, 2, 17);
@@ -170,8 +178,7 @@ static void files(void)
     reads_saved(zelmotar_save(words, WORDS, 21, file, 300), 3, 19, 21, 0);
     reads_saved(zelmotar_save(words, WORDS, far, file, 300), 2, 0, far, 0);
     reads_saved(zelmotar_save(words, WORDS - 1, far, file, 300), 1, 0, far, 0);
-    EXPECT(zelmotar_fresh(words, WORDS).status == ZELMOTAR_DONE);
-    words[0] = 17, words[1] = ZELMOTAR_BRACKET + 18;
+    symbols(21, 17, 18);
     reads_saved(zelmotar_save(words, WORDS, 21, file, 159), 22, 0, 18, 0);
     reads_saved(zelmotar_save(words, WORDS, 18, file, 300), 0, 0, 18, 160);
     reads(zelmotar_load(words, WORDS, file, 160), 0, 0, 18);
@@ -179,7 +186,7 @@ static void files(void)
     reads(zelmotar_load(words, WORDS - 1, file, 160), 35, 0, 0);
     file[12] = 1; /* the second word of cell 17 */
     reads(zelmotar_load(words, WORDS, file, 160), 3, 17, 0);
-    words[0] = 16, words[1] = ZELMOTAR_BRACKET + 31;
+    symbols(32, 16, 31);
     reads_saved(zelmotar_save(words, WORDS, 32, file, 300), 0, 0, 32, 272);
     reads(zelmotar_load(words, WORDS, file, 272), 0, 0, 32);
 }

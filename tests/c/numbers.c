@@ -79,6 +79,8 @@ static void statuses_of_a_call(void)
     EXPECT(call(ZELMOTAR_CLEAR, 0, 1, 0) == ZELMOTAR_STRAY_WORD);
     EXPECT(call(ZELMOTAR_SYMBOL, 0, ZELMOTAR_MAX_CODE + 1, 0) == ZELMOTAR_BAD_CODE);
     EXPECT(call(ZELMOTAR_SYMBOL, 0, ZELMOTAR_MAX_CODE, 0) == ZELMOTAR_DONE);
+    EXPECT(call(ZELMOTAR_SYMBOL, 0, ZELMOTAR_MIN_CODE - 1, 0) == ZELMOTAR_BAD_CODE);
+    EXPECT(call(ZELMOTAR_SYMBOL, 0, ZELMOTAR_MIN_CODE, 0) == ZELMOTAR_DONE);
     EXPECT(call(ZELMOTAR_HEAD, 1, 1, 0) == ZELMOTAR_EMPTY);
     EXPECT(call(ZELMOTAR_OPEN, 1, 0, 0) == ZELMOTAR_WRONG_KIND);
     for (n = 0; n < CELLS - ZELMOTAR_REGISTERS - 1; n++)
@@ -96,6 +98,10 @@ static void statuses_of_a_request(void)
     EXPECT(zelmotar_check(words, 2 * CELLS, CELLS + 1).status == ZELMOTAR_BAD_TOP);
     EXPECT(zelmotar_run(words, 2 * CELLS, top, calls, 3, answers, 2).status == ZELMOTAR_BAD_CALLS);
     EXPECT(zelmotar_run(words, 2 * CELLS, top, calls, 4, answers, 1).status == ZELMOTAR_SHORT_ANSWERS);
+    EXPECT(call(ZELMOTAR_SYMBOL, 0, ZELMOTAR_MIN_CODE, 0) == ZELMOTAR_DONE && words[32] == ZELMOTAR_MIN_CODE);
+    words[32] = ZELMOTAR_MIN_CODE - 1;
+    answer = zelmotar_check(words, 2 * CELLS, top);
+    EXPECT(answer.status == ZELMOTAR_DAMAGED && answer.value == ZELMOTAR_REGISTERS && answer.top == top);
     ZELMOTAR_FIRST_WORD(words, 7) = 1;
     answer = zelmotar_check(words, 2 * CELLS, top);
     EXPECT(answer.status == ZELMOTAR_DAMAGED && answer.value == 7 && answer.top == top);
@@ -133,8 +139,8 @@ static uint32_t type(size_t reg, const char *typed)
     return answer.status;
 }
 
-/* Each status of a register typed in, with the offset where there is one: the largest code and the deepest bracket are
- * in order, and one more is not. */
+/* Each status of a register typed in, with the offset where there is one: the least code, the largest and the deepest
+ * bracket are in order, and one less or more is not. */
 static void statuses_of_typing(void)
 {
     char typed[2 * ZELMOTAR_MAX_DEPTH + 2] = "";
@@ -145,6 +151,8 @@ static void statuses_of_typing(void)
     EXPECT(type(ZELMOTAR_REGISTERS - 1, "(7 ") == ZELMOTAR_NOT_TEXT && value == 3 && top == ZELMOTAR_REGISTERS);
     snprintf(typed, sizeof typed, "7 %lu", (unsigned long)ZELMOTAR_MAX_CODE + 1);
     EXPECT(type(0, typed) == ZELMOTAR_BAD_CODE && value == strlen(typed) - 1 && top == ZELMOTAR_REGISTERS);
+    snprintf(typed, sizeof typed, "7 %lu", (unsigned long)ZELMOTAR_MIN_CODE - 1);
+    EXPECT(type(0, typed) == ZELMOTAR_BAD_CODE && value == 2 && top == ZELMOTAR_REGISTERS);
     snprintf(typed, sizeof typed, "7 %lu", (unsigned long)ZELMOTAR_MAX_CODE);
     EXPECT(type(0, typed) == ZELMOTAR_DONE && value == 0 && holds(0, 16, 17) && words[34] == ZELMOTAR_MAX_CODE);
     memset(typed, '(', ZELMOTAR_MAX_DEPTH), memset(typed + ZELMOTAR_MAX_DEPTH, ')', ZELMOTAR_MAX_DEPTH);
@@ -217,6 +225,8 @@ static void statuses_of_loading(void)
     EXPECT(load_with(-3, 4, 0) == ZELMOTAR_BAD_DISTANCE);
     EXPECT(load_with(0, ZELMOTAR_MAX_CODE, 0) == ZELMOTAR_DONE && words[32] == ZELMOTAR_MAX_CODE);
     EXPECT(load_with(0, ZELMOTAR_MAX_CODE + 1, 0) == ZELMOTAR_DAMAGED);
+    EXPECT(load_with(0, ZELMOTAR_MIN_CODE, 0) == ZELMOTAR_DONE && words[32] == ZELMOTAR_MIN_CODE);
+    EXPECT(load_with(0, ZELMOTAR_MIN_CODE - 1, 0) == ZELMOTAR_DAMAGED);
     EXPECT(load_with(6, ZELMOTAR_REGISTERS + 1, 0) == ZELMOTAR_NOT_COLLECTED);
 }
 

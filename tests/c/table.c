@@ -14,6 +14,7 @@ static void print_limits(void)
     printf("registers %u\n", (unsigned)ZELMOTAR_REGISTERS);
     printf("most cells %u\n", (unsigned)ZELMOTAR_MAX_WORDS / 2);
     printf("most calls %u\n", (unsigned)ZELMOTAR_MAX_CALL_WORDS / 4);
+    printf("least code %u\n", (unsigned)ZELMOTAR_MIN_CODE);
     printf("most code %u\n", (unsigned)ZELMOTAR_MAX_CODE);
     printf("most depth %u\n", (unsigned)ZELMOTAR_MAX_DEPTH);
 }

@@ -47,9 +47,9 @@ static inline struct judgement judge_text(const uint8_t *text, size_t text_n)
         byte = text[i];
         if (!may_follow(left, byte) || (byte == ')' && open == 0))
             return judged(ZELMOTAR_NOT_TEXT, i);
-        if (is_digit(left) && is_digit(byte) && code == 0)
-            return judged(ZELMOTAR_NOT_TEXT, i);
-        if (is_digit(byte) && (code = 10 * (is_digit(left) ? code : 0) + (uint32_t)(byte - '0')) > ZELMOTAR_MAX_CODE)
+        if (is_digit(byte))
+            code = 10 * (is_digit(left) ? code : 0) + (uint32_t)(byte - '0');
+        if (is_digit(byte) && (code < ZELMOTAR_MIN_CODE || code > ZELMOTAR_MAX_CODE))
             return judged(ZELMOTAR_BAD_CODE, i);
         if (byte == '(' && open++ == ZELMOTAR_MAX_DEPTH)
             return judged(ZELMOTAR_TOO_DEEP, i);

@@ -1,4 +1,4 @@
--- Files to try (SCOPE 7.1, S1 to S7 and L1 to L12), as one table with one test of a row. The rows are of edition e,
+-- Files to try (SCOPE 7.1, S1 to S8 and L1 to L13), as one table with one test of a row. The rows are of edition e,
 -- for a heap that begins at cell F. Assumes nothing.
 use mathlib.Core.Bool.{Bool, true, _&&_}
 use mathlib.Core.List.{List, [], _∷_, _++_}
@@ -80,7 +80,9 @@ savingRows e F =
     -- S5: 1, and not 2; S6: 2, and not 3; S7: 3, and not 22
     saves (junk 3) 0 5 1 0 0 (junk 3) 0 (replicate 5 0) ∷
     saves (broken F) (9 + F) 5 2 0 0 (broken F) (9 + F) (replicate 5 0) ∷
-    saves (broken F) (7 + F) 5 3 (5 + F) 0 (broken F) (7 + F) (replicate 5 0) ∷ []
+    saves (broken F) (7 + F) 5 3 (5 + F) 0 (broken F) (7 + F) (replicate 5 0) ∷
+    -- S8: 3: a wiped cell
+    saves (lone F 0) (1 + F) 5 3 F 0 (lone F 0) (1 + F) (replicate 5 0) ∷ []
 
 unfoldable pub loadingRows : ℕ → ℕ → List FileRow
 loadingRows e F =
@@ -124,7 +126,11 @@ loadingRows e F =
     turnsAway (one e F 65 1 0 (bracketTo 0) (1 + F)) (2 + 2 * F) 3 F ∷
     -- L11: 34, and L12: the same cell held
     turnsAway (one e F 65 0 0 (bracketTo 0) (1 + F)) (2 + 2 * F) 34 0 ∷
-    loads (one e F 65 0 F (bracketTo F) (1 + F)) (junk (2 + 2 * F)) 0 0 (1 + F) (lone F 65) ∷ []
+    loads (one e F 65 0 F (bracketTo F) (1 + F)) (junk (2 + 2 * F)) 0 0 (1 + F) (lone F 65) ∷
+    -- L13: 3: a wiped cell, held, and not held, 3 before 34; and the least code
+    turnsAway (one e F 0 0 F (bracketTo F) (1 + F)) (2 + 2 * F) 3 F ∷
+    turnsAway (one e F 0 0 0 (bracketTo 0) (1 + F)) (2 + 2 * F) 3 F ∷
+    loads (one e F 1 0 F (bracketTo F) (1 + F)) (junk (2 + 2 * F)) 0 0 (1 + F) (lone F 1) ∷ []
 
 -- every row holds
 abbrev pub FileRowsRight : ℕ → ℕ → Type 0

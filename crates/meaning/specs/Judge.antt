@@ -7,7 +7,7 @@ use lib.Dec.{ltb, leb, eqb}
 use Rattle.meaning.specs.Limits.{codeTest, depthLimit}
 
 -- Where the reader stands: a level has begun, and a term or its end may come; after a space, a term must come; in a
--- number, by the code so far, where after a 0 no digit may come; after a closing bracket; or stopped, with a status.
+-- number, by the code so far; after a closing bracket; or stopped, with a status.
 pub data Stand : Type 0 where
   begun : Stand
   spaced : Stand
@@ -30,7 +30,8 @@ isDigit b = leb 48 b && leb b 57
 unfoldable pub withDigit : ℕ → ℕ → ℕ
 withDigit a b = 10 * a + (b - 48)
 
--- a byte where a term may begin, with so many brackets open: 21 at a bracket that is one too many
+-- a byte where a term may begin, with so many brackets open: 13 at a digit that is no code, so at a 0, and 21 at a
+-- bracket that is one too many
 unfoldable pub firstMove : ℕ → ℕ → Move
 firstMove depth b =
     cond (isDigit b) (cond (codeTest (withDigit 0 b)) (begins (withDigit 0 b)) (stops 13))
@@ -40,12 +41,10 @@ firstMove depth b =
 unfoldable pub laterMove : ℕ → ℕ → Move
 laterMove depth b = cond (eqb b 32) parts (cond (eqb b 41) (cond (ltb 0 depth) closes (stops 23)) (stops 23))
 
--- a byte after a digit: no leading zeros, and 13 at the digit that takes the code over the limit
+-- a byte after a digit: 13 at the digit with which the number is no code any more
 unfoldable pub moreMove : ℕ → ℕ → ℕ → Move
 moreMove a depth b =
-    cond (isDigit b)
-    (cond (eqb a 0) (stops 23) (cond (codeTest (withDigit a b)) (grows (withDigit a b)) (stops 13)))
-    (laterMove depth b)
+    cond (isDigit b) (cond (codeTest (withDigit a b)) (grows (withDigit a b)) (stops 13)) (laterMove depth b)
 
 abbrev pub judge : Stand → ℕ → ℕ → Move
 judge begun depth b = cond (eqb b 41) (laterMove depth b) (firstMove depth b)

@@ -20,7 +20,7 @@
 --   Judge      the judgement of a byte of a text that is read
 --   Reader     a text read: where it stops, or the expression that it denotes
 --   Typed      a register typed in
---   Rows       the worked stores P1 to P12, as one table
+--   Rows       the worked stores P1 to P14, as one table
 --   TextRows   the texts to try, as one table
 --   File       a store as a file: its bytes, loading and saving
 --   FileRows   the files to try, as one table

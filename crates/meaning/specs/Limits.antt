@@ -1,6 +1,6 @@
 -- The numbers of the store. Each stands here once, and those that the code shares once more in src/lib.rt.
 -- Assumes nothing.
-use mathlib.Core.Bool.{Bool}
+use mathlib.Core.Bool.{Bool, _&&_}
 use mathlib.Core.List.{List, [], _∷_}
 use Prim.Native.Nat.{ℕ}
 use lib.Dec.{leb}
@@ -13,9 +13,9 @@ firstHeapCell = 16
 unfoldable pub limit : ℕ
 limit = 4096
 
--- what a symbol's code may be
+-- What a symbol's code may be: 1 to 268,435,455. `code-range` and `range-code` say it to proofs.
 unfoldable pub codeTest : ℕ → Bool
-codeTest a = leb a 268435455
+codeTest a = leb 1 a && leb a 268435455
 
 -- the most brackets that may be open at one place of a text
 unfoldable pub depthLimit : ℕ

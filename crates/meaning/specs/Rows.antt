@@ -1,4 +1,4 @@
--- The rows of SCOPE 7.1, P1 to P12, as one table with one test of a row. The rows are for a heap that begins at cell F.
+-- The rows of SCOPE 7.1, P1 to P14, as one table with one test of a row. The rows are for a heap that begins at cell F.
 -- Assumes nothing.
 use mathlib.Core.Bool.{Bool, true, false, _&&_}
 use mathlib.Core.List.{List, [], _∷_, _++_}
@@ -109,7 +109,7 @@ rows F =
     -- P4: SYMBOL 0 1, WRAP 0 0, JOIN 0 0 0
     runsTo (fresh F F) F (2 ∷ 0 ∷ 1 ∷ 0 ∷ 3 ∷ 0 ∷ 0 ∷ 0 ∷ 4 ∷ 0 ∷ 0 ∷ 0 ∷ []) (16 ∷ 0 ∷ 16 ∷ 0 ∷ 0 ∷ 0 ∷ [])
     (fresh F F) F ∷
-    -- P5
+    -- P5: SYMBOL 0 with the largest code, and with one more
     runsTo (fresh F (1 + F)) F (2 ∷ 0 ∷ 268435455 ∷ 0 ∷ 2 ∷ 0 ∷ 268435456 ∷ 0 ∷ []) (0 ∷ 0 ∷ 13 ∷ 0 ∷ [])
     (lone F 268435455) (1 + F) ∷
     -- P6
@@ -136,6 +136,13 @@ rows F =
     -- P12: JOIN 0 1 1 behind a dead symbol: 16 leaves the store collected, register 0 counted
     runsTo (two F (1 + F) ++ (70 ∷ 0 ∷ 65 ∷ 0 ∷ 66 ∷ 0 ∷ 67 ∷ 0 ∷ [])) (4 + F) (4 ∷ 0 ∷ 1 ∷ 1 ∷ []) (16 ∷ 0 ∷ [])
     (two F F ++ (65 ∷ 0 ∷ 66 ∷ 0 ∷ 67 ∷ 0 ∷ 0 ∷ 0 ∷ [])) (3 + F) ∷
+    -- P13: SYMBOL 0 1, which is the least code, SYMBOL 0 0, and FIRST 0
+    runsTo (fresh F (1 + F)) F (2 ∷ 0 ∷ 1 ∷ 0 ∷ 2 ∷ 0 ∷ 0 ∷ 0 ∷ 9 ∷ 0 ∷ 0 ∷ 0 ∷ []) (0 ∷ 0 ∷ 13 ∷ 0 ∷ 0 ∷ 1 ∷ [])
+    (lone F 1) (1 + F) ∷
+    -- P14: a wiped cell that register 0 holds, one that is dead below a symbol, and one that is free
+    checksTo (lone F 0) (1 + F) 3 F ∷
+    checksTo (emptyRegisters F ++ (0 ∷ 0 ∷ 65 ∷ 0 ∷ [])) (2 + F) 3 F ∷
+    checksTo (emptyRegisters F ++ (65 ∷ 0 ∷ 0 ∷ 0 ∷ [])) (1 + F) 0 0 ∷
     -- of the rows of SCOPE 7.2: CLEAR of the last register, of one more, and with a third word of 1
     runsTo (fresh F F) F (0 ∷ (F - 1) ∷ 0 ∷ 0 ∷ 0 ∷ F ∷ 0 ∷ 0 ∷ 0 ∷ 0 ∷ 1 ∷ 0 ∷ []) (0 ∷ 0 ∷ 11 ∷ 0 ∷ 12 ∷ 0 ∷ [])
     (fresh F F) F ∷

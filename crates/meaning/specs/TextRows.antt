@@ -1,4 +1,4 @@
--- Texts to try (SCOPE 7.1, T1 to T24), as one table with one test of a row. The rows are for a heap that begins at
+-- Texts to try (SCOPE 7.1, T1 to T27), as one table with one test of a row. The rows are for a heap that begins at
 -- cell F. Assumes nothing.
 use mathlib.Core.Bool.{Bool, true, _&&_}
 use mathlib.Core.List.{List, [], _∷_, _++_}
@@ -86,10 +86,10 @@ textRows F =
     prints (t1Store F) (5 + F) 0 0 0 0 0 [] ∷
     -- T3: `()`
     prints (nest F 0) (1 + F) 0 2 0 0 2 (40 ∷ 41 ∷ []) ∷
-    -- T4: codes of nine digits, with a 0 inside, and 0
+    -- T4: codes of nine digits, one with zeros inside, and the least code in two bytes
     prints (lone F 268435455) (1 + F) 0 9 0 0 9 (50 ∷ 54 ∷ 56 ∷ 52 ∷ 51 ∷ 53 ∷ 52 ∷ 53 ∷ 53 ∷ []) ∷
     prints (lone F 100000002) (1 + F) 0 9 0 0 9 (49 ∷ 48 ∷ 48 ∷ 48 ∷ 48 ∷ 48 ∷ 48 ∷ 48 ∷ 50 ∷ []) ∷
-    prints (lone F 0) (1 + F) 0 2 0 0 1 (48 ∷ 0 ∷ []) ∷
+    prints (lone F 1) (1 + F) 0 2 0 0 1 (49 ∷ 0 ∷ []) ∷
     -- T5: 64 brackets, T6: 65
     prints (nest F 63) (64 + F) 0 128 0 0 128 (replicate 64 40 ++ replicate 64 41) ∷
     prints (nest F 64) (65 + F) 0 200 21 0 0 (replicate 200 0) ∷
@@ -113,7 +113,7 @@ textRows F =
     types (fresh F (1 + F)) F 0 (40 ∷ 41 ∷ []) 0 0 (nest F 0) (1 + F) ∷
     types (fresh F (1 + F)) F 0 (50 ∷ 54 ∷ 56 ∷ 52 ∷ 51 ∷ 53 ∷ 52 ∷ 53 ∷ 53 ∷ []) 0 0 (lone F 268435455) (1 + F) ∷
     types (fresh F (1 + F)) F 0 (49 ∷ 48 ∷ 48 ∷ 48 ∷ 48 ∷ 48 ∷ 48 ∷ 48 ∷ 50 ∷ []) 0 0 (lone F 100000002) (1 + F) ∷
-    types (fresh F (1 + F)) F 0 (48 ∷ []) 0 0 (lone F 0) (1 + F) ∷
+    types (fresh F (1 + F)) F 0 (49 ∷ []) 0 0 (lone F 1) (1 + F) ∷
     types (fresh F (64 + F)) F 0 (replicate 64 40 ++ replicate 64 41) 0 0 (nest F 63) (64 + F) ∷
     -- T13: no bytes, in a full store
     types (lone F 7) (1 + F) 0 [] 0 0 (dead F 7) (1 + F) ∷
@@ -126,8 +126,7 @@ textRows F =
     refuses F (41 ∷ []) 23 0 ∷
     refuses F (120 ∷ []) 23 0 ∷
     types (dead F 7) (1 + F) 0 (120 ∷ []) 23 0 (dead F 7) (1 + F) ∷
-    -- T16: a later one: `01`, `1)`, `1(`, `1  2`, `( )`, `(1 )`, `()1`, `)` behind `()`
-    refuses F (48 ∷ 49 ∷ []) 23 1 ∷
+    -- T16: a later one: `1)`, `1(`, `1  2`, `( )`, `(1 )`, `()1`, `)` behind `()`
     refuses F (49 ∷ 41 ∷ []) 23 1 ∷
     refuses F (49 ∷ 40 ∷ []) 23 1 ∷
     refuses F (49 ∷ 32 ∷ 32 ∷ 50 ∷ []) 23 2 ∷
@@ -162,7 +161,25 @@ textRows F =
     -- T24: `1 2` and `1 2 3` where the old symbol and a dead one fill the heap; 16 keeps the old one and drops the dead
     types (behind F) (2 + F) 0 (49 ∷ 32 ∷ 50 ∷ []) 0 0
     (F ∷ bracketTo (1 + F) ∷ emptyRegisters (F - 1) ++ (1 ∷ 0 ∷ 2 ∷ 0 ∷ [])) (2 + F) ∷
-    types (behind F) (2 + F) 0 (49 ∷ 32 ∷ 50 ∷ 32 ∷ 51 ∷ []) 16 0 (lone F 65 ++ (0 ∷ 0 ∷ [])) (1 + F) ∷ []
+    types (behind F) (2 + F) 0 (49 ∷ 32 ∷ 50 ∷ 32 ∷ 51 ∷ []) 16 0 (lone F 65 ++ (0 ∷ 0 ∷ [])) (1 + F) ∷
+    -- T25: a 0 that begins a term: `0`, `01`, `0x`, `10 0`, `(0)`, `(1 0`, `1 0 x`; and where one dead symbol fills the
+    -- heap, which stays
+    refuses F (48 ∷ []) 13 0 ∷
+    refuses F (48 ∷ 49 ∷ []) 13 0 ∷
+    refuses F (48 ∷ 120 ∷ []) 13 0 ∷
+    refuses F (49 ∷ 48 ∷ 32 ∷ 48 ∷ []) 13 3 ∷
+    refuses F (40 ∷ 48 ∷ 41 ∷ []) 13 1 ∷
+    refuses F (40 ∷ 49 ∷ 32 ∷ 48 ∷ []) 13 3 ∷
+    refuses F (49 ∷ 32 ∷ 48 ∷ 32 ∷ 120 ∷ []) 13 2 ∷
+    types (dead F 7) (1 + F) 0 (48 ∷ []) 13 0 (dead F 7) (1 + F) ∷
+    -- T26: a 0 that begins none: `10`, `100 20`; and behind a bracket, where no term may begin
+    types (fresh F (1 + F)) F 0 (49 ∷ 48 ∷ []) 0 0 (lone F 10) (1 + F) ∷
+    types (fresh F (2 + F)) F 0 (49 ∷ 48 ∷ 48 ∷ 32 ∷ 50 ∷ 48 ∷ []) 0 0
+    (F ∷ bracketTo (1 + F) ∷ emptyRegisters (F - 1) ++ (100 ∷ 0 ∷ 20 ∷ 0 ∷ [])) (2 + F) ∷
+    refuses F (40 ∷ 41 ∷ 48 ∷ []) 23 2 ∷
+    -- T27: a register that holds a wiped cell is not printed, and no text is typed there
+    prints (lone F 0) (1 + F) 0 2 3 F 0 (0 ∷ 0 ∷ []) ∷
+    types (lone F 0) (1 + F) 0 (49 ∷ []) 3 F (lone F 0) (1 + F) ∷ []
 
 -- every row holds
 abbrev pub TextRowsRight : ℕ → Type 0

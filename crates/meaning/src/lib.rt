@@ -7,7 +7,9 @@ pub const FIRST_HEAP_CELL: usize = 16;
 // The most cells that a store may have.
 pub const LIMIT: usize = 4096;
 
-// The largest code of a symbol.
+// The least code of a symbol, and the largest.
+pub const LEAST_CODE: u32 = 1;
+
 pub const CODE_LIMIT: u32 = 268435455;
 
 // The most brackets that may be open at one place of a text.

@@ -19,7 +19,7 @@ use Rattle.promises.specs.Program.{ProgramWrites, ProgramReads}
 use Rattle.promises.specs.ProgramRows.{ProgramRows}
 use Rattle.promises.specs.Unique.{OneAnswer, OneCheck, OneFresh, OneCollected, OneLook, OneCollect, OneBatch}
 use Rattle.promises.specs.Unique.{OneCall, OnePrint, OneType, OneProgram, OneLoad, OneSave}
-use Rattle.promises.specs.OwnWords.{FaultsInWords, FaultRows, OneFault}
+use Rattle.promises.specs.OwnWords.{CodesInWords, FaultsInWords, FaultRows, OneFault}
 use Rattle.promises.proofs.table.Tables as tables
 use Rattle.promises.proofs.collecting.Keeping as keeping
 use Rattle.promises.proofs.room.Seeking as seeking
@@ -70,6 +70,9 @@ live-counts = keeping.live-counts
 
 pub collecting-keeps : CollectingKeeps
 collecting-keeps = keeping.collecting-keeps
+
+pub codes-in-words : CodesInWords
+codes-in-words = faults.codes-in-words
 
 pub faults-in-words : FaultsInWords
 faults-in-words = faults.faults-in-words

@@ -1,5 +1,6 @@
 -- Demand 2, statuses 10 to 13: what is wrong with a call's own words, by a row for each of the twelve operations (SCOPE
 -- 4.1, 4.5). In order:
+--   CodesInWords   a code in numbers
 --   Use, Row   what a word of a call is for;  rows  the twelve
 --   OwnFault   the first of 10 to 13 that applies, else 0
 --   FaultsInWords, FaultRows, OneFault   the claims
@@ -12,6 +13,10 @@ use lib.ListN.{getD}
 use Rattle.meaning.specs.Sound.{IsCode}
 use Rattle.meaning.specs.Operands.{fault}
 use Rattle.promises.specs.Table.{Not}
+
+-- a code is 1 to 268,435,455
+abbrev pub CodesInWords : Type 0
+CodesInWords = (a : ℕ) → (IsCode a → (1 ≤ a) × (a ≤ 268435455)) × ((1 ≤ a) × (a ≤ 268435455) → IsCode a)
 
 -- a word of a call names a register, is a code, or is not used
 pub data Use : Type 0 where
@@ -82,10 +87,13 @@ pub record FaultRows : Type 0 where
   pub noSuchRegister : fault 16 1 0 16 0 ≡ 11
   pub strayWord : fault 16 6 0 0 1 ≡ 12
   pub tooLarge : fault 16 2 0 268435456 0 ≡ 13
+  pub zeroCode : fault 16 2 0 0 0 ≡ 13
   pub elevenBeforeTwelve : fault 16 0 16 1 0 ≡ 11
   pub twelveBeforeThirteen : fault 16 2 0 268435456 1 ≡ 12
   pub elevenBeforeThirteen : fault 16 2 16 268435456 0 ≡ 11
   pub copyRight : fault 16 1 15 15 0 ≡ 0
+  pub leastRight : fault 16 2 15 1 0 ≡ 0
+  pub mostRight : fault 16 2 15 268435455 0 ≡ 0
   pub restRight : fault 16 6 15 15 0 ≡ 0
   pub openRight : fault 16 7 15 15 0 ≡ 0
 

@@ -3,7 +3,7 @@
 --   BeginsText, AreText        bytes that begin a text;  bytes that are one
 --   ReadsBack, WritesBack      what was written is read back, and what is read is written back
 --   TermMayBegin               where a term may begin
---   CodeTooLarge               a digit that takes a code over the limit
+--   ZeroBegins, CodeTooLarge   a 0 that begins a term;  a digit that takes a code over the limit
 --   BracketTooDeep             a bracket that may stand there but is one too many
 --   StopsWith, RefusedText     the status at a byte;  the verdict on a text that is refused
 --   StopsLeftmost              every refusal is such;  OneRefusal  no text has two
@@ -52,14 +52,17 @@ WritesBack =
 abbrev pub TermMayBegin : List ℕ → ℕ → Type 0
 TermMayBegin bs k = (k ≡ 0) ⊎ ((getD bs (k - 1) 0 ≡ 32) ⊎ (getD bs (k - 1) 0 ≡ 40))
 
--- byte k is a digit that takes a code over the limit: those before it, from `start` on, are the code, and it is not 0
+-- byte k is a 0 that begins a term
+abbrev pub ZeroBegins : List ℕ → ℕ → Type 0
+ZeroBegins bs k = TermMayBegin bs k × (getD bs k 0 ≡ 48)
+
+-- byte k is a digit that takes a code over the limit: those before it, from `start` on, are the code
 pub record CodeTooLarge (bs : List ℕ) (k : ℕ) : Type 0 where
   pub start : ℕ
   pub code : ℕ
   pub begins : TermMayBegin bs start
   pub digits : take k bs ≡ take start bs ++ decimal code
   pub isCode : IsCode code
-  pub positive : 0 < code
   pub digit : (48 ≤ getD bs k 0) × (getD bs k 0 ≤ 57)
   pub over : Not (IsCode (10 * code + (getD bs k 0 - 48)))
 
@@ -69,9 +72,10 @@ BracketTooDeep bs k = TermMayBegin bs k × OneTooMany depthLimit bs k
 
 -- the status at a byte that cannot continue a text as far as it may be read
 pub data StopsWith (bs : List ℕ) (k : ℕ) : ℕ → Type 0 where
+  banned : ZeroBegins bs k → StopsWith bs k 13
   large : CodeTooLarge bs k → StopsWith bs k 13
   deep : BracketTooDeep bs k → StopsWith bs k 21
-  other : Not (CodeTooLarge bs k) → Not (BracketTooDeep bs k) → StopsWith bs k 23
+  other : Not (ZeroBegins bs k) → Not (CodeTooLarge bs k) → Not (BracketTooDeep bs k) → StopsWith bs k 23
 
 -- 23 at the length where the text ends too soon; else the first byte with which no text begins so, and its status
 pub data RefusedText (bs : List ℕ) : Verdict → Type 0 where

@@ -23,7 +23,7 @@ pub judge-suits : (s : Stand) (depth b : ℕ) → Suits (judge s depth b) b dept
 judge-suits s depth b =
     judge-cases (λ (m : Move). Suits m b depth) b depth (λ s. tt)
     (λ d e h k. (omega arith, omega arith, code-fits d k)) (λ e h. tt)
-    (λ a d e h k l. (omega arith, omega arith, code-fits (10 * a + d) l)) (λ e h. h) (λ e. tt) s
+    (λ a d e h l. (omega arith, omega arith, code-fits (10 * a + d) l)) (λ e h. h) (λ e. tt) s
 
 -- ---- one byte
 
@@ -47,7 +47,7 @@ advance-range b r i k =
     judge-cases (λ (m : Move). InRange (moved m r) (suc i)) b (r .depth)
     (λ s. record { far = omega (arith, k .far); deep = k .deep; many = k .many })
     (λ d e h l. stays r _ i k refl (omega arith) (omega arith)) (λ e h. stays r _ i k refl (omega arith) (omega arith))
-    (λ a d e h l m. stays r _ i k refl (omega arith) (omega arith))
+    (λ a d e h l. stays r _ i k refl (omega arith) (omega arith))
     (λ e h. stays r _ i k refl (omega arith) (omega arith)) (λ e. stays r _ i k refl (omega arith) (omega arith))
     (r .stand)
 

@@ -7,7 +7,8 @@ ghost use Rattle.meaning.specs.Judge.{isDigit, withDigit, firstMove, laterMove,
 ghost use Rattle.reader.specs.Readers.{standOf, moveOf, IsMove};
 use store::cells::is_code;
 
-// Why a text is refused: a number that is no code, a bracket that is one too many, or a byte that cannot continue a text.
+// Why a text is refused: a number that is no code, a bracket that is one too many, or a byte that cannot continue a
+// text.
 pub enum Fault {
     NoCode,
     TooDeep,
@@ -94,9 +95,6 @@ fn more_move(code: u32, depth: usize, b: u8) -> Move
     ensures { λ r. ⌜ moveOf r code b ≡ moreMove code depth b ⌝ }
 {
     if is_digit(b) {
-        if code == 0 {
-            return Move::Stops(Fault::NotText);
-        }
         if is_code(with_digit(code, b)) {
             return Move::Grows;
         }

@@ -9,7 +9,7 @@ ghost use Rattle.meaning.specs.Check.{bracketTest, termTest, cellTest};
 pub fn is_code(a: u32) -> bool
     ensures { λ r. ⌜ r ≡ codeTest a ⌝ }
 {
-    a <= meaning::CODE_LIMIT
+    (meaning::LEAST_CODE <= a) & (a <= meaning::CODE_LIMIT)
 }
 
 // Whether a and b are the words of a bracket: empty, or with ends from `first` on and below `bound`. What is left of b

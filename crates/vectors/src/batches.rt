@@ -9,6 +9,7 @@ use crate::tables;
 use meaning::CALL_WORDS as LIST;
 use meaning::CODE_LIMIT;
 use meaning::FIRST_HEAP_CELL;
+use meaning::LEAST_CODE;
 use meaning::LIMIT;
 
 const FIRST: u32 = FIRST_HEAP_CELL as u32;
@@ -121,7 +122,7 @@ fn registers(r: u32) {
     clears(r);
 }
 
-// The largest code, one more, and one that is wrong in two ways; then FIRST of the largest.
+// The largest code, one more, the least, one less, and one that is wrong in two ways; then FIRST of the largest.
 fn codes() {
     let symbols = [
         2,
@@ -134,11 +135,19 @@ fn codes() {
         0,
         2,
         0,
+        LEAST_CODE,
+        0,
+        2,
+        0,
+        LEAST_CODE - 1,
+        0,
+        2,
+        0,
         4294967295,
         1,
     ];
     let first = [2, 0, CODE_LIMIT, 0, 9, 0, 0, 0];
-    list(b"codes", SMALL, &symbols, 6);
+    list(b"codes", SMALL, &symbols, 10);
     list(b"FIRST of the largest code", SMALL, &first, 4);
 }
 

@@ -1,8 +1,9 @@
-// The rule of one cell, in a store that has three symbols of code 0 on its heap and one free cell.
+// The rule of one cell, in a store that has three symbols on its heap and one free cell.
 use crate::SMALL;
 use crate::show;
 use meaning::CODE_LIMIT;
 use meaning::FIRST_HEAP_CELL;
+use meaning::LEAST_CODE;
 
 const FIRST: u32 = FIRST_HEAP_CELL as u32;
 
@@ -16,9 +17,24 @@ pub fn put(ws: &mut [u32], cell: usize, a: u32, b: u32) {
     }
 }
 
+fn put_symbol(ws: &mut [u32], c: usize, top: usize) {
+    if c < top {
+        put(ws, c, 65, 0);
+    }
+}
+
+// A symbol in each heap cell of a small store that is below `top`.
+pub fn fill(ws: &mut [u32], top: usize) {
+    put_symbol(ws, FIRST_HEAP_CELL, top);
+    put_symbol(ws, FIRST_HEAP_CELL + 1, top);
+    put_symbol(ws, FIRST_HEAP_CELL + 2, top);
+    put_symbol(ws, FIRST_HEAP_CELL + 3, top);
+}
+
 fn row(cell: usize, a: u32, b: u32) {
     let mut ws = [0u32; 2 * SMALL];
     store::fresh(&mut ws);
+    fill(&mut ws, FIRST_HEAP_CELL + 3);
     put(&mut ws, cell, a, b);
     show::named(b"cell", cell as u64);
     show::number(a as u64);
@@ -48,6 +64,8 @@ fn flags() {
 fn symbols() {
     row(FIRST_HEAP_CELL + 2, CODE_LIMIT, 0);
     row(FIRST_HEAP_CELL + 2, CODE_LIMIT + 1, 0);
+    row(FIRST_HEAP_CELL + 2, LEAST_CODE, 0);
+    row(FIRST_HEAP_CELL + 2, LEAST_CODE - 1, 0);
     row(FIRST_HEAP_CELL + 2, 0, 1);
     row(FIRST_HEAP_CELL + 3, 1, 0);
     row(FIRST_HEAP_CELL + 3, 0, 1);

@@ -1,6 +1,7 @@
 // Store lengths, a fresh store in each, and `top`.
 use crate::SMALL;
 use crate::answers;
+use crate::cells;
 use crate::show;
 use meaning::FIRST_HEAP_CELL;
 use meaning::LIMIT;
@@ -23,10 +24,11 @@ fn length_row(n: usize) {
     }
 }
 
-// A fresh store under another `top`.
+// A store of symbols up to `top`, and zeros from there on.
 fn top_row(top: usize) {
     let mut ws = [0u32; 2 * SMALL];
     store::fresh(&mut ws);
+    cells::fill(&mut ws, top);
     show::named(b"top", top as u64);
     show::named(b" of", SMALL as u64);
     show::check(b": check", &ws, top);

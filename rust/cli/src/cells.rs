@@ -2,7 +2,7 @@
 //!
 //! The library judges stores. What is here explains its verdict in words and is tested against it.
 
-use zelmotar::{Store, FIRST_HEAP_CELL, MAX_CODE, REGISTERS};
+use zelmotar::{Store, FIRST_HEAP_CELL, MAX_CODE, MIN_CODE, REGISTERS};
 
 /// The bit that says bracket; with a right end added, the second word of a bracket.
 const BRACKET: u32 = 1 << 31;
@@ -31,7 +31,7 @@ pub enum Kind {
 /// What two words say.
 pub fn kind(first: u32, second: u32) -> Kind {
     match (first, second) {
-        (code, 0) => Kind::Symbol(code),
+        (code @ 1.., 0) => Kind::Symbol(code),
         (0, BRACKET) => Kind::Empty,
         (l, second) if second > BRACKET && second & FLAGS == 0 => {
             Kind::Run { l: l as usize, r: (second - BRACKET) as usize }
@@ -78,7 +78,7 @@ pub fn fault(c: usize, first: u32, second: u32, top: usize) -> Option<String> {
         return (!free).then(|| format!("a cell from top, {top}, on is two zero words"));
     }
     match kind(first, second) {
-        Kind::Symbol(_) if is_register => Some("a register is a bracket".to_string()),
+        _ if is_register && second == 0 => Some("a register is a bracket".to_string()),
         Kind::Symbol(code) => {
             (code > MAX_CODE).then(|| format!("a symbol's code is at most {MAX_CODE}"))
         }
@@ -109,6 +109,8 @@ fn other_fault(second: u32) -> String {
         "bits 30 to 28 of a second word are zero between calls".to_string()
     } else if second == BRACKET {
         "the first word of an empty bracket is 0".to_string()
+    } else if second == 0 {
+        format!("only a cell from top on is two zero words: a symbol's code is {MIN_CODE} at least")
     } else {
         "a second word is 0, or has bit 31".to_string()
     }
@@ -163,6 +165,7 @@ mod tests {
     fn a_fault_is_found_exactly_where_the_library_finds_damage() {
         let mut fresh = vec![0; 48];
         assert_eq!(raw::fresh(&mut fresh).status, 0);
+        fresh[32..40].chunks_mut(2).for_each(|cell| cell[0] = MIN_CODE);
         let seconds = EDGES.iter().flat_map(|&edge| [edge, edge | BRACKET]);
         let mut damaged = 0;
         for c in 0..24 {

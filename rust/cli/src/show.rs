@@ -61,8 +61,8 @@ pub fn cells(store: &Store, out: &mut dyn Write) -> Result<(), Stop> {
     Ok(())
 }
 
-/// The table of a store that is not sound: all cells but those of two zeros, as their words have it,
-/// and those marked that break their rule. There is none where the number of words is that of no
+/// The table of a store that is not sound: all cells but those of two zeros that may be so, as their
+/// words have it, and those marked that break their rule. There is none where the number of words is that of no
 /// store, which may be very large.
 fn damaged(store: &Store, out: &mut dyn Write) -> Result<(), Stop> {
     let status = raw::check(store.words(), store.top()).status;
@@ -70,12 +70,12 @@ fn damaged(store: &Store, out: &mut dyn Write) -> Result<(), Stop> {
         return Ok(());
     }
     head(out)?;
-    for (c, words) in
-        store.words().chunks_exact(2).enumerate().filter(|(_, words)| words != &[0, 0])
-    {
+    for (c, words) in store.words().chunks_exact(2).enumerate() {
         let is_damaged = status == 3 && fault(c, words[0], words[1], store.top()).is_some();
         let mark = if is_damaged { "  damaged" } else { "" };
-        row(store, c, &format!("{}{mark}", holds(store, c)), out)?;
+        if is_damaged || words != [0, 0] {
+            row(store, c, &format!("{}{mark}", holds(store, c)), out)?;
+        }
     }
     writeln!(out)?;
     Ok(())

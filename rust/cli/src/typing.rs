@@ -3,7 +3,7 @@
 use std::ffi::OsString;
 use std::io::Write;
 
-use zelmotar::{status_text, Refusal, Store, MAX_CODE, MAX_DEPTH, REGISTERS};
+use zelmotar::{status_text, Refusal, Store, MAX_CODE, MAX_DEPTH, MIN_CODE, REGISTERS};
 
 use crate::args::{self, Args, Takes};
 use crate::check::damage;
@@ -43,7 +43,7 @@ pub fn command(words: &[OsString], out: &mut dyn Write) -> Ended {
 /// left.
 pub fn sentence(store: &Store, register: usize, text: &[u8], refusal: Refusal) -> String {
     let why = match refusal {
-        Refusal::BadCode { .. } => format!("it is over {MAX_CODE}"),
+        Refusal::BadCode { offset } => no_code(text, offset),
         Refusal::NoRoom => {
             let (need, free) = (steps::terms(text), room(store, register));
             format!("the text needs {need} new cells, and {free} can be had")
@@ -69,6 +69,15 @@ fn room(store: &Store, register: usize) -> usize {
     without.type_in(register, b"").expect("a text of no bytes needs no room");
     without.collect().expect("a sound store is collected");
     without.capacity() - without.top()
+}
+
+/// What is wrong with a code, by the digit at which it is refused: it begins with 0, or grows too large.
+fn no_code(text: &[u8], offset: usize) -> String {
+    let begun = offset > 0 && text[offset - 1].is_ascii_digit();
+    match begun {
+        false => format!("a code begins with no 0, and the least is {MIN_CODE}"),
+        true => format!("it is over {MAX_CODE}"),
+    }
 }
 
 /// What is wrong with a text that is none: a byte of it, or that it has no more.
@@ -104,8 +113,16 @@ mod tests {
         );
         assert_eq!(
             says(0, b"268435456"),
-            "13 at byte 8: the code is too large: it is over 268435455"
+            "13 at byte 8: the code is 0 or too large: it is over 268435455"
         );
+        for (text, at) in [(&b"0"[..], 0), (b"01", 0), (b"10 0", 3), (b"1 (0)", 3)] {
+            assert_eq!(
+                says(0, text),
+                format!(
+                    "13 at byte {at}: the code is 0 or too large: a code begins with no 0, and the least is 1"
+                )
+            );
+        }
         assert_eq!(
             says(0, &[b'('; 70]),
             "21 at byte 64: brackets are nested too deep: over 64 would be open here"

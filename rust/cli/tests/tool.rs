@@ -73,7 +73,8 @@ fn every_status_of_a_call_is_said_in_words() {
         "CALL 12 0 0 0            10          0   no such operation\n",
         "COPY 16 0                11          0   no such register\n",
         "CALL 10 0 0 7            12          0   a word that it does not use is not 0\n",
-        "SYMBOL 0 268435456       13          0   the code is too large\n",
+        "SYMBOL 0 268435456       13          0   the code is 0 or too large\n",
+        "SYMBOL 0 0               13          0   the code is 0 or too large\n",
         "HEAD 5 5                 14          0   the register is empty\n",
         "OPEN 4 4                 15          0   its first term is of the other kind\n",
         "LIVE                      0          6   done\n",
@@ -221,6 +222,22 @@ fn a_damaged_cell_is_named_with_its_words() {
 }
 
 #[test]
+fn a_wiped_cell_is_damaged() {
+    let sound = fs::read_to_string(tracked("examples/p2.dump")).unwrap();
+    let wiped = made("wiped.dump", sound.replace("67 0\n", "0 0\n"));
+    let sentence = "Cell 19, a heap cell, is damaged: its words are 0 and 0 (0x00000000 0x00000000), and only a \
+                    cell from top on is two zero words: a symbol's code is 1 at least.\n";
+    ends(&tool(&[&"check", &wiped]), 3, sentence);
+    let shown = tool(&[&"show", &wiped]);
+    ends(&shown, 3, "  19  0x00000000  0x00000000   neither symbol nor bracket  damaged\n");
+    ends(&shown, 3, "  18  0x00000042  0x00000000   symbol 66\n");
+    assert!(!String::from_utf8_lossy(&shown.stdout).contains("\n  23  "), "cell 23 is free");
+    let register = made("register.dump", sound.replacen("0 0x80000000", "0 0", 1));
+    ends(&tool(&[&"check", &register]), 3, "and a register is a bracket.\n");
+    ends(&tool(&[&"show", &register]), 3, "   1  0x00000000  0x00000000   neither symbol");
+}
+
+#[test]
 fn a_dump_is_shown_as_cells_and_expressions() {
     let p2 = tracked("examples/p2.dump");
     ends(
@@ -291,7 +308,12 @@ fn a_text_that_is_refused_leaves_no_dump() {
     let p2 = tracked("examples/p2.dump");
     for (register, text, sentence) in [
         ("0", "5 x", "23 at byte 2: no text of an expression: `x` cannot stand here\n"),
-        ("0", "268435456", "13 at byte 8: the code is too large: it is over 268435455\n"),
+        ("0", "268435456", "13 at byte 8: the code is 0 or too large: it is over 268435455\n"),
+        (
+            "0",
+            "(7 0 12)",
+            "13 at byte 3: the code is 0 or too large: a code begins with no 0, and the least is 1\n",
+        ),
         ("1", "1 2 3", "no room: the text needs 3 new cells, and 2 can be had\n"),
         ("0", "1 2 3 4 5 6 7 8 9", "no room: the text needs 9 new cells, and 8 can be had\n"),
         ("16", "x", "no register has that number: 16, and they are 0 to 15\n"),
@@ -452,7 +474,7 @@ fn lines_typed_at_the_prompt_are_answered() {
     ends(&fed(b"WRAP 3 0\nprint 3\n", &[&"ask"]), 0, "register 3: ()\n()\n");
     ends(&fed(b"type 3 (7) 8\nprint 3\n", &[&"ask"]), 0, "done; register 3: (7) 8\n(7) 8\n");
     ends(&fed(b"HEAD 1 2\n", &[&"ask", &"--strict"]), 1, "the register is empty");
-    ends(&fed(b"TYPE 0 01\n", &[&"ask", &"--strict"]), 1, "23 at byte 1: ");
+    ends(&fed(b"TYPE 0 01\n", &[&"ask", &"--strict"]), 1, "13 at byte 0: ");
     ends(&fed(b"LIVE\n", &[&"ask", &"15"]), 3, "refused 1 0");
     ends(&fed(b"", &[&"ask"]), 0, "");
 }

@@ -10,7 +10,9 @@
 
 pub mod files;
 
-use crate::plain::{self, put, Cell, BRACKET, FIRST_HEAP_CELL, MAX_CELLS, MAX_CODE, MAX_DEPTH};
+use crate::plain::{
+    self, put, Cell, BRACKET, FIRST_HEAP_CELL, MAX_CELLS, MAX_CODE, MAX_DEPTH, MIN_CODE,
+};
 use crate::random::Random;
 
 /// How long the runs of a random store are, and where they lie.
@@ -51,12 +53,12 @@ pub fn run(random: &mut Random, limit: usize, runs: Runs) -> Option<(usize, usiz
     Some((end.min(other), end.max(other)))
 }
 
-/// A symbol code, often a small one or the largest.
+/// A symbol code, often a small one, the least or the largest.
 fn code(random: &mut Random) -> u32 {
     match random.below(8) {
         0 => MAX_CODE,
-        1 => random.word() & MAX_CODE,
-        _ => random.below(6) as u32,
+        1 => (random.word() & MAX_CODE).max(MIN_CODE),
+        _ => MIN_CODE + random.below(6) as u32,
     }
 }
 
@@ -156,6 +158,15 @@ fn spoil_word(random: &mut Random, words: &mut [u32], top: usize) {
     }
 }
 
+/// Wipes an occupied heap cell, if there is any: both of its words become 0.
+pub fn wipe(random: &mut Random, words: &mut [u32], top: usize) {
+    let occupied = FIRST_HEAP_CELL..top.min(words.len() / 2);
+    if !occupied.is_empty() {
+        let c = random.within(occupied.start..=occupied.end - 1);
+        words[2 * c..2 * c + 2].fill(0);
+    }
+}
+
 /// A length for a store, allowed or not.
 fn telling_length(random: &mut Random) -> usize {
     random.pick(&[0, 1, 2, 30, 31, 32, 33, 34, 35, 64, 65, 8190, 8191, 8192, 8193, 8194])
@@ -175,6 +186,7 @@ pub fn damage(random: &mut Random, words: &mut Vec<u32>, top: &mut usize) {
             let c = random.below(capacity - 1);
             words[2 * c..2 * c + 4].rotate_left(2);
         }
+        6 => wipe(random, words, *top),
         _ => (0..=random.below(3)).for_each(|_| spoil_word(random, words, *top)),
     }
 }
@@ -224,7 +236,7 @@ fn spoilt_call(random: &mut Random) -> [u32; 4] {
         call[random.below(4)] = match random.below(8) {
             0..=3 => random.below(21) as u32,
             4 => random.word(),
-            _ => random.pick(&[1, 12, 15, 16, 99, MAX_CODE, MAX_CODE + 1, u32::MAX]),
+            _ => random.pick(&[0, 1, 12, 15, 16, 99, MAX_CODE, MAX_CODE + 1, u32::MAX]),
         };
     }
     call
@@ -264,12 +276,12 @@ pub fn answers(random: &mut Random, call_words: usize) -> Vec<u32> {
 fn telling_code(random: &mut Random) -> u32 {
     let power = 10u32.pow(random.below(9) as u32);
     match random.below(6) {
-        0 => power - 1,
+        0 => (power - 1).max(MIN_CODE),
         1 => power,
         2 => power + random.below(10) as u32,
         3 => power * random.within(1..=2) as u32,
-        4 => random.pick(&[0, MAX_CODE - 1, MAX_CODE]),
-        _ => (random.word() & MAX_CODE) % (10 * power),
+        4 => random.pick(&[MIN_CODE, MAX_CODE - 1, MAX_CODE]),
+        _ => ((random.word() & MAX_CODE) % (10 * power)).max(MIN_CODE),
     }
 }
 
@@ -358,7 +370,7 @@ pub fn text_space(random: &mut Random, end: usize) -> Vec<u8> {
     (0..length).map(|_| random.word() as u8).collect()
 }
 
-/// The digits of a code. One in `wild` is too large, and none where that is 0.
+/// The digits of a code. One in `wild` is too large or begins with a 0, and none where that is 0.
 fn put_code(random: &mut Random, text: &mut Vec<u8>, wild: usize) {
     /// Codes over the limit: by one, by a digit, and beyond what a word holds.
     const TOO_LARGE: [&str; 10] = [
@@ -373,9 +385,11 @@ fn put_code(random: &mut Random, text: &mut Vec<u8>, wild: usize) {
         "9999999999",
         "18446744073709551617",
     ];
-    let digits = match (wild > 0 && random.one_in(wild), random.below(2)) {
+    let digits = match (wild > 0 && random.one_in(wild), random.below(4)) {
         (false, _) => telling_code(random).to_string(),
         (true, 0) => random.pick(&TOO_LARGE).to_string(),
+        (true, 1) => format!("0{}", telling_code(random)),
+        (true, 2) => "0".repeat(random.within(1..=2)),
         (true, _) => {
             let over = random.next() % 10u64.pow(random.below(11) as u32);
             (u64::from(MAX_CODE) + 1 + over).to_string()
@@ -429,7 +443,7 @@ fn put_nest(random: &mut Random, text: &mut Vec<u8>, brackets: usize, most: usiz
 }
 
 /// A text of an expression, of few terms as a rule. Now and then its brackets are too deep, or nearly, or a
-/// code is too large.
+/// code is too large or begins with a 0.
 pub fn text(random: &mut Random) -> Vec<u8> {
     let mut text = Vec::new();
     let wild = random.pick(&[0, 0, 0, 0, 3, 20]);

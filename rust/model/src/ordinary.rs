@@ -20,7 +20,7 @@ use texts::Tree;
 
 use crate::files::Saved;
 use crate::plain::{
-    Reply, Text, Typed, BRACKET, FIRST_HEAP_CELL, MAX_CALL_WORDS, MAX_CELLS, MAX_CODE,
+    is_code, Reply, Text, Typed, BRACKET, FIRST_HEAP_CELL, MAX_CALL_WORDS, MAX_CELLS,
 };
 
 /// The store with a check, a way of marking, the side tables of the collector, the tree of a text and
@@ -127,7 +127,7 @@ fn misspelt(call: &[u32]) -> u32 {
         11
     } else if (set(1) | set(2) | set(3)) & unused != 0 {
         12
-    } else if call[0] == 2 && call[2] > MAX_CODE {
+    } else if call[0] == 2 && !is_code(call[2]) {
         13
     } else {
         0

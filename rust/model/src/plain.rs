@@ -11,6 +11,8 @@ pub const FIRST_HEAP_CELL: usize = 16;
 pub const MAX_CELLS: usize = 4096;
 /// The longest call list, in words.
 pub const MAX_CALL_WORDS: usize = 4096;
+/// The least symbol code.
+pub const MIN_CODE: u32 = 1;
 /// The largest symbol code.
 pub const MAX_CODE: u32 = (1 << 28) - 1;
 /// The second word of an empty bracket.
@@ -62,12 +64,17 @@ pub enum Cell {
     Bracket(usize, usize),
 }
 
+/// Whether a word may be the code of a symbol.
+pub fn is_code(word: u32) -> bool {
+    (MIN_CODE..=MAX_CODE).contains(&word)
+}
+
 impl Cell {
     /// The cell that two words spell. `None` where they spell none at any address.
     pub fn read(first: u32, second: u32) -> Option<Cell> {
         let (flags, right) = (second >> 28, second & MAX_CODE);
         match (flags, right) {
-            (0, 0) if first <= MAX_CODE => Some(Cell::Symbol(first)),
+            (0, 0) if is_code(first) => Some(Cell::Symbol(first)),
             (8, 0) if first == 0 => Some(Cell::Empty),
             (8, 1..) => Some(Cell::Bracket(first as usize, right as usize)),
             _ => None,
@@ -352,7 +359,7 @@ fn refused_by_words(call: &[u32]) -> u32 {
         11
     } else if any(Operand::Unused, |word| word != 0) {
         12
-    } else if any(Operand::Code, |word| word > MAX_CODE) {
+    } else if any(Operand::Code, |word| !is_code(word)) {
         13
     } else {
         0
@@ -548,9 +555,10 @@ impl Reading {
         // The whole text stands below the brackets.
         let brackets = self.open.len() - 1;
         self.behind = match (byte, self.behind) {
-            (b'0'..=b'9', Behind::Start | Behind::Space) => Behind::Digits(u32::from(byte - b'0')),
-            (b'0'..=b'9', Behind::Digits(code @ 1..)) => match code * 10 + u32::from(byte - b'0') {
-                code @ 0..=MAX_CODE => Behind::Digits(code),
+            (b'0', Behind::Start | Behind::Space) => return Err(13),
+            (b'1'..=b'9', Behind::Start | Behind::Space) => Behind::Digits(u32::from(byte - b'0')),
+            (b'0'..=b'9', Behind::Digits(code)) => match code * 10 + u32::from(byte - b'0') {
+                code if is_code(code) => Behind::Digits(code),
                 _ => return Err(13),
             },
             (b'(', Behind::Start | Behind::Space) if brackets == MAX_DEPTH => return Err(21),

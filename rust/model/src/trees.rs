@@ -187,11 +187,8 @@ impl Reader<'_> {
                 self.at += 1;
                 Ok(self.pool.name(Term::Parens(inside)))
             }
-            // No digit goes on with a code that begins with 0, so another one is left for the caller.
-            Some(b'0') => {
-                self.at += 1;
-                Ok(self.pool.name(Term::Symbol(0)))
-            }
+            // 0 is no code, and no code begins with it.
+            Some(b'0') => Err((13, self.at)),
             Some(b'1'..=b'9') => self.code(),
             _ => Err((23, self.at)),
         }
@@ -396,7 +393,7 @@ fn well_formed([operation, d, a, b]: [u32; 4]) -> Result<(), u32> {
     if unused.iter().any(|&word| word != 0) {
         return Err(12);
     }
-    if operation == 2 && a >= 268_435_456 {
+    if operation == 2 && (a == 0 || a >= 268_435_456) {
         return Err(13);
     }
     Ok(())

@@ -155,11 +155,12 @@ fn each_refusal_of_a_load() {
     assert_refused(40, &file(&damaged, &[16, EMPTY + 18], [168, 3, 20, 1]), 3, 17);
     assert_refused(40, &file(&damaged, &[16, EMPTY + 19], [168, 3, 20, 1]), 3, 0);
     assert_refused(40, &file(&damaged, &[16, EMPTY + 18, 7, 0], [168, 3, 20, 1]), 3, 1);
-    // A dead symbol, last, first, and such that it looks like a free cell.
+    // A dead symbol, last and first.
     assert_refused(40, &file(&[7, 0, 8, 0], &[16, EMPTY + 16], [160, 2, 20, 1]), 34, 0);
     assert_refused(40, &file(&[7, 0, 8, 0], &[17, EMPTY + 17], [160, 2, 20, 1]), 34, 0);
-    assert_refused(40, &file(&[7, 0, 0, 0], &[16, EMPTY + 16], [160, 2, 20, 1]), 34, 0);
-    assert_refused(40, &file(&[0, 0], &[], [152, 1, 20, 1]), 34, 0);
+    // A dead cell of zeros, which is no symbol.
+    assert_refused(40, &file(&[7, 0, 0, 0], &[16, EMPTY + 16], [160, 2, 20, 1]), 3, 17);
+    assert_refused(40, &file(&[0, 0], &[], [152, 1, 20, 1]), 3, 16);
     // Held by a dead bracket alone.
     assert_refused(40, &file(&[7, 0, 16, EMPTY + 16], &[], [160, 2, 20, 1]), 34, 0);
 }

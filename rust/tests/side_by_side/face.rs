@@ -211,7 +211,7 @@ fn borrowed_words_stay_with_their_owner() {
 #[test]
 fn a_refused_request_changes_nothing() {
     let mut words = fresh(20).into_parts().0;
-    words[39] = 1;
+    words[32..40].copy_from_slice(&[65, 0, 66, 0, 67, 0, 68, 1]);
     let mut store = Store::from_parts(words, 20);
     let before = store.clone();
     let damaged = store.check().expect_err("cell 19 is no symbol");

@@ -32,11 +32,11 @@ const NONE: &str = "no space";
 /// other.
 const AT_REGISTER: &str = "3 at a register";
 const AT_HEAP_CELL: &str = "3 at a heap cell";
+const AT_WIPED_CELL: &str = "3 at a heap cell of zeros";
 const HELD_BY_NONE: &str = "3, and some heap cell is held by none";
 const ONE_DEAD: &str = "34 for one cell";
 const FIRST_DEAD: &str = "34 for one cell, the first";
 const LAST_DEAD: &str = "34 for one cell, the last";
-const LIKE_FREE: &str = "34 for one cell, the last, which looks free";
 const FULL: &str = "done, and no cell is free";
 const IGNORED: &str = "done, with bytes before it";
 
@@ -228,19 +228,19 @@ impl Load {
                 came.extend((distance < self.file.len()).then_some(IGNORED));
             }
             3 => {
-                let in_heap = reply.value as usize >= FIRST_HEAP_CELL;
+                let c = reply.value as usize;
+                let (in_heap, wiped) = (c >= FIRST_HEAP_CELL, words[2 * c..2 * c + 2] == [0, 0]);
                 came.push(if in_heap { AT_HEAP_CELL } else { AT_REGISTER });
+                came.extend((in_heap && wiped).then_some(AT_WIPED_CELL));
                 came.extend(held_by_none(&words, top).next().map(|_| HELD_BY_NONE));
             }
             _ => {
                 let dead: Vec<usize> = held_by_none(&words, top).collect();
                 if let [c] = dead[..] {
                     let (first, last) = (c == FIRST_HEAP_CELL, c == top - 1);
-                    let like_free = words[2 * c..2 * c + 2] == [0, 0];
                     came.push(ONE_DEAD);
                     came.extend(first.then_some(FIRST_DEAD));
                     came.extend(last.then_some(LAST_DEAD));
-                    came.extend((last && like_free).then_some(LIKE_FREE));
                 }
             }
         }
@@ -339,8 +339,9 @@ fn files_of_every_kind() {
     ] {
         tally.assert_met(kind.name(), often, 30);
     }
-    tally.assert_came(&[AT_REGISTER, AT_HEAP_CELL, HELD_BY_NONE, FULL, IGNORED], 1_000);
-    tally.assert_came(&[ONE_DEAD, FIRST_DEAD, LAST_DEAD, LIKE_FREE], 200);
+    tally.assert_came(&[AT_REGISTER, AT_HEAP_CELL, AT_WIPED_CELL], 1_000);
+    tally.assert_came(&[HELD_BY_NONE, FULL, IGNORED], 1_000);
+    tally.assert_came(&[ONE_DEAD, FIRST_DEAD, LAST_DEAD], 200);
 }
 
 /// Small files in which every kind of cell occurs: no heap, one symbol, P3 and one as random.
@@ -361,7 +362,7 @@ fn small_files(random: &mut Random) -> Vec<Vec<u8>> {
     let (words, top) = collected(random, 30);
     vec![
         store(16, &[]),
-        store(17, &[(16, Cell::Symbol(0)), (15, Cell::Bracket(16, 16))]),
+        store(17, &[(16, Cell::Symbol(1)), (15, Cell::Bracket(16, 16))]),
         store(24, &p3.collect::<Vec<_>>()),
         store(20, &[(16, Cell::Empty), (17, Cell::Bracket(16, 16)), (3, Cell::Bracket(16, 17))]),
         files::file(&words, top),
@@ -530,6 +531,7 @@ fn large_stores_saved_and_loaded() {
         let mut words = vec![0; 2 * top];
         plain::fresh(&mut words);
         put(&mut words, 0, Cell::Bracket(FIRST_HEAP_CELL, top - 1));
+        (FIRST_HEAP_CELL..top).for_each(|c| put(&mut words, c, Cell::Symbol(c as u32)));
         let file = with_trailer_word(&files::file(&words, top), 2, 4096);
         let reply = Load { words: vec![7; 8192], file }.count(Kind::Good, &mut tally);
         assert_eq!(reply.status, if heap_cells == 4080 { 0 } else { 33 });

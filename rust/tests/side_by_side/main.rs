@@ -11,6 +11,7 @@
 //! - [`prints`]: random registers, printed into text spaces of every length.
 //! - [`types`]: random texts, typed into stores that have about as much room as they need.
 //! - [`files`]: random stores saved as files, and files of every kind loaded.
+//! - [`zeros`]: code 0, in calls, texts, cells and files.
 //! - [`room`]: calls and texts on nearly full stores, where what a register holds makes room or does not.
 //! - [`meaning`]: call for call, and text for text, against expressions with no addresses.
 //! - [`alike`]: stores that differ in dead cells, collections and cuts between batches only.
@@ -36,3 +37,4 @@ mod tally;
 mod terms;
 mod types;
 mod worked;
+mod zeros;

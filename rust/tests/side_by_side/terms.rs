@@ -114,13 +114,11 @@ fn what_is_shared_a_billion_times_is_shown_in_a_line() {
             assert!(text.len() < 500 && text.contains(".."), "{text}");
         }
     }
-    let symbols = fresh(MAX_CELLS).into_parts().0;
-    let mut store = Store::from_parts(symbols, MAX_CELLS);
-    store.run_all(&[]).expect("zeros are symbols");
-    let (mut words, top) = store.into_parts();
+    let mut words = fresh(MAX_CELLS).into_parts().0;
+    words[32..].chunks_mut(2).for_each(|cell| cell[0] = 1);
     words[..2].copy_from_slice(&[16, (1 << 31) + 4095]);
-    let text = format!("{:?}", Store::from_parts(words, top).look(0));
-    assert_eq!(text, format!("Terms({}..)", "0 ".repeat(64)));
+    let text = format!("{:?}", Store::from_parts(words, MAX_CELLS).look(0));
+    assert_eq!(text, format!("Terms({}..)", "1 ".repeat(64)));
 }
 
 #[test]
@@ -159,7 +157,7 @@ fn terms_are_equal_exactly_if_expressions_are() {
         // Few codes, so that unlike cells often denote the same.
         let mut words: Vec<u32> = words;
         for cell in words[32..2 * top].chunks_mut(2).filter(|cell| cell[1] == 0) {
-            cell[0] %= 2;
+            cell[0] = 1 + cell[0] % 2;
         }
         let mut collected = Store::from_parts(words.clone(), top);
         collected.collect().expect("the store is sound");
@@ -169,7 +167,7 @@ fn terms_are_equal_exactly_if_expressions_are() {
             met = [met[0] + pair[0], met[1] + pair[1]];
         }
         if let Some(cell) = changed[32..2 * low].chunks_mut(2).find(|cell| cell[1] == 0) {
-            cell[0] ^= 1;
+            cell[0] = 3 - cell[0];
         }
         compared([&words, &changed], tops);
     }

@@ -252,6 +252,7 @@ fn every_short_text() {
     }
     tally.print("every short text");
     tally.assert_met(&[0, 23], 500);
+    tally.assert_met(&[13], 100);
 }
 
 #[test]

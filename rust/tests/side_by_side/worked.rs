@@ -1,4 +1,4 @@
-//! Rows that are worked out by hand: P1 to P12, T1 to T24, in [`files`] those of files, and the rows that are
+//! Rows that are worked out by hand: P1 to P14, T1 to T27, in [`files`] those of files, and the rows that are
 //! only run.
 
 mod files;
@@ -238,6 +238,24 @@ fn p12_no_room_leaves_the_register_and_the_store_collected() {
     assert_leaves(&mut store, Call::Symbol { d: 0, code: 68 }, Answer::Done, 19, &after);
 }
 
+#[test]
+fn p13_the_least_code() {
+    let mut store = fresh(17);
+    assert_leaves(&mut store, Call::Symbol { d: 0, code: 1 }, Answer::Done, 17, &lone(1));
+    let none = Call::Symbol { d: 0, code: 0 };
+    assert_leaves(&mut store, none, refused(Fault::Code), 17, &lone(1));
+    assert_eq!(store.call(Call::First { a: 0 }), Ok(Answer::Value(1)));
+}
+
+#[test]
+fn p14_a_wiped_cell_is_damaged_and_a_free_one_is_not() {
+    let checked = |words, top| Store::from_parts(words, top).check().map_err(Refusal::cell);
+    assert_eq!(checked(lone(0), 17), Err(Some(16)));
+    assert_eq!(checked(symbols(18, &[0, 65], &[]), 18), Err(Some(16)));
+    assert_eq!(checked(symbols(18, &[65], &[]), 18), Err(Some(17)));
+    assert_eq!(checked(symbols(18, &[65], &[]), 17), Ok(()));
+}
+
 /// What printing a register into so many bytes answers, and the bytes that it leaves.
 fn printed(words: &[u32], top: usize, register: usize, n: usize) -> (Text, Vec<u8>) {
     let mut space = vec![0xee; n];
@@ -312,7 +330,7 @@ fn t3_an_empty_bracket() {
 fn t4_codes() {
     assert_eq!(printed(&lone(268_435_455), 17, 0, 9), done("268435455", 0));
     assert_eq!(printed(&lone(100_000_002), 17, 0, 9), done("100000002", 0));
-    assert_eq!(printed(&lone(0), 17, 0, 2), done("0", 1));
+    assert_eq!(printed(&lone(1), 17, 0, 2), done("1", 1));
     for digits in 1..9 {
         let power = 10u32.pow(digits);
         for code in [power - 1, power, power + 1] {
@@ -403,7 +421,7 @@ fn t12_what_was_printed() {
     assert_eq!(typed_fresh(17, "()"), set(17, nest(1).0));
     assert_eq!(typed_fresh(17, "268435455"), set(17, lone(268_435_455)));
     assert_eq!(typed_fresh(17, "100000002"), set(17, lone(100_000_002)));
-    assert_eq!(typed_fresh(17, "0"), set(17, lone(0)));
+    assert_eq!(typed_fresh(17, "1"), set(17, lone(1)));
     let text = "(".repeat(64) + &")".repeat(64);
     assert_eq!(typed_fresh(80, &text), set(80, nest(64).0));
 }
@@ -429,16 +447,9 @@ fn t15_to_t17_no_texts() {
     for text in [" ", ")", "x"] {
         assert_refused(text, 23, 0);
     }
-    for (text, offset) in [
-        ("01", 1),
-        ("1)", 1),
-        ("1(", 1),
-        ("1  2", 2),
-        ("( )", 1),
-        ("(1 )", 3),
-        ("()1", 2),
-        ("())", 2),
-    ] {
+    for (text, offset) in
+        [("1)", 1), ("1(", 1), ("1  2", 2), ("( )", 1), ("(1 )", 3), ("()1", 2), ("())", 2)]
+    {
         assert_refused(text, 23, offset);
     }
     for text in ["1 ", "(", "(1", "() "] {
@@ -497,6 +508,32 @@ fn t22_to_t24_room_for_a_text() {
 }
 
 #[test]
+fn t25_a_zero_that_begins_a_term() {
+    for (text, offset) in
+        [("0", 0), ("01", 0), ("0x", 0), ("10 0", 3), ("(0)", 1), ("(1 0", 3), ("1 0 x", 2)]
+    {
+        assert_refused(text, 13, offset);
+    }
+    // Nothing is collected for it.
+    let dead = words(17, &[(16, [7, 0])]);
+    assert_eq!(typed(&dead, 17, 0, "0"), (Typed { status: 13, value: 0, top: 17 }, dead));
+}
+
+#[test]
+fn t26_a_zero_that_begins_none() {
+    assert_eq!(typed_fresh(17, "10"), set(17, lone(10)));
+    assert_eq!(typed_fresh(18, "100 20"), set(18, symbols(18, &[100, 20], &[(0, 16, 17)])));
+    assert_refused("()0", 23, 2);
+}
+
+#[test]
+fn t27_a_wiped_cell() {
+    assert_eq!(printed(&lone(0), 17, 0, 2), no_text(3, 16, 2));
+    let damaged = Typed { status: 3, value: 16, top: 17 };
+    assert_eq!(typed(&lone(0), 17, 0, "1"), (damaged, lone(0)));
+}
+
+#[test]
 fn run_only_store_lengths() {
     for (length, status) in [(0, 1), (30, 1), (33, 1), (8_194, 1), (32, 0), (8_192, 0)] {
         let mut words = vec![5; length];
@@ -515,9 +552,10 @@ fn run_only_store_lengths() {
 
 #[test]
 fn run_only_tops() {
-    for (top, status) in [(15, 2), (21, 2), (16, 0), (20, 0)] {
-        // Where 20 passes the four heap cells are symbols with code 0.
-        let mut words = words(20, &[]);
+    for (top, status, codes) in
+        [(15, 2, &[][..]), (21, 2, &[]), (16, 0, &[]), (20, 0, &[65, 66, 67, 68])]
+    {
+        let mut words = symbols(20, codes, &[]);
         let expected = Reply { status, value: 0, top };
         assert_eq!(raw::check(&words, top), expected);
         assert_eq!(raw::run(&mut words, top, &[], &mut []), expected);

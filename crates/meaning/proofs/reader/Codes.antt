@@ -74,10 +74,9 @@ move-digit (number a) depth d r l h = absurd r
 move-digit closed depth d r l h = absurd r
 move-digit (stopped s) depth d r l h = absurd r
 
-move-more : (a depth d : ℕ) → 0 < a → d ≤ 9 → IsCode (10 * a + d) → judge (number a) depth (48 + d) ≡ grows (10 * a + d)
+move-more : (a depth d : ℕ) → d ≤ 9 → IsCode (10 * a + d) → judge (number a) depth (48 + d) ≡ grows (10 * a + d)
 unfolding moreMove
-move-more a depth d p h l =
-    let n : (a ≡ 0 → ⊥) = (λ e. omega arith) in simp (digit-is d h, ne-eqb a 0 n, digit-behind a d, l)
+move-more a depth d h l = simp (digit-is d h, digit-behind a d, l)
 
 pub move-open : (s : Stand) (depth : ℕ) → Ready s → depth < depthLimit → judge s depth 40 ≡ opens
 unfolding firstMove isDigit
@@ -116,8 +115,8 @@ numbered a n r = record {
   own = r .own;
 }
 
-smaller-code : (a b : ℕ) → a ≤ b → IsCode b → IsCode a
-smaller-code a b h l = range-code a (omega (arith, code-range b l))
+smaller-code : (a b : ℕ) → 1 ≤ a → a ≤ b → IsCode b → IsCode a
+smaller-code a b p h l = range-code a p (omega (arith, code-range b l .1))
 
 module _ (r : Draft) (ready : Ready (r .place .stand)) where
   one-digit : (a : ℕ) → IsCode a → a < 10 → read (48 + a) r ≡ numbered a (suc (r .place .offset)) r
@@ -128,14 +127,13 @@ module _ (r : Draft) (ready : Ready (r .place .stand)) where
   next-digit a n l h =
       let e : 10 * (a / 10) + a % 10 ≡ a = omega arith in
       read-as (48 + a % 10) (grows (10 * (a / 10) + a % 10)) (numbered (a / 10) n r)
-      (move-more (a / 10) (r .place .depth) (a % 10) (omega arith) (omega arith)
-      (subst (λ (x : ℕ). IsCode x) (sym e) h))
+      (move-more (a / 10) (r .place .depth) (a % 10) (omega arith) (subst (λ (x : ℕ). IsCode x) (sym e) h))
       ∙ ap (λ (x : ℕ). numbered x (suc n) r) e
 
   code-at : (k a : ℕ) → a < k → IsCode a → reads r (decimal a) ≡ numbered a (r .place .offset + length (decimal a)) r
   code-at zero a h l = absurd (not-suc-le-zero h)
   code-at (suc k) a h l =
-      go (lt-or-ge a 10) (λ g. code-at k (a / 10) (omega arith) (smaller-code (a / 10) a (omega arith) l))
+      go (lt-or-ge a 10) (λ g. code-at k (a / 10) (omega arith) (smaller-code (a / 10) a (omega arith) (omega arith) l))
     where
       go : (a < 10) ⊎ (10 ≤ a)
           → (10 ≤ a → reads r (decimal (a / 10)) ≡ numbered (a / 10) (r .place .offset + length (decimal (a / 10))) r)

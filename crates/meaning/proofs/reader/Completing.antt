@@ -66,7 +66,8 @@ module _ (depth total : ℕ) (ar : List Expr) (own : Expr) (pre : List ℕ) wher
       ∙ ap (λ (t : List ℕ). t ++ decimal 1) (k .bytes)) in
       earlier pre (decimal 1)
       (subst (λ (t : List ℕ). Completed t) e
-      (shut-all (k .left) ar f (readable-append (k .left) own (symbol 1 nothing) (k .level) (range-code 1 (omega arith), tt))
+      (shut-all (k .left) ar f
+      (readable-append (k .left) own (symbol 1 nothing) (k .level) (range-code 1 (omega arith) (omega arith), tt))
       (k .stack)))
 
   completed : (s : Stand) → Inv s depth total ar own pre → Going s → Completed pre

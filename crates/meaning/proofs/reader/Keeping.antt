@@ -21,6 +21,7 @@ use Rattle.meaning.specs.Judge.{Stand, begun, spaced, number, closed, st
 use Rattle.meaning.specs.Reader.{reader, atStart, Draft, shutOwn, shutAround, takes, read, reads, blank}
 use Rattle.meaning.proofs.meaning.Terms.{terms-append}
 use Rattle.meaning.proofs.lay.Places.{allTerms-append}
+use Rattle.meaning.proofs.sound.Cells.{code-range}
 use Rattle.meaning.proofs.text.Texts.{gap-filled, text-after, text-code, readable-append}
 use Rattle.meaning.proofs.reader.Moves.{either, first-cases, later-cases, more-cases}
 use Rattle.meaning.proofs.reader.Drafts.{behind, Stack, sizes, Open, Kept, Inv, InvOf, so-far}
@@ -131,15 +132,15 @@ module _ (r : Draft) (pre : List ℕ) (b : ℕ) where
   stop s t = tt
 
   -- a digit more
-  grows-kept : (a : ℕ) → Kept (number a) d n ar own pre → (x : ℕ) → b ≡ 48 + x → x ≤ 9 → 0 < a → IsCode (10 * a + x)
+  grows-kept : (a : ℕ) → Kept (number a) d n ar own pre → (x : ℕ) → b ≡ 48 + x → x ≤ 9 → IsCode (10 * a + x)
       → Kept (number (10 * a + x)) d n ar own (pre ++ b ∷ [])
-  grows-kept a k x c g p l = record {
+  grows-kept a k x c g l = record {
     left = k .left;
     bytes =
         ap (λ (t : List ℕ). behind ar ++ t)
         (text-code own (10 * a + x)
         ∙ ap (λ (t : List ℕ). text own ++ (gap own ++ t))
-        (code-more a x p g ∙ ap (λ (y : ℕ). decimal a ++ y ∷ []) (sym c)))
+        (code-more a x (code-range a (k .shape) .0) g ∙ ap (λ (y : ℕ). decimal a ++ y ∷ []) (sym c)))
         ∙ ((simp append-assoc (ap (λ (t : List ℕ). behind ar ++ t) refl))
         ∙ ap (λ (t : List ℕ). t ++ b ∷ []) (ap (λ (t : List ℕ). behind ar ++ t) (sym (text-code own a)) ∙ k .bytes));
     shape = l;

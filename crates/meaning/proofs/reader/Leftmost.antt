@@ -2,25 +2,24 @@
 --   StopsAt        byte k is the first to be refused, and with which status
 --   GoesOn, way    bytes are read to their end, or stop the reader at one of them
 --   no-text        up to the byte that is refused no text begins so
---   Why, why       what is refused with each status;  large-stops, deep-stops  and that it is
+--   Why, why       what is refused with each status;  zero-stops, large-stops, deep-stops  and that it is
 -- Assumes nothing.
 use mathlib.Core.Path.{_≡_, refl, sym, ap, _∙_, subst}
 use mathlib.Core.Logic.{_⊎_, inl, inr}
-use mathlib.Core.Bool.{true, false, false≢true}
+use mathlib.Core.Bool.{Bool, true, false, false≢true}
 use mathlib.Core.List.{List, [], _∷_, _++_}
 use Prim.Native.Nat.{ℕ, suc, _+_, _≤_, _<_}
 use native.Mathlib.Omega.{arith}
 use lib.Dec.{ltb, eqb}
 use lib.ListN.{length, getD, take}
-use borrow.Author.Tests.{ltb-false, le-ltb, eqb-true, ne-eqb}
+use borrow.Author.Tests.{ltb-false, le-ltb, eqb-true, eqb-false}
 use Rattle.meaning.specs.Limits.{codeTest, depthLimit}
 use Rattle.meaning.specs.Text.{text}
 use Rattle.meaning.specs.Judge.{Stand, begun, spaced, number, closed, stopped}
 use Rattle.meaning.specs.Judge.{Move, stops, begins, grows, opens, closes, parts}
 use Rattle.meaning.specs.Judge.{isDigit, withDigit, firstMove, laterMove, moreMove, judge}
 use Rattle.meaning.specs.Reader.{Reader, reader, moved, advance, advances, atStart, isWhole, reads, blank}
-use Rattle.meaning.proofs.Counting.{positive}
-use Rattle.meaning.proofs.sound.Cells.{range-code}
+use Rattle.meaning.proofs.sound.Cells.{range-code, zero-no-code}
 use Rattle.meaning.proofs.reader.Moves.{either, digit-range}
 use Rattle.meaning.proofs.reader.Forth.{reads-place}
 use Rattle.meaning.proofs.reader.Codes.{Ready}
@@ -111,16 +110,25 @@ no-text bs k s w c =
 
 -- ---- why
 
--- a digit that takes a code over the limit;  a bracket that may stand there but is one too many;  any other byte
+-- a 0 where a term may begin;  a digit that takes a code over the limit;  a bracket that may stand there but is one too
+-- many;  any other byte
 pub data Why (s : Stand) (depth b : ℕ) : ℕ → Type 0 where
-  overCode : (a : ℕ) → s ≡ number a → 0 < a → isDigit b ≡ true → codeTest (withDigit a b) ≡ false → Why s depth b 13
+  zeroFirst : Ready s → b ≡ 48 → Why s depth b 13
+  overCode : (a : ℕ) → s ≡ number a → isDigit b ≡ true → codeTest (withDigit a b) ≡ false → Why s depth b 13
   overDepth : Ready s → b ≡ 40 → depthLimit ≤ depth → Why s depth b 21
   noMove : Why s depth b 23
 
--- a code of one digit is never too large
-digit-code : (b : ℕ) → isDigit b ≡ true → codeTest (withDigit 0 b) ≡ true
+-- the one digit that is no code
+no-code-digit : (b : ℕ) → isDigit b ≡ true → codeTest (withDigit 0 b) ≡ false → b ≡ 48
 unfolding withDigit
-digit-code b e = range-code (withDigit 0 b) (omega (arith, digit-range b e .1))
+no-code-digit b e f = go (eqb b 48) refl
+  where
+    go : (t : Bool) → eqb b 48 ≡ t → b ≡ 48
+    go true z = eqb-true b 48 z
+    go false z =
+        let n = eqb-false b 48 z in
+        let i = digit-range b e in
+        absurd (false≢true (sym f ∙ range-code (withDigit 0 b) (omega (arith, i .0, n)) (omega (arith, i .1))))
 
 module _ (s : Stand) (depth b : ℕ) where
   abbrev Stopping : Move → Type 0
@@ -135,8 +143,7 @@ module _ (s : Stand) (depth b : ℕ) where
   unfolding firstMove
   first-why r =
       either Stopping (isDigit b)
-      (λ e. either Stopping (codeTest (withDigit 0 b)) (λ _. tt)
-      (λ f. absurd (false≢true (sym f ∙ digit-code b e))))
+      (λ e. either Stopping (codeTest (withDigit 0 b)) (λ _. tt) (λ f. zeroFirst r (no-code-digit b e f)))
       (λ _. either Stopping (eqb b 40)
       (λ e. either Stopping (ltb depth depthLimit) (λ _. tt)
       (λ f. overDepth r (eqb-true b 40 e) (ltb-false depth depthLimit f)))
@@ -152,8 +159,7 @@ module _ (s : Stand) (depth b : ℕ) where
   unfolding moreMove
   more-why a h =
       either Stopping (isDigit b)
-      (λ e. either Stopping (eqb a 0) (λ _. noMove)
-      (λ z. either Stopping (codeTest (withDigit a b)) (λ _. tt) (λ f. overCode a h (positive a z) e f)))
+      (λ e. either Stopping (codeTest (withDigit a b)) (λ _. tt) (λ f. overCode a h e f))
       (λ _. later-why)
 
 judged-why : (s : Stand) (depth b : ℕ) → Going s → Stopping s depth b (judge s depth b)
@@ -168,10 +174,18 @@ pub why : (s : Stand) (depth b t : ℕ) → Going s → judge s depth b ≡ stop
 why s depth b t g e = subst (λ (m : Move). Stopping s depth b m) e (judged-why s depth b g)
 
 -- each is refused so
-pub large-stops : (a depth b : ℕ) → 0 < a → isDigit b ≡ true → codeTest (withDigit a b) ≡ false
+pub zero-stops : (s : Stand) (depth b : ℕ) → Ready s → b ≡ 48 → judge s depth b ≡ stops 13
+unfolding firstMove isDigit withDigit
+zero-stops begun depth b r e = rw (e, zero-no-code) refl
+zero-stops spaced depth b r e = rw (e, zero-no-code) refl
+zero-stops (number a) depth b r e = absurd r
+zero-stops closed depth b r e = absurd r
+zero-stops (stopped s) depth b r e = absurd r
+
+pub large-stops : (a depth b : ℕ) → isDigit b ≡ true → codeTest (withDigit a b) ≡ false
     → judge (number a) depth b ≡ stops 13
 unfolding moreMove
-large-stops a depth b p e f = let n : (a ≡ 0 → ⊥) = (λ z. omega arith) in rw (e, ne-eqb a 0 n, f) refl
+large-stops a depth b e f = rw (e, f) refl
 
 pub deep-stops : (s : Stand) (depth b : ℕ) → Ready s → b ≡ 40 → depthLimit ≤ depth → judge s depth b ≡ stops 21
 unfolding firstMove isDigit

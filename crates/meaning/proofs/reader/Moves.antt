@@ -16,7 +16,6 @@ use Rattle.meaning.specs.Sound.{IsCode}
 use Rattle.meaning.specs.Judge.{Stand, begun, spaced, number, closed, stopped}
 use Rattle.meaning.specs.Judge.{Move, stops, begins, grows, opens, closes, parts}
 use Rattle.meaning.specs.Judge.{isDigit, withDigit, firstMove, laterMove, moreMove, judge}
-use Rattle.meaning.proofs.Counting.{positive}
 
 pub either : {A : Type 0} (P : A → Type 0) (t : Bool) {x y : A} → (t ≡ true → P x) → (t ≡ false → P y)
     → P (cond t x y)
@@ -58,21 +57,20 @@ module _ (P : Move → Type 0) (b : ℕ) (stop : (s : ℕ) → P (stops s)) wher
       (λ _. either P (eqb b 41)
       (λ f. either P (ltb 0 depth) (λ e. close (eqb-true b 41 f) (ltb-true 0 depth e)) (λ _. stop 23)) (λ _. stop 23))
 
-  pub more-cases : (a depth : ℕ) → ((d : ℕ) → b ≡ 48 + d → d ≤ 9 → 0 < a → IsCode (10 * a + d) → P (grows (10 * a + d)))
+  pub more-cases : (a depth : ℕ) → ((d : ℕ) → b ≡ 48 + d → d ≤ 9 → IsCode (10 * a + d) → P (grows (10 * a + d)))
       → (b ≡ 41 → 0 < depth → P closes) → (b ≡ 32 → P parts) → P (moreMove a depth b)
   unfolding moreMove withDigit
   more-cases a depth grow close part =
       either P (isDigit b)
-      (λ e. either P (eqb a 0) (λ _. stop 23)
-      (λ z. either P (codeTest (withDigit a b))
-      (λ f. let i = digit-range b e in grow (b - 48) (omega (arith, i .0)) (omega (arith, i .1)) (positive a z) f)
-      (λ _. stop 13)))
+      (λ e. either P (codeTest (withDigit a b))
+      (λ f. let i = digit-range b e in grow (b - 48) (omega (arith, i .0)) (omega (arith, i .1)) f)
+      (λ _. stop 13))
       (λ _. later-cases depth close part)
 
 -- a byte wherever the reader stands
 module _ (P : Move → Type 0) (b depth : ℕ) (stop : (s : ℕ) → P (stops s))
     (begin : (d : ℕ) → b ≡ 48 + d → d ≤ 9 → IsCode d → P (begins d)) (bracket : b ≡ 40 → depth < depthLimit → P opens)
-    (grow : (a d : ℕ) → b ≡ 48 + d → d ≤ 9 → 0 < a → IsCode (10 * a + d) → P (grows (10 * a + d)))
+    (grow : (a d : ℕ) → b ≡ 48 + d → d ≤ 9 → IsCode (10 * a + d) → P (grows (10 * a + d)))
     (close : b ≡ 41 → 0 < depth → P closes) (part : b ≡ 32 → P parts) where
   pub judge-cases : (s : Stand) → P (judge s depth b)
   judge-cases begun =

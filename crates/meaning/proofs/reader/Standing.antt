@@ -56,7 +56,7 @@ ready-after b r h =
     (λ s g. g)
     (λ d e l c g. no-digit d e h)
     (λ e l g. tt)
-    (λ a d e l p c g. no-digit d e h)
+    (λ a d e l c g. no-digit d e h)
     (λ e l g. no-close e h)
     (λ e g. tt)
     (r .stand)

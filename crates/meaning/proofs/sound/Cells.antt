@@ -1,6 +1,6 @@
 -- What soundness says of a store's cells, apart from words; and back to words. In order:
 --   limit-fits                  an address fits 28 bits
---   code-range, range-code      what a code may be;  code-fits  it fits 28 bits
+--   code-range, range-code      what a code may be;  zero-no-code  0 is none;  code-fits  one fits 28 bits
 --   BracketIn, TermIn           a bracket, or any term, whose ends lie from F on and below a limit
 --   SoundCells                  what the cells of a sound store are
 --   term-of-bracket             such a bracket is such a term
@@ -21,13 +21,14 @@ use mathlib.Core.List.{List}
 use Prim.Native.Nat.{ℕ, zero, suc, _+_, _-_, _*_, _/_, _≤_, _<_}
 use native.Mathlib.Nat.{not-suc-le-zero, add-sub-cancel-left}
 use native.Mathlib.Omega.{arith}
-use lib.Dec.{ltb}
+use lib.Dec.{ltb, leb}
 use lib.ListN.{length, getD}
 use borrow.Author.Tests.{leb-true, le-leb, ltb-true, ltb-false, le-ltb}
 use Rattle.words.specs.Cell.{firstWord, secondWord}
 use Rattle.meaning.specs.Limits.{codeTest, limit}
 use Rattle.meaning.specs.Sound.{IsCode, Cell, code, empty, ends, fst, snd, bracketOf, cellOf, at, IsBracket}
 use Rattle.meaning.specs.Sound.{isEmpty, isFull, IsTerm, isSymbol, isBracket, capacity, Sound}
+use Rattle.meaning.proofs.Counting.{both-true}
 
 -- All that the code needs to know of the limit: an address fits the 28 bits of a right end.
 pub limit-fits : limit ≤ 268435456
@@ -35,17 +36,22 @@ unfolding limit
 limit-fits = omega arith
 
 -- All that proofs know of codes: their range. No other proof looks into `codeTest`.
-pub code-range : (a : ℕ) → IsCode a → a ≤ 268435455
+pub code-range : (a : ℕ) → IsCode a → (1 ≤ a) × (a ≤ 268435455)
 unfolding codeTest
-code-range a h = leb-true a 268435455 h
+code-range a h =
+    let b = both-true (leb 1 a) (leb a 268435455) h in (leb-true 1 a (b .0), leb-true a 268435455 (b .1))
 
-pub range-code : (a : ℕ) → a ≤ 268435455 → IsCode a
+pub range-code : (a : ℕ) → 1 ≤ a → a ≤ 268435455 → IsCode a
 unfolding codeTest
-range-code a h = le-leb a 268435455 h
+range-code a h l = simp (le-leb 1 a h, le-leb a 268435455 l)
+
+pub zero-no-code : codeTest 0 ≡ false
+unfolding codeTest
+zero-no-code = refl
 
 -- a code fits the 28 bits in which it sits for a while
 pub code-fits : (a : ℕ) → IsCode a → a < 268435456
-code-fits a h = omega (arith, code-range a h)
+code-fits a h = omega (arith, code-range a h .1)
 
 abbrev pub BracketIn : ℕ → ℕ → Cell → Type 0
 BracketIn F lim (code a) = ⊥

@@ -10,11 +10,12 @@ use lib.ListN.{getD}
 use borrow.Author.Tests.{leb-true, le-leb, ltb-true, lt-ltb, eqb-true}
 use Rattle.meaning.specs.Limits.{codeTest}
 use Rattle.meaning.specs.Operands.{uses, wrong11, wrong12, wrong13, fault}
+use Rattle.meaning.proofs.sound.Cells.{code-range, range-code}
 use Rattle.meaning.proofs.operands.Uses.{all-at, three, Faults, ten, eleven, twelve, thirteen, none, faults}
 use Rattle.promises.specs.Table.{Not}
 use Rattle.promises.specs.OwnWords.{Use, register, code, unused, rowOf, NoRegister, Stray, NoCode, Some}
 use Rattle.promises.specs.OwnWords.{OwnFault, noOperation, noRegister, stray, noCode, noFault, FaultsInWords}
-use Rattle.promises.specs.OwnWords.{FaultRows, OneFault}
+use Rattle.promises.specs.OwnWords.{CodesInWords, FaultRows, OneFault}
 use Rattle.promises.proofs.table.Rules.{refuted}
 
 -- ---- the two tables
@@ -135,6 +136,9 @@ said13 unused w h = absurd h
 
 -- ---- the claims
 
+pub codes-in-words : CodesInWords
+codes-in-words a = (code-range a, λ h. range-code a (h .0) (h .1))
+
 pub faults-in-words : FaultsInWords
 faults-in-words F o d a b = go (faults F o d a b)
   where
@@ -161,10 +165,13 @@ fault-rows = record {
   noSuchRegister = refl;
   strayWord = refl;
   tooLarge = refl;
+  zeroCode = refl;
   elevenBeforeTwelve = refl;
   twelveBeforeThirteen = refl;
   elevenBeforeThirteen = refl;
   copyRight = refl;
+  leastRight = refl;
+  mostRight = refl;
   restRight = refl;
   openRight = refl;
 }

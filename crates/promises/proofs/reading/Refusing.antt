@@ -20,7 +20,7 @@ use Rattle.meaning.proofs.reader.Forth.{text-of-read, reads-place}
 use Rattle.meaning.proofs.reader.Back.{read-back}
 use Rattle.meaning.proofs.reader.Completing.{Completed, earlier, Going, begins-text}
 use Rattle.meaning.proofs.reader.Leftmost.{StopsAt, GoesOn, way, no-text}
-use Rattle.promises.specs.Reading.{BeginsText, ReadsBack, WritesBack, StopsWith, large, deep, other}
+use Rattle.promises.specs.Reading.{BeginsText, ReadsBack, WritesBack, StopsWith, banned, large, deep, other}
 use Rattle.promises.specs.Reading.{RefusedText, endsTooSoon, stopsAt, StopsLeftmost, OneRefusal}
 use Rattle.promises.proofs.reading.Stopping.{stops-with}
 
@@ -95,15 +95,22 @@ stops-leftmost bs w =
 -- ---- one verdict
 
 status-once : (bs : List ℕ) (k s t : ℕ) → StopsWith bs k s → StopsWith bs k t → s ≡ t
+status-once bs k s t (banned z) (banned z′) = refl
+status-once bs k s t (banned z) (large c) = refl
+status-once bs k s t (banned z) (deep d) = absurd (omega (arith, z .1, d .1 .1))
+status-once bs k s t (banned z) (other x n m) = absurd (x z)
+status-once bs k s t (large c) (banned z) = refl
 status-once bs k s t (large c) (large c′) = refl
 status-once bs k s t (large c) (deep d) = absurd (omega (arith, c .digit .0, d .1 .1))
-status-once bs k s t (large c) (other n m) = absurd (n c)
+status-once bs k s t (large c) (other x n m) = absurd (n c)
+status-once bs k s t (deep d) (banned z) = absurd (omega (arith, z .1, d .1 .1))
 status-once bs k s t (deep d) (large c) = absurd (omega (arith, c .digit .0, d .1 .1))
 status-once bs k s t (deep d) (deep d′) = refl
-status-once bs k s t (deep d) (other n m) = absurd (m d)
-status-once bs k s t (other n m) (large c) = absurd (n c)
-status-once bs k s t (other n m) (deep d) = absurd (m d)
-status-once bs k s t (other n m) (other n′ m′) = refl
+status-once bs k s t (deep d) (other x n m) = absurd (m d)
+status-once bs k s t (other x n m) (banned z) = absurd (x z)
+status-once bs k s t (other x n m) (large c) = absurd (n c)
+status-once bs k s t (other x n m) (deep d) = absurd (m d)
+status-once bs k s t (other x n m) (other x′ n′ m′) = refl
 
 -- a text that begins up to byte k′ is not refused before it
 not-before : (bs : List ℕ) (k k′ : ℕ) → (BeginsText (take (suc k) bs) → ⊥) → BeginsText (take k′ bs) → k′ ≤ k

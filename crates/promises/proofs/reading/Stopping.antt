@@ -1,9 +1,9 @@
 -- What stops the reader at a byte, in terms of the bytes before it. In order:
---   depth-counts             the open brackets are those opened less those closed
---   ready-at, may-begin      where a term may begin, by the bytes and by where the reader stands
---   large-here, deep-here    what a refusal says of the bytes
---   large-refused, deep-refused   and what is refused so
---   stops-with               the status at the byte that stops the reader
+--   depth-counts                                 the open brackets are those opened less those closed
+--   ready-at, may-begin                          where a term may begin, by the bytes and by where the reader stands
+--   zero-here, large-here, deep-here             what a refusal says of the bytes
+--   zero-refused, large-refused, deep-refused    and what is refused so
+--   stops-with                                   the status at the byte that stops the reader
 -- Assumes nothing.
 use mathlib.Core.Path.{_≡_, refl, sym, ap, ap₂, _∙_, subst}
 use mathlib.Core.Logic.{_⊎_, inl, inr}
@@ -25,9 +25,11 @@ use Rattle.meaning.proofs.reader.Codes.{Ready}
 use Rattle.meaning.proofs.reader.Completing.{Going}
 use Rattle.meaning.proofs.reader.Standing.{advances-append, going-before, EndsReady, ready-after, code-after}
 use Rattle.meaning.proofs.reader.Standing.{ready-ends, code-ends}
-use Rattle.meaning.proofs.reader.Leftmost.{StopsAt, Why, overCode, overDepth, noMove, why, large-stops, deep-stops}
+use Rattle.meaning.proofs.reader.Leftmost.{StopsAt, Why, zeroFirst, overCode, overDepth, noMove, why}
+use Rattle.meaning.proofs.reader.Leftmost.{zero-stops, large-stops, deep-stops}
 use Rattle.promises.specs.Printing.{count}
-use Rattle.promises.specs.Reading.{TermMayBegin, CodeTooLarge, BracketTooDeep, StopsWith, large, deep, other}
+use Rattle.promises.specs.Reading.{TermMayBegin, ZeroBegins, CodeTooLarge, BracketTooDeep}
+use Rattle.promises.specs.Reading.{StopsWith, banned, large, deep, other}
 
 -- ---- how many brackets are open
 
@@ -47,7 +49,7 @@ depth-step b r =
     b (r .depth) (λ s g. absurd g)
     (λ d e l c g. neither (λ x. omega arith) (λ x. omega arith))
     (λ e l g. rw (ne-eqb b 41 (λ x. omega arith), eq-eqb b 40 e) (omega arith))
-    (λ a d e l p c g. neither (λ x. omega arith) (λ x. omega arith))
+    (λ a d e l c g. neither (λ x. omega arith) (λ x. omega arith))
     (λ e l g. rw (eq-eqb b 41 e, ne-eqb b 40 (λ x. omega arith)) (omega arith))
     (λ e g. neither (λ x. omega arith) (λ x. omega arith)) (r .stand)
   where
@@ -105,10 +107,10 @@ module _ (bs : List ℕ) (k : ℕ) (l : k < length bs) where
   abbrev at : Reader
   at = advances atStart (take k bs)
 
-  large-here : (a : ℕ) → at .stand ≡ number a → 0 < a → isDigit (getD bs k 0) ≡ true
+  large-here : (a : ℕ) → at .stand ≡ number a → isDigit (getD bs k 0) ≡ true
       → codeTest (withDigit a (getD bs k 0)) ≡ false → CodeTooLarge bs k
   unfolding withDigit
-  large-here a e p d f =
+  large-here a e d f =
       let c = code-ends (take k bs) a e in
       let w : bs ≡ c .front ++ (decimal a ++ drop k bs) =
       sym (take-append-drop k bs)
@@ -121,19 +123,21 @@ module _ (bs : List ℕ) (k : ℕ) (l : k < length bs) where
         begins = may-begin bs (c .front) (decimal a ++ drop k bs) w (c .ready);
         digits = c .bytes ∙ ap (λ (x : List ℕ). x ++ decimal a) (sym t);
         isCode = c .isCode;
-        positive = p;
         digit = digit-range (getD bs k 0) d;
         over = λ h. false≢true (sym f ∙ h);
       }
 
+  begin-here : Ready (at .stand) → TermMayBegin bs k
+  begin-here r =
+      subst (λ (i : ℕ). TermMayBegin bs i) (length-take-le k bs (omega arith))
+      (may-begin bs (take k bs) (drop k bs) (sym (take-append-drop k bs)) (ready-ends (take k bs) r))
+
+  zero-here : Ready (at .stand) → getD bs k 0 ≡ 48 → ZeroBegins bs k
+  zero-here r e = (begin-here r, e)
+
   deep-here : Going (at .stand) → Ready (at .stand) → getD bs k 0 ≡ 40 → depthLimit ≤ at .depth → BracketTooDeep bs k
   unfolding atStart
-  deep-here g r e h =
-      let n : length (take k bs) ≡ k = length-take-le k bs (omega arith) in (
-        subst (λ (i : ℕ). TermMayBegin bs i) n
-            (may-begin bs (take k bs) (drop k bs) (sym (take-append-drop k bs)) (ready-ends (take k bs) r)),
-        (l, e, omega (arith, depth-counts (take k bs) atStart g, h)),
-      )
+  deep-here g r e h = (begin-here r, (l, e, omega (arith, depth-counts (take k bs) atStart g, h)))
 
   start-in : (c : CodeTooLarge bs k) → c .start ≤ length bs
   start-in c =
@@ -144,6 +148,10 @@ module _ (bs : List ℕ) (k : ℕ) (l : k < length bs) where
         length-take (c .start) bs,
         length-take k bs,
       )
+
+  zero-refused : Going (at .stand) → ZeroBegins bs k → judge (at .stand) (at .depth) (getD bs k 0) ≡ stops 13
+  zero-refused g z =
+      zero-stops (at .stand) (at .depth) (getD bs k 0) (ready-at bs k (omega arith) (z .0) g) (z .1)
 
   large-refused : Going (at .stand) → CodeTooLarge bs k → judge (at .stand) (at .depth) (getD bs k 0) ≡ stops 13
   unfolding withDigit
@@ -158,7 +166,7 @@ module _ (bs : List ℕ) (k : ℕ) (l : k < length bs) where
       ap (λ (r : Reader). r .stand) e
       ∙ code-after q a (ready-at bs (c .start) (start-in c) (c .begins) h) (c .isCode) in
       ap (λ (y : Stand). judge y (at .depth) x) s
-      ∙ large-stops a (at .depth) x (c .positive) (is-digit x (c .digit .0) (c .digit .1))
+      ∙ large-stops a (at .depth) x (is-digit x (c .digit .0) (c .digit .1))
       (not-code (10 * a + (x - 48)) (c .over))
 
   deep-refused : Going (at .stand) → BracketTooDeep bs k → judge (at .stand) (at .depth) (getD bs k 0) ≡ stops 21
@@ -181,10 +189,12 @@ module _ (bs : List ℕ) (k : ℕ) (l : k < length bs) where
 
   by-why : (s : ℕ) → Going (at .stand) → judge (at .stand) (at .depth) (getD bs k 0) ≡ stops s
       → Why (at .stand) (at .depth) (getD bs k 0) s → StopsWith bs k s
-  by-why s g j (overCode a e p d f) = large (large-here a e p d f)
+  by-why s g j (zeroFirst r e) = banned (zero-here r e)
+  by-why s g j (overCode a e d f) = large (large-here a e d f)
   by-why s g j (overDepth r e h) = deep (deep-here g r e h)
   by-why s g j noMove =
-      other (λ c. let z = one-status 23 13 j (large-refused g c) in omega arith)
+      other (λ c. let z = one-status 23 13 j (zero-refused g c) in omega arith)
+      (λ c. let z = one-status 23 13 j (large-refused g c) in omega arith)
       (λ d. let z = one-status 23 21 j (deep-refused g d) in omega arith)
 
 pub stops-with : (bs : List ℕ) (k s : ℕ) → StopsAt bs atStart k s → StopsWith bs k s

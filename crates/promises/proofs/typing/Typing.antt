@@ -36,7 +36,7 @@ use Rattle.meaning.proofs.lay.Denoting.{laid-more, laid-at, laid-in}
 use Rattle.meaning.proofs.typed.Cases.{TypeCases, unsound, none, stopped, whole, type-cases}
 use Rattle.meaning.proofs.typed.Meeting.{coded-read, type-meets}
 use Rattle.promises.specs.Cells.{OnlyThere, laidOn, laidFrom}
-use Rattle.promises.specs.Reading.{large, deep, other, RefusedText, endsTooSoon, stopsAt}
+use Rattle.promises.specs.Reading.{banned, large, deep, other, RefusedText, endsTooSoon, stopsAt}
 use Rattle.promises.specs.Typing.{said, Whole, TypedAs, noRegister, noText, noRoom, hasRoom, LeavesText, typedOn}
 use Rattle.promises.specs.Typing.{typedFrom, TypedIn, TypesDo}
 use Rattle.promises.proofs.reading.Refusing.{stops-leftmost}
@@ -72,9 +72,10 @@ StopNumber s = (s ≡ 13) ⊎ ((s ≡ 21) ⊎ (s ≡ 23))
 
 pub refused-number : (bs : List ℕ) (v : Verdict) → RefusedText bs v → StopNumber (v .status)
 refused-number bs v (endsTooSoon b n) = inr (inr refl)
+refused-number bs v (stopsAt k s l b n (banned z)) = inl refl
 refused-number bs v (stopsAt k s l b n (large c)) = inl refl
 refused-number bs v (stopsAt k s l b n (deep c)) = inr (inl refl)
-refused-number bs v (stopsAt k s l b n (other c m)) = inr (inr refl)
+refused-number bs v (stopsAt k s l b n (other z c m)) = inr (inr refl)
 
 stop-away : (x : ℕ) → StopNumber x → (x ≢ 0) × (x ≢ 16)
 stop-away x (inl e) = (omega arith, omega arith)

@@ -107,20 +107,20 @@ fn put_dead_first(random: &mut Random, words: &mut Vec<u32>, top: &mut usize) {
         words.extend([0; 2]);
     }
     *top += 1;
-    put(words, FIRST_HEAP_CELL, Cell::Symbol(random.below(3) as u32));
+    put(words, FIRST_HEAP_CELL, Cell::Symbol(super::code(random)));
     for (c, &cell) in cells.iter().enumerate() {
         put(words, if c < FIRST_HEAP_CELL { c } else { c + 1 }, cell);
     }
 }
 
-/// Puts a dead cell after all cells of the heap. A symbol of the code 0 is what a free cell is too.
+/// Puts a dead cell after all cells of the heap.
 fn put_dead_last(random: &mut Random, words: &mut Vec<u32>, top: &mut usize) {
     if *top == words.len() / 2 {
         words.extend([0; 2]);
     }
     let cell = match super::run(random, *top, Runs::Any) {
         Some((l, r)) if random.one_in(2) => Cell::Bracket(l, r),
-        _ => Cell::Symbol(random.below(2) as u32),
+        _ => Cell::Symbol(super::code(random)),
     };
     put(words, *top, cell);
     *top += 1;
@@ -152,6 +152,7 @@ fn damaged(random: &mut Random, capacity: usize) -> (Vec<u32>, usize) {
     let below = &mut words[..2 * top];
     match random.below(8) {
         0 => below.iter_mut().for_each(|word| *word = random.word()),
+        1 => super::wipe(random, below, top),
         _ => (0..=random.below(3)).for_each(|_| spoil_word(random, below, top)),
     }
     (words, top)

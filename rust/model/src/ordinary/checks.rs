@@ -4,7 +4,7 @@
 //! - [`ByBlocks`]: all cells of a block, and then it asks whether any was damaged. No test waits
 //!   for another, so the compiler makes vectors of them, and there is no branch to guess wrong.
 
-use crate::plain::{BRACKET, FIRST_HEAP_CELL, MAX_CODE};
+use crate::plain::{is_code, BRACKET, FIRST_HEAP_CELL};
 
 /// A way of looking for damage.
 pub trait Checks: Default {
@@ -45,7 +45,7 @@ impl Checks for OneByOne {
             return Some(c);
         }
         for (c, cell) in (FIRST_HEAP_CELL as u32..).zip(heap.chunks_exact(2)) {
-            let symbol = cell[1] == 0 && cell[0] <= MAX_CODE;
+            let symbol = cell[1] == 0 && is_code(cell[0]);
             if !symbol && !Self::bracket(cell[0], cell[1], c) {
                 return Some(c as usize);
             }
@@ -82,7 +82,7 @@ impl ByBlocks {
     /// Whether two words are a symbol in order.
     #[inline]
     fn symbol(first: u32, second: u32) -> bool {
-        (second == 0) & (first <= MAX_CODE)
+        (second == 0) & is_code(first)
     }
 
     /// Whether two words are a bracket in order, as [`OneByOne`] says it, without a branch.

@@ -2,7 +2,7 @@
 //! digits at a time. What is read becomes a tree, which is laid once there is room for it.
 
 use super::{ends, on, pair, set, EMPTY};
-use crate::plain::{MAX_CODE, MAX_DEPTH};
+use crate::plain::{MAX_CODE, MAX_DEPTH, MIN_CODE};
 
 /// The numbers 00 to 99, side by side.
 const PAIRS: [[u8; 2]; 100] = {
@@ -116,8 +116,11 @@ impl Eye<'_> {
     #[inline]
     fn code(&mut self) -> Result<u32, u32> {
         let mut code = u32::from(self.byte() - b'0');
+        if code < MIN_CODE {
+            return Err(13);
+        }
         self.at += 1;
-        while code != 0 && self.byte().is_ascii_digit() {
+        while self.byte().is_ascii_digit() {
             code = 10 * code + u32::from(self.byte() - b'0');
             if code > MAX_CODE {
                 return Err(13);

@@ -1,4 +1,4 @@
-//! Files: S1 to S7, which are saved, and L1 to L12, which are loaded.
+//! Files: S1 to S8, which are saved, and L1 to L13, which are loaded.
 
 use zelmotar::raw::{self, Reply, Saved};
 
@@ -86,10 +86,11 @@ fn s3_a_short_space_leaves_the_store_collected() {
 }
 
 #[test]
-fn s5_to_s7_a_store_that_is_refused_is_not_collected() {
+fn s5_to_s8_a_store_that_is_refused_is_not_collected() {
     assert_eq!(saved(&[7; 3], 0, 5), no_file(1, 0, 0, vec![7; 3], 5));
     assert_eq!(saved(&broken(), 25, 5), no_file(2, 0, 25, broken(), 5));
     assert_eq!(saved(&broken(), 23, 5), no_file(3, 21, 23, broken(), 5));
+    assert_eq!(saved(&lone(0), 17, 5), no_file(3, 16, 17, lone(0), 5));
 }
 
 /// Asserts that a file is loaded into words that are junk.
@@ -172,4 +173,12 @@ fn l9_and_l10_damaged_cells() {
 fn l11_and_l12_a_cell_that_is_dead_and_the_same_held() {
     assert_refused(&one([65, 0], [0, EMPTY], 17), 34, 34, 0);
     assert_loaded(&one([65, 0], [16, EMPTY + 16], 17), 17, &lone(65));
+}
+
+#[test]
+fn l13_a_wiped_cell() {
+    assert_refused(&one([0, 0], [16, EMPTY + 16], 17), 34, 3, 16);
+    // The cell is not reached either.
+    assert_refused(&one([0, 0], [0, EMPTY], 17), 34, 3, 16);
+    assert_loaded(&one([1, 0], [16, EMPTY + 16], 17), 17, &lone(1));
 }

@@ -1,10 +1,11 @@
 -- `reader::judging::first_move` meets its contract. Assumes nothing.
-use mathlib.Core.Path.{refl, sym, ap, _∙_}
+use mathlib.Core.Path.{_≡_, refl, sym, ap, _∙_}
+use mathlib.Core.Bool.{true, false}
 use native.Mathlib.Omega.{arith}
 use borrow.Author.Tests.{lt-ltb, le-ltb, eq-eqb, ne-eqb}
 use borrow.Author.Needs.{needs}
 use Rattle.meaning.specs.Limits.{codeTest, depthLimit}
-use Rattle.meaning.specs.Judge.{firstMove}
+use Rattle.meaning.specs.Judge.{withDigit, firstMove}
 use Rattle.meaning.proofs.reader.Moves.{digit-range}
 use Rattle.reader.proofs.judging.first_move.Statement.{statement}
 use Rattle.reader.proofs.judging.first_move.Tie as tie
@@ -17,19 +18,17 @@ returns : tie.Need-returns
 unfolding firstMove
 returns c a =
     let if1 = c .before .before .before in
-    rw (
-      sym (if1 .before .is-digit .ensures) ∙ if1 .if1 .taken,
-      sym (ap codeTest (c .before .before .with-digit .ensures)) ∙ (sym (c .before .is-code .ensures) ∙ c .if2 .taken),
-    ) refl
+    let e : codeTest (withDigit 0 _) ≡ true =
+    sym (ap codeTest (c .before .before .with-digit .ensures)) ∙ (sym (c .before .is-code .ensures) ∙ c .if2 .taken) in
+    rw (sym (if1 .before .is-digit .ensures) ∙ if1 .if1 .taken, e) refl
 
 returns-2 : tie.Need-returns-2
 unfolding firstMove
 returns-2 c a =
     let if1 = c .before .before .before in
-    rw (
-      sym (if1 .before .is-digit .ensures) ∙ if1 .if1 .taken,
-      sym (ap codeTest (c .before .before .with-digit .ensures)) ∙ (sym (c .before .is-code .ensures) ∙ c .if2 .left),
-    ) refl
+    let e : codeTest (withDigit 0 _) ≡ false =
+    sym (ap codeTest (c .before .before .with-digit .ensures)) ∙ (sym (c .before .is-code .ensures) ∙ c .if2 .left) in
+    rw (sym (if1 .before .is-digit .ensures) ∙ if1 .if1 .taken, e) refl
 
 returns-3 : tie.Need-returns-3
 unfolding firstMove depthLimit

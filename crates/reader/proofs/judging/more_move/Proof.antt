@@ -1,6 +1,5 @@
 -- `reader::judging::more_move` meets its contract. Assumes nothing.
 use mathlib.Core.Path.{refl, sym, ap, _∙_}
-use borrow.Author.Tests.{eq-eqb, ne-eqb}
 use borrow.Author.Needs.{needs}
 use Rattle.meaning.specs.Limits.{codeTest}
 use Rattle.meaning.specs.Judge.{moreMove}
@@ -8,43 +7,35 @@ use Rattle.meaning.proofs.reader.Moves.{digit-range}
 use Rattle.reader.proofs.judging.more_move.Statement.{statement}
 use Rattle.reader.proofs.judging.more_move.Tie as tie
 
+with-digit-requires : tie.Need-with-digit-requires
+with-digit-requires c κs =
+    let i = digit-range _ (sym (c .before .is-digit .ensures) ∙ c .if1 .taken) in (c .before .before .pre, i .0, i .1)
+
 returns : tie.Need-returns
 unfolding moreMove
 returns c =
-    rw (sym (c .before .before .is-digit .ensures) ∙ c .before .if1 .taken, eq-eqb _ _ (c .if2 .taken)) refl
-
-with-digit-requires : tie.Need-with-digit-requires
-with-digit-requires c κs =
-    let i = digit-range _ (sym (c .before .before .is-digit .ensures) ∙ c .before .if1 .taken) in
-    (c .before .before .before .pre, i .0, i .1)
+    let if1 = c .before .before .before in
+    rw (
+      sym (if1 .before .is-digit .ensures) ∙ if1 .if1 .taken,
+      sym (ap codeTest (c .before .before .with-digit .ensures)) ∙ (sym (c .before .is-code .ensures) ∙ c .if2 .taken),
+    ) refl
 
 returns-2 : tie.Need-returns-2
 unfolding moreMove
 returns-2 c =
-    let if2 = c .before .before .before in
+    let if1 = c .before .before .before in
     rw (
-      sym (if2 .before .before .is-digit .ensures) ∙ if2 .before .if1 .taken,
-      ne-eqb _ _ (if2 .if2 .left),
-      sym (ap codeTest (c .before .before .with-digit .ensures)) ∙ (sym (c .before .is-code .ensures) ∙ c .if3 .taken),
+      sym (if1 .before .is-digit .ensures) ∙ if1 .if1 .taken,
+      sym (ap codeTest (c .before .before .with-digit .ensures)) ∙ (sym (c .before .is-code .ensures) ∙ c .if2 .left),
     ) refl
 
 returns-3 : tie.Need-returns-3
 unfolding moreMove
-returns-3 c =
-    let if2 = c .before .before .before in
-    rw (
-      sym (if2 .before .before .is-digit .ensures) ∙ if2 .before .if1 .taken,
-      ne-eqb _ _ (if2 .if2 .left),
-      sym (ap codeTest (c .before .before .with-digit .ensures)) ∙ (sym (c .before .is-code .ensures) ∙ c .if3 .left),
-    ) refl
-
-returns-4 : tie.Need-returns-4
-unfolding moreMove
-returns-4 c = rw (sym (c .before .before .is-digit .ensures) ∙ c .before .if1 .left) (c .later-move .ensures _)
+returns-3 c = rw (sym (c .before .before .is-digit .ensures) ∙ c .before .if1 .left) (c .later-move .ensures _)
 
 pub more-move-spec : {M : Type 1} → statement M
 more-move-spec =
     tie.close
     (tie.spec
-    (λ c κs. search needs) returns with-digit-requires (λ c κs. search needs) returns-2 returns-3
-    (λ c κs. search needs) returns-4)
+    (λ c κs. search needs) with-digit-requires (λ c κs. search needs) returns returns-2
+    (λ c κs. search needs) returns-3)
