@@ -12,7 +12,7 @@ use Rattle.promises.specs.Printing.{AlikePrinted}
 use Rattle.promises.specs.Reading.{ReadsBack, WritesBack, StopsLeftmost, OneRefusal}
 use Rattle.promises.specs.Typing.{TypesDo, TypeAnswers}
 use Rattle.promises.specs.Holding.{NewCellsOnly}
-use Rattle.promises.specs.Again.{PrintedTyped, TypedPrinted}
+use Rattle.promises.specs.Again.{PrintedTyped, TypedPrinted, PrintsNoZero}
 use Rattle.promises.specs.Files.{FileInWords, OneFile, OneEdition, LoadAnswers, SaveAnswers}
 use Rattle.promises.specs.Swap.{SavedLoads, LoadedIsSound, LoadedSaves}
 use Rattle.promises.specs.Program.{ProgramWrites, ProgramReads}
@@ -150,6 +150,9 @@ printed-typed = again.printed-typed
 
 pub typed-printed : TypedPrinted
 typed-printed = again.typed-printed
+
+pub prints-no-zero : PrintsNoZero
+prints-no-zero = again.prints-no-zero
 
 -- ---- files
 

@@ -1,5 +1,6 @@
 -- Demand 2: what was printed, typed in again, gives the same expression wherever there is room; what was typed, printed
--- again, gives the same bytes wherever they fit (SCOPE 8.2). Assumes nothing.
+-- again, gives the same bytes wherever they fit (SCOPE 8.2); and no print has a 0 that begins a term (2.4). Assumes
+-- nothing.
 use mathlib.Core.Path.{_≡_}
 use mathlib.Core.Bool.{false}
 use mathlib.Core.List.{List, _++_}
@@ -12,6 +13,8 @@ use Rattle.meaning.specs.Lay.{allTerms}
 use Rattle.meaning.specs.Call.{sought}
 use Rattle.meaning.specs.Text.{printIn}
 use Rattle.meaning.specs.Typed.{typeIn}
+use Rattle.promises.specs.Table.{Not}
+use Rattle.promises.specs.Reading.{ZeroBegins}
 
 -- register i of any words printed, and the text typed into register d of any sound store
 abbrev pub PrintedTyped : Type 0
@@ -31,3 +34,9 @@ TypedPrinted =
     → (let r = typeIn F ws top d bs in
     let p = printIn F (r .words) (r .top) d n in
     (p .verdict .status ≡ 0) × (p .size ≡ length bs) × (p .space ≡ bs ++ replicate (n - length bs) 0))
+
+-- register i of any words printed: no code of the text is 0, or begins with it
+abbrev pub PrintsNoZero : Type 0
+PrintsNoZero =
+    (F : ℕ) (ws : List ℕ) (top i n : ℕ) → printIn F ws top i n .verdict .status ≡ 0
+    → (k : ℕ) → Not (ZeroBegins (take (printIn F ws top i n .size) (printIn F ws top i n .space)) k)

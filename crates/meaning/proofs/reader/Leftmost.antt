@@ -1,6 +1,7 @@
 -- Where bytes stop the reader: at the first that it refuses, and there it stays. In order:
 --   StopsAt        byte k is the first to be refused, and with which status
 --   GoesOn, way    bytes are read to their end, or stop the reader at one of them
+--   whole-going    a reader that has read a whole text is not stopped
 --   no-text        up to the byte that is refused no text begins so
 --   Why, why       what is refused with each status;  zero-stops, large-stops, deep-stops  and that it is
 -- Assumes nothing.
@@ -99,6 +100,16 @@ way (b ∷ bs) r g = go (judge (r .stand) (r .depth) b) refl (way bs (advance b 
 stopped-part : (r : Reader) (s : ℕ) → r .stand ≡ stopped s → isWhole r ≡ false
 unfolding isWhole
 stopped-part r s e = rw e refl
+
+pub whole-going : (r : Reader) → isWhole r ≡ true → Going (r .stand)
+whole-going r w = go (r .stand) refl
+  where
+    go : (s : Stand) → r .stand ≡ s → Going s
+    go begun e = tt
+    go spaced e = tt
+    go (number a) e = tt
+    go closed e = tt
+    go (stopped s) e = false≢true (sym (stopped-part r s e) ∙ w)
 
 pub no-text : (bs : List ℕ) (k s : ℕ) → StopsAt bs atStart k s → Completed (take (suc k) bs) → ⊥
 unfolding blank

@@ -4,6 +4,7 @@
 --   zero-here, large-here, deep-here             what a refusal says of the bytes
 --   zero-refused, large-refused, deep-refused    and what is refused so
 --   stops-with                                   the status at the byte that stops the reader
+--   no-zero                                      what does not stop the reader has no 0 that begins a term
 -- Assumes nothing.
 use mathlib.Core.Path.{_≡_, refl, sym, ap, ap₂, _∙_, subst}
 use mathlib.Core.Logic.{_⊎_, inl, inr}
@@ -12,14 +13,15 @@ use mathlib.Core.List.{List, [], _∷_, _++_, append-assoc}
 use Prim.Native.Nat.{ℕ, zero, suc, _+_, _-_, _*_, _≤_, _<_}
 use native.Mathlib.Omega.{arith}
 use lib.Dec.{eqb}
-use lib.ListN.{length, getD, take, drop, length-append, length-take, take-append-drop}
-use lib.Seq.{length-take-le, take-suc, take-append-seam, getD-append-seam}
+use lib.ListN.{length, getD, take, drop, length-append, length-take, take-append-drop, List·getD-eq-default}
+use lib.Seq.{length-take-le, take-suc, drop-cons, take-append-seam, getD-append-seam}
 use borrow.Author.Tests.{eq-eqb, ne-eqb}
 use Rattle.bytes.specs.Decimal.{decimal}
 use Rattle.meaning.specs.Limits.{codeTest, depthLimit}
 use Rattle.meaning.specs.Judge.{Stand, number, Move, stops, begins, grows, opens, closes, parts}
 use Rattle.meaning.specs.Judge.{isDigit, withDigit, judge}
 use Rattle.meaning.specs.Reader.{Reader, moved, advance, advances, atStart}
+use Rattle.meaning.proofs.Lists.{lt-or-ge}
 use Rattle.meaning.proofs.reader.Moves.{digit-range, is-digit, judge-cases}
 use Rattle.meaning.proofs.reader.Codes.{Ready}
 use Rattle.meaning.proofs.reader.Completing.{Going}
@@ -202,3 +204,24 @@ stops-with bs k s w =
     by-why bs k (w .inside) s (w .going) (w .refused)
     (why (advances atStart (take k bs) .stand) (advances atStart (take k bs) .depth) (getD bs k 0) s (w .going)
     (w .refused))
+
+-- ---- what does not stop the reader
+
+module _ (bs : List ℕ) (g : Going (advances atStart bs .stand)) (k : ℕ) (z : ZeroBegins bs k) where
+  zero-stands : k < length bs → ⊥
+  unfolding advance
+  zero-stands l =
+      let r = advances atStart (take k bs) in
+      let b = getD bs k 0 in
+      let e : advances atStart bs ≡ advances (advance b r) (drop (suc k) bs) =
+      ap (advances atStart) (sym (take-append-drop k bs))
+      ∙ (advances-append (take k bs) (drop k bs) atStart ∙ ap (advances r) (drop-cons bs k 0 l)) in
+      let h = going-before (drop (suc k) bs) (advance b r) (subst (λ (x : Reader). Going (x .stand)) e g) in
+      subst (λ (m : Move). Going (moved m r .stand)) (zero-refused bs k l (going-before (b ∷ []) r h) z) h
+
+  pub no-zero : ⊥
+  no-zero = go (lt-or-ge k (length bs))
+    where
+      go : (k < length bs) ⊎ (length bs ≤ k) → ⊥
+      go (inl l) = zero-stands l
+      go (inr l) = let d = List·getD-eq-default bs 0 l in omega (arith, d, z .1)

@@ -3,8 +3,9 @@
 --   said-done                  a typed text that is done sets d to what it says
 --   printed-typed              what was printed, typed in again
 --   type-done, typed-printed   a typed text that is done, and printed again
+--   prints-no-zero             no print has a 0 that begins a term
 -- Assumes nothing.
-use mathlib.Core.Path.{_≡_, refl, ap, _∙_}
+use mathlib.Core.Path.{_≡_, refl, ap, _∙_, subst}
 use mathlib.Core.Logic.{inl, inr}
 use mathlib.Core.Bool.{false}
 use mathlib.Core.List.{List}
@@ -25,17 +26,23 @@ use Rattle.meaning.specs.Lay.{allTerms}
 use Rattle.meaning.specs.Call.{sought}
 use Rattle.meaning.specs.Effect.{becomes}
 use Rattle.meaning.specs.Text.{text, Readable, trouble, Printed, printed, printIn}
+use Rattle.meaning.specs.Reader.{Reader, reads, blank}
 use Rattle.meaning.specs.Typed.{typeIn}
 use Rattle.meaning.proofs.lay.Coding.{coded-meaning}
 use Rattle.meaning.proofs.text.Printing.{print-register, whole}
 use Rattle.meaning.proofs.text.Troubles.{text-fits, text-readable}
+use Rattle.meaning.proofs.reader.Forth.{reads-place}
+use Rattle.meaning.proofs.reader.Completing.{Going}
+use Rattle.meaning.proofs.reader.Leftmost.{whole-going}
 use Rattle.meaning.proofs.typed.Cases.{TypeCases, type-cases}
 use Rattle.meaning.proofs.typed.Cases as cases
 use Rattle.promises.specs.Printing.{PrintedAs, unsound, noRegister, written}
 use Rattle.promises.specs.Typing.{said, Whole, hasRoom, TypedIn}
-use Rattle.promises.specs.Again.{PrintedTyped, TypedPrinted}
+use Rattle.promises.specs.Reading.{ZeroBegins}
+use Rattle.promises.specs.Again.{PrintedTyped, TypedPrinted, PrintsNoZero}
 use Rattle.promises.proofs.printing.Meeting.{meets, met-once}
 use Rattle.promises.proofs.printing.Printed.{print-answers}
+use Rattle.promises.proofs.reading.Stopping.{no-zero}
 use Rattle.promises.proofs.reading.Refusing.{reads-back, writes-back, stops-leftmost}
 use Rattle.promises.proofs.unique.Texts.{says-once}
 use Rattle.promises.proofs.typing.Typing.{StopNumber, refused-number, types-do}
@@ -122,3 +129,14 @@ typed-printed F ws top d bs q n l =
     ∙ (text-printed (said bs) (b .0) n m
     ∙ ap {B = Printed} (λ (y : List ℕ). record { verdict = only 0; size = length y; space = filled n y }) (b .1))) in
     rw p (refl, refl, filled-fits n bs l)
+
+-- ---- printed without a 0 that begins a term
+
+pub prints-no-zero : PrintsNoZero
+unfolding blank
+prints-no-zero F ws top i n q k z =
+    let bs = text (meaning ws i) in
+    let b = reads-back (meaning ws i) (print-readable F ws top i n q) in
+    no-zero bs
+    (subst (λ (r : Reader). Going (r .stand)) (reads-place bs blank) (whole-going (reads blank bs .place) (b .0))) k
+    (subst (λ (t : List ℕ). ZeroBegins t k) (printed-text F ws top i n q) z)
