@@ -2,13 +2,14 @@
 --   leb-suc                      a test at the next number is the test at this one, but for one number
 --   positive                     a number that is not 0
 --   both-true                    two tests that hold together hold each
+--   within, yes-within           a test of two bounds
 --   count                        how many cells below c are in a set
 --   count-same, count-less-one   of two sets alike, and of a set with one cell taken out
 -- Assumes nothing.
 use mathlib.Core.Path.{_≡_, refl, sym}
 use mathlib.Core.Logic.{_≢_}
 use mathlib.Core.Bool.{Bool, true, false, cond, _&&_}
-use Prim.Native.Nat.{ℕ, zero, suc, _<_}
+use Prim.Native.Nat.{ℕ, zero, suc, _≤_, _<_}
 use native.Mathlib.Omega.{arith}
 use native.Mathlib.Decide.{ℕ-discrete}
 use lib.Dec.{leb, eqb}
@@ -30,6 +31,12 @@ positive a z = let n = eqb-false a 0 z in omega (arith, n)
 pub both-true : (a b : Bool) → (a && b) ≡ true → (a ≡ true) × (b ≡ true)
 both-true true b e = (refl, e)
 both-true false b e = (e, cc)
+
+pub within : (l r x : ℕ) → (leb l x && leb x r) ≡ true → (l ≤ x) × (x ≤ r)
+within l r x e = let b = both-true (leb l x) (leb x r) e in (leb-true l x (b .0), leb-true x r (b .1))
+
+pub yes-within : (l r x : ℕ) → l ≤ x → x ≤ r → (leb l x && leb x r) ≡ true
+yes-within l r x h k = simp (le-leb l x h, le-leb x r k)
 
 -- ---- counting
 

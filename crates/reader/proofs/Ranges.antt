@@ -1,16 +1,18 @@
 -- What stays in range as a text is read, a byte a turn. In order:
+--   code-asked                   what is asked of a number, whether it is a code, is asked of an equal one
 --   judge-suits                  the byte is what its move says
 --   Reading, Read                the first i bytes are read, and what is left of the definition equals the whole
 --   begin, can-read, onward      before the first byte;  a further byte may be counted, and is read
 --   halted, finish               a byte has stopped the reader;  after the last byte
 -- Assumes nothing.
 use mathlib.Core.Path.{_≡_, refl, sym, ap, _∙_, subst}
-use mathlib.Core.Bool.{true, false≢true}
+use mathlib.Core.Bool.{Bool, true, false≢true}
 use mathlib.Core.List.{List}
 use Prim.Native.Nat.{ℕ, suc, _+_, _*_, _^_, _≤_, _<_}
 use native.Mathlib.Omega.{arith}
 use lib.ListN.{length, drop, getD, drop-of-length-le}
 use lib.Seq.{drop-cons}
+use Rattle.meaning.specs.Limits.{codeTest}
 use Rattle.meaning.specs.Judge.{Stand, begun, spaced, number, closed, stopped, Move, judge}
 use Rattle.meaning.specs.Reader.{Reader, reader, moved, advance, advances, atStart}
 use Rattle.meaning.proofs.sound.Cells.{code-fits}
@@ -18,6 +20,9 @@ use Rattle.meaning.proofs.reader.Moves.{judge-cases}
 use Rattle.meaning.proofs.reader.Standing as standing
 use Rattle.reader.specs.Readers.{readerOf, isStopped, CanRead, Suits}
 use Rattle.reader.specs.declared.Reader as code
+
+pub code-asked : {x y : ℕ} {r t : Bool} → x ≡ y → r ≡ codeTest x → r ≡ t → codeTest y ≡ t
+code-asked e q h = sym (ap codeTest e) ∙ (sym q ∙ h)
 
 pub judge-suits : (s : Stand) (depth b : ℕ) → Suits (judge s depth b) b depth
 judge-suits s depth b =

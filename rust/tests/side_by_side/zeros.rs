@@ -10,17 +10,12 @@ use zelmotar_model::{files, trees};
 use crate::case::{compare_load, Case};
 use crate::types::Type;
 
-/// A sound store with a heap cell at least, a third of the time a collected one.
+/// A sound store with a heap cell at least.
 fn store(random: &mut Random) -> (Vec<u32>, usize) {
     loop {
         let capacity = make::capacity(random);
-        let (words, top) = match random.below(3) {
-            0 => collected(random, capacity),
-            _ => {
-                let runs = random.pick(&[Runs::Short, Runs::Recent, Runs::Any]);
-                make::sound(random, capacity, runs)
-            }
-        };
+        let runs = random.pick(&[Runs::Short, Runs::Recent, Runs::Any]);
+        let (words, top) = make::sound(random, capacity, runs);
         if FIRST_HEAP_CELL < top {
             return (words, top);
         }

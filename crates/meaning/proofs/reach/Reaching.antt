@@ -12,16 +12,15 @@
 -- Assumes nothing.
 use mathlib.Core.Path.{_≡_, refl, sym}
 use mathlib.Core.Logic.{_⊎_, inl, inr}
-use mathlib.Core.Bool.{Bool, true, false, _&&_, _||_, false≢true}
+use mathlib.Core.Bool.{Bool, true, false, _||_, false≢true}
 use mathlib.Core.List.{List, [], _∷_}
 use Prim.Native.Nat.{ℕ, zero, suc, _+_, _-_, _≤_, _<_}
 use native.Mathlib.Nat.{le-refl, not-suc-le-zero, le-of-suc-le-suc, eq-or-lt-of-le}
 use native.Mathlib.Omega.{arith}
-use lib.Dec.{leb}
-use borrow.Author.Tests.{leb-true, le-leb}
 use Rattle.meaning.specs.Sound.{Cell, code, empty, ends, at, Sound}
 use Rattle.meaning.specs.Reach.{Between, Reached, byRegister, byBracket, between, heldBelow, heldIn, consIf}
 use Rattle.meaning.specs.Reach.{reachedOf, reached, live}
+use Rattle.meaning.proofs.Counting.{within, yes-within}
 use Rattle.meaning.proofs.Lists.{In, Asc, asc-weaken, asc-length}
 use Rattle.meaning.proofs.sound.Cells.{SoundCells, TermIn, BracketIn, good}
 
@@ -42,17 +41,12 @@ or-cases false b e = inr e
 between-to : (b : Cell) (c : ℕ) → between b c ≡ true → Between b c
 between-to (code a) c e = absurd (false≢true e)
 between-to empty c e = absurd (false≢true e)
-between-to (ends l r) c e = go (leb l c) (leb c r) refl refl e
-  where
-    go : (s t : Bool) → leb l c ≡ s → leb c r ≡ t → (s && t) ≡ true → (l ≤ c) × (c ≤ r)
-    go true true p q e = (leb-true l c p, leb-true c r q)
-    go true false p q e = absurd (false≢true e)
-    go false t p q e = absurd (false≢true e)
+between-to (ends l r) c e = within l r c e
 
 between-of : (b : Cell) (c : ℕ) → Between b c → between b c ≡ true
 between-of (code a) c h = absurd h
 between-of empty c h = absurd h
-between-of (ends l r) c h = rw (le-leb l c (h .0), le-leb c r (h .1)) refl
+between-of (ends l r) c h = yes-within l r c (h .0) (h .1)
 
 pub below-to : (k : ℕ → Cell) (n c : ℕ) → heldBelow k n c ≡ true → (i : ℕ) × (i < n) × Between (k i) c
 below-to k zero c e = absurd (false≢true e)

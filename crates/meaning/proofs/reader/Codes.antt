@@ -16,7 +16,7 @@ use lib.ListN.{length, length-append}
 use borrow.Author.Tests.{lt-ltb, ne-eqb}
 use Rattle.bytes.specs.Decimal.{decimal}
 use Rattle.bytes.proofs.Decimals.{decimal-one, decimal-more}
-use Rattle.meaning.specs.Limits.{depthLimit}
+use Rattle.meaning.specs.Limits.{codeTest, depthLimit}
 use Rattle.meaning.specs.Sound.{IsCode}
 use Rattle.meaning.specs.Judge.{Stand, begun, spaced, number, closed, stopped}
 use Rattle.meaning.specs.Judge.{Move, begins, grows, opens, closes, parts}
@@ -24,7 +24,7 @@ use Rattle.meaning.specs.Judge.{isDigit, withDigit, firstMove, laterMove
 use Rattle.meaning.specs.Reader.{reader, Draft, takes, read, reads}
 use Rattle.meaning.proofs.Lists.{lt-or-ge}
 use Rattle.meaning.proofs.sound.Cells.{code-range, range-code}
-use Rattle.meaning.proofs.reader.Moves.{is-digit}
+use Rattle.meaning.proofs.reader.Moves.{is-digit, first-digit, more-digit}
 
 pub reads-append : (xs ys : List ℕ) (r : Draft) → reads r (xs ++ ys) ≡ reads (reads r xs) ys
 reads-append [] ys r = refl
@@ -61,22 +61,22 @@ digit-behind : (a d : ℕ) → withDigit a (48 + d) ≡ 10 * a + d
 unfolding withDigit
 digit-behind a d = omega arith
 
-first-digit : (depth d : ℕ) → IsCode d → d ≤ 9 → firstMove depth (48 + d) ≡ begins d
-unfolding firstMove
-first-digit depth d l h =
-    let e : withDigit 0 (48 + d) ≡ d = digit-behind 0 d ∙ omega arith in simp (digit-is d h, e, l)
+first-code : (depth d : ℕ) → IsCode d → d ≤ 9 → firstMove depth (48 + d) ≡ begins d
+first-code depth d l h =
+    let e : withDigit 0 (48 + d) ≡ d = digit-behind 0 d ∙ omega arith in
+    first-digit depth (48 + d) true (digit-is d h) (ap codeTest e ∙ l) ∙ ap begins e
 
 move-digit : (s : Stand) (depth d : ℕ) → Ready s → IsCode d → d ≤ 9 → judge s depth (48 + d) ≡ begins d
 move-digit begun depth d r l h =
-    let n : (48 + d ≡ 41 → ⊥) = (λ e. omega arith) in rw (ne-eqb (48 + d) 41 n) (first-digit depth d l h)
-move-digit spaced depth d r l h = first-digit depth d l h
+    let n : (48 + d ≡ 41 → ⊥) = (λ e. omega arith) in rw (ne-eqb (48 + d) 41 n) (first-code depth d l h)
+move-digit spaced depth d r l h = first-code depth d l h
 move-digit (number a) depth d r l h = absurd r
 move-digit closed depth d r l h = absurd r
 move-digit (stopped s) depth d r l h = absurd r
 
 move-more : (a depth d : ℕ) → d ≤ 9 → IsCode (10 * a + d) → judge (number a) depth (48 + d) ≡ grows (10 * a + d)
-unfolding moreMove
-move-more a depth d h l = simp (digit-is d h, digit-behind a d, l)
+move-more a depth d h l =
+    let e = digit-behind a d in more-digit a depth (48 + d) true (digit-is d h) (ap codeTest e ∙ l) ∙ ap grows e
 
 pub move-open : (s : Stand) (depth : ℕ) → Ready s → depth < depthLimit → judge s depth 40 ≡ opens
 unfolding firstMove isDigit

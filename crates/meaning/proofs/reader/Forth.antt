@@ -4,7 +4,7 @@
 --   reads-place    the reader of a draft goes its own way
 -- Assumes nothing.
 use mathlib.Core.Path.{_≡_, refl, ap, _∙_, subst}
-use mathlib.Core.Bool.{Bool, true, false, _&&_, false≢true}
+use mathlib.Core.Bool.{true, false≢true}
 use mathlib.Core.List.{List, [], _∷_, _++_}
 use Prim.Native.Nat.{ℕ, suc, _+_}
 use native.Mathlib.Omega.{arith}
@@ -17,6 +17,7 @@ use Rattle.meaning.specs.Lay.{allTerms}
 use Rattle.meaning.specs.Text.{text, Readable}
 use Rattle.meaning.specs.Judge.{Stand, begun, spaced, number, closed, stopped}
 use Rattle.meaning.specs.Reader.{advance, advances, mayEnd, isWhole, Draft, ended, expression, read, reads, blank}
+use Rattle.meaning.proofs.Counting.{both-true}
 use Rattle.meaning.proofs.reader.Drafts.{behind, Stack, sizes, Open, Inv, so-far}
 use Rattle.meaning.proofs.reader.Keeping.{bytes-inv}
 
@@ -60,17 +61,12 @@ finish closed depth total ar own bs k w e =
     ends-with (k .left) depth total ar own bs (k .bytes) (so-far closed depth total ar own bs k) e
 finish (stopped s) depth total ar own bs k w e = absurd (false≢true w)
 
-both : (s t : Bool) → (s && t) ≡ true → (s ≡ true) × (t ≡ true)
-both true true e = (refl, refl)
-both true false e = absurd (false≢true e)
-both false t e = absurd (false≢true e)
-
 pub text-of-read : (bs : List ℕ) → isWhole (reads blank bs .place) ≡ true
     → TextOf (expression (reads blank bs)) (reads blank bs .place .total) bs
 unfolding isWhole
 text-of-read bs w =
     let r = reads blank bs in
-    let q = both (mayEnd (r .place .stand)) (eqb (r .place .depth) 0) w in
+    let q = both-true (mayEnd (r .place .stand)) (eqb (r .place .depth) 0) w in
     finish (r .place .stand) (r .place .depth) (r .place .total) (r .around) (r .own) bs (bytes-inv bs) (q .0)
     (eqb-true (r .place .depth) 0 (q .1))
 

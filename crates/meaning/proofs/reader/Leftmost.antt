@@ -21,7 +21,7 @@ use Rattle.meaning.specs.Judge.{Move, stops, begins, grows, opens, close
 use Rattle.meaning.specs.Judge.{isDigit, withDigit, firstMove, laterMove, moreMove, judge}
 use Rattle.meaning.specs.Reader.{Reader, reader, moved, advance, advances, atStart, isWhole, reads, blank}
 use Rattle.meaning.proofs.sound.Cells.{range-code, zero-no-code}
-use Rattle.meaning.proofs.reader.Moves.{either, digit-range}
+use Rattle.meaning.proofs.reader.Moves.{either, digit-range, first-digit, more-digit}
 use Rattle.meaning.proofs.reader.Forth.{reads-place}
 use Rattle.meaning.proofs.reader.Codes.{Ready}
 use Rattle.meaning.proofs.reader.Back.{read-back}
@@ -186,17 +186,16 @@ why s depth b t g e = subst (λ (m : Move). Stopping s depth b m) e (judged-why 
 
 -- each is refused so
 pub zero-stops : (s : Stand) (depth b : ℕ) → Ready s → b ≡ 48 → judge s depth b ≡ stops 13
-unfolding firstMove isDigit withDigit
-zero-stops begun depth b r e = rw (e, zero-no-code) refl
-zero-stops spaced depth b r e = rw (e, zero-no-code) refl
+unfolding isDigit withDigit
+zero-stops begun depth b r e = rw e (first-digit depth 48 false refl zero-no-code)
+zero-stops spaced depth b r e = rw e (first-digit depth 48 false refl zero-no-code)
 zero-stops (number a) depth b r e = absurd r
 zero-stops closed depth b r e = absurd r
 zero-stops (stopped s) depth b r e = absurd r
 
 pub large-stops : (a depth b : ℕ) → isDigit b ≡ true → codeTest (withDigit a b) ≡ false
     → judge (number a) depth b ≡ stops 13
-unfolding moreMove
-large-stops a depth b e f = rw (e, f) refl
+large-stops a depth b e f = more-digit a depth b false e f
 
 pub deep-stops : (s : Stand) (depth b : ℕ) → Ready s → b ≡ 40 → depthLimit ≤ depth → judge s depth b ≡ stops 21
 unfolding firstMove isDigit

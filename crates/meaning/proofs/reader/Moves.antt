@@ -2,20 +2,22 @@
 -- that is. In order:
 --   either                                 a choice by a test
 --   digit-range, is-digit                  a byte that is a digit
+--   first-digit, more-digit                a digit where a term may begin, and after a digit
 --   first-cases, later-cases, more-cases   a byte where a term may begin, after a whole term, after a digit
 --   judge-cases                            a byte wherever the reader stands
 -- Assumes nothing.
 use mathlib.Core.Path.{_≡_, refl}
-use mathlib.Core.Bool.{Bool, true, false, cond, _&&_, false≢true}
+use mathlib.Core.Bool.{Bool, true, false, cond}
 use Prim.Native.Nat.{ℕ, _+_, _-_, _*_, _≤_, _<_}
 use native.Mathlib.Omega.{arith}
-use lib.Dec.{ltb, leb, eqb}
-use borrow.Author.Tests.{ltb-true, leb-true, le-leb, eqb-true}
+use lib.Dec.{ltb, eqb}
+use borrow.Author.Tests.{ltb-true, eqb-true}
 use Rattle.meaning.specs.Limits.{codeTest, depthLimit}
 use Rattle.meaning.specs.Sound.{IsCode}
 use Rattle.meaning.specs.Judge.{Stand, begun, spaced, number, closed, stopped}
 use Rattle.meaning.specs.Judge.{Move, stops, begins, grows, opens, closes, parts}
 use Rattle.meaning.specs.Judge.{isDigit, withDigit, firstMove, laterMove, moreMove, judge}
+use Rattle.meaning.proofs.Counting.{within, yes-within}
 
 pub either : {A : Type 0} (P : A → Type 0) (t : Bool) {x y : A} → (t ≡ true → P x) → (t ≡ false → P y)
     → P (cond t x y)
@@ -24,16 +26,22 @@ either P false f g = g refl
 
 pub digit-range : (b : ℕ) → isDigit b ≡ true → (48 ≤ b) × (b ≤ 57)
 unfolding isDigit
-digit-range b e = both (leb 48 b) (leb b 57) refl refl e
-  where
-    both : (s t : Bool) → leb 48 b ≡ s → leb b 57 ≡ t → (s && t) ≡ true → (48 ≤ b) × (b ≤ 57)
-    both true true f g e = (leb-true 48 b f, leb-true b 57 g)
-    both true false f g e = absurd (false≢true e)
-    both false t f g e = absurd (false≢true e)
+digit-range b e = within 48 57 b e
 
 pub is-digit : (b : ℕ) → 48 ≤ b → b ≤ 57 → isDigit b ≡ true
 unfolding isDigit
-is-digit b h l = simp (le-leb 48 b h, le-leb b 57 l)
+is-digit b h l = yes-within 48 57 b h l
+
+-- a digit, by whether the number with it is a code
+pub first-digit : (depth b : ℕ) (t : Bool) → isDigit b ≡ true → codeTest (withDigit 0 b) ≡ t
+    → firstMove depth b ≡ cond t (begins (withDigit 0 b)) (stops 13)
+unfolding firstMove
+first-digit depth b t e f = rw (e, f) refl
+
+pub more-digit : (a depth b : ℕ) (t : Bool) → isDigit b ≡ true → codeTest (withDigit a b) ≡ t
+    → moreMove a depth b ≡ cond t (grows (withDigit a b)) (stops 13)
+unfolding moreMove
+more-digit a depth b t e f = rw (e, f) refl
 
 -- what the byte is at each move
 module _ (P : Move → Type 0) (b : ℕ) (stop : (s : ℕ) → P (stops s)) where

@@ -18,17 +18,17 @@ use mathlib.Core.Path.{_≡_, refl, sym, subst}
 use mathlib.Core.Logic.{_⊎_, inl, inr}
 use mathlib.Core.Bool.{Bool, true, false}
 use mathlib.Core.List.{List}
-use Prim.Native.Nat.{ℕ, zero, suc, _+_, _-_, _*_, _/_, _≤_, _<_}
+use Prim.Native.Nat.{ℕ, zero, suc, _+_, _*_, _/_, _≤_, _<_}
 use native.Mathlib.Nat.{not-suc-le-zero, add-sub-cancel-left}
 use native.Mathlib.Omega.{arith}
-use lib.Dec.{ltb, leb}
+use lib.Dec.{ltb}
 use lib.ListN.{length, getD}
-use borrow.Author.Tests.{leb-true, le-leb, ltb-true, ltb-false, le-ltb}
+use borrow.Author.Tests.{ltb-true, ltb-false, le-ltb}
 use Rattle.words.specs.Cell.{firstWord, secondWord}
 use Rattle.meaning.specs.Limits.{codeTest, limit}
 use Rattle.meaning.specs.Sound.{IsCode, Cell, code, empty, ends, fst, snd, bracketOf, cellOf, at, IsBracket}
 use Rattle.meaning.specs.Sound.{isEmpty, isFull, IsTerm, isSymbol, isBracket, capacity, Sound}
-use Rattle.meaning.proofs.Counting.{both-true}
+use Rattle.meaning.proofs.Counting.{within, yes-within}
 
 -- All that the code needs to know of the limit: an address fits the 28 bits of a right end.
 pub limit-fits : limit ≤ 268435456
@@ -38,12 +38,11 @@ limit-fits = omega arith
 -- All that proofs know of codes: their range. No other proof looks into `codeTest`.
 pub code-range : (a : ℕ) → IsCode a → (1 ≤ a) × (a ≤ 268435455)
 unfolding codeTest
-code-range a h =
-    let b = both-true (leb 1 a) (leb a 268435455) h in (leb-true 1 a (b .0), leb-true a 268435455 (b .1))
+code-range a h = within 1 268435455 a h
 
 pub range-code : (a : ℕ) → 1 ≤ a → a ≤ 268435455 → IsCode a
 unfolding codeTest
-range-code a h l = simp (le-leb 1 a h, le-leb a 268435455 l)
+range-code a h l = yes-within 1 268435455 a h l
 
 pub zero-no-code : codeTest 0 ≡ false
 unfolding codeTest

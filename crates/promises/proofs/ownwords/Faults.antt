@@ -10,6 +10,7 @@ use lib.ListN.{getD}
 use borrow.Author.Tests.{leb-true, le-leb, ltb-true, lt-ltb, eqb-true}
 use Rattle.meaning.specs.Limits.{codeTest}
 use Rattle.meaning.specs.Operands.{uses, wrong11, wrong12, wrong13, fault}
+use Rattle.meaning.proofs.Counting.{both-true}
 use Rattle.meaning.proofs.sound.Cells.{code-range, range-code}
 use Rattle.meaning.proofs.operands.Uses.{all-at, three, Faults, ten, eleven, twelve, thirteen, none, faults}
 use Rattle.promises.specs.Table.{Not}
@@ -30,18 +31,14 @@ same-row o =
     eqb (getD uses (3 * o) 0) (number (rowOf o .d)) && eqb (getD uses (3 * o + 1) 0) (number (rowOf o .a))
     && eqb (getD uses (3 * o + 2) 0) (number (rowOf o .b))
 
-both : (x y : Bool) → (x && y) ≡ true → (x ≡ true) × (y ≡ true)
-both true y e = (refl, e)
-both false y e = absurd (false≢true e)
-
 tables : (o : ℕ) → o ≤ 11
     → (getD uses (3 * o) 0 ≡ number (rowOf o .d)) × (getD uses (3 * o + 1) 0 ≡ number (rowOf o .a))
     × (getD uses (3 * o + 2) 0 ≡ number (rowOf o .b))
 unfolding same-row uses number
 tables o h =
     let s = all-at same-row 12 o refl (omega arith) in
-    let x = both _ _ s in
-    let y = both _ _ (x .0) in
+    let x = both-true _ _ s in
+    let y = both-true _ _ (x .0) in
     (eqb-true _ _ (y .0), eqb-true _ _ (y .1), eqb-true _ _ (x .1))
 
 -- ---- a test of one word, and its rule

@@ -1,7 +1,7 @@
 -- What stops the reader at a byte, in terms of the bytes before it. In order:
 --   depth-counts                                 the open brackets are those opened less those closed
 --   ready-at, may-begin                          where a term may begin, by the bytes and by where the reader stands
---   zero-here, large-here, deep-here             what a refusal says of the bytes
+--   begin-here, large-here, deep-here            what a refusal says of the bytes
 --   zero-refused, large-refused, deep-refused    and what is refused so
 --   stops-with                                   the status at the byte that stops the reader
 --   no-zero                                      what does not stop the reader has no 0 that begins a term
@@ -134,9 +134,6 @@ module _ (bs : List ℕ) (k : ℕ) (l : k < length bs) where
       subst (λ (i : ℕ). TermMayBegin bs i) (length-take-le k bs (omega arith))
       (may-begin bs (take k bs) (drop k bs) (sym (take-append-drop k bs)) (ready-ends (take k bs) r))
 
-  zero-here : Ready (at .stand) → getD bs k 0 ≡ 48 → ZeroBegins bs k
-  zero-here r e = (begin-here r, e)
-
   deep-here : Going (at .stand) → Ready (at .stand) → getD bs k 0 ≡ 40 → depthLimit ≤ at .depth → BracketTooDeep bs k
   unfolding atStart
   deep-here g r e h = (begin-here r, (l, e, omega (arith, depth-counts (take k bs) atStart g, h)))
@@ -191,7 +188,7 @@ module _ (bs : List ℕ) (k : ℕ) (l : k < length bs) where
 
   by-why : (s : ℕ) → Going (at .stand) → judge (at .stand) (at .depth) (getD bs k 0) ≡ stops s
       → Why (at .stand) (at .depth) (getD bs k 0) s → StopsWith bs k s
-  by-why s g j (zeroFirst r e) = banned (zero-here r e)
+  by-why s g j (zeroFirst r e) = banned (begin-here r, e)
   by-why s g j (overCode a e d f) = large (large-here a e d f)
   by-why s g j (overDepth r e h) = deep (deep-here g r e h)
   by-why s g j noMove =

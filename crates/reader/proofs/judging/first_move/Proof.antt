@@ -1,12 +1,13 @@
 -- `reader::judging::first_move` meets its contract. Assumes nothing.
-use mathlib.Core.Path.{_≡_, refl, sym, ap, _∙_}
+use mathlib.Core.Path.{refl, sym, _∙_}
 use mathlib.Core.Bool.{true, false}
 use native.Mathlib.Omega.{arith}
 use borrow.Author.Tests.{lt-ltb, le-ltb, eq-eqb, ne-eqb}
 use borrow.Author.Needs.{needs}
-use Rattle.meaning.specs.Limits.{codeTest, depthLimit}
-use Rattle.meaning.specs.Judge.{withDigit, firstMove}
-use Rattle.meaning.proofs.reader.Moves.{digit-range}
+use Rattle.meaning.specs.Limits.{depthLimit}
+use Rattle.meaning.specs.Judge.{firstMove}
+use Rattle.meaning.proofs.reader.Moves.{digit-range, first-digit}
+use Rattle.reader.proofs.Ranges.{code-asked}
 use Rattle.reader.proofs.judging.first_move.Statement.{statement}
 use Rattle.reader.proofs.judging.first_move.Tie as tie
 
@@ -15,20 +16,16 @@ with-digit-requires c κs =
     let i = digit-range _ (sym (c .before .is-digit .ensures) ∙ c .if1 .taken) in (omega arith, i .0, i .1)
 
 returns : tie.Need-returns
-unfolding firstMove
 returns c a =
     let if1 = c .before .before .before in
-    let e : codeTest (withDigit 0 _) ≡ true =
-    sym (ap codeTest (c .before .before .with-digit .ensures)) ∙ (sym (c .before .is-code .ensures) ∙ c .if2 .taken) in
-    rw (sym (if1 .before .is-digit .ensures) ∙ if1 .if1 .taken, e) refl
+    sym (first-digit _ _ true (sym (if1 .before .is-digit .ensures) ∙ if1 .if1 .taken)
+    (code-asked (c .before .before .with-digit .ensures) (c .before .is-code .ensures) (c .if2 .taken)))
 
 returns-2 : tie.Need-returns-2
-unfolding firstMove
 returns-2 c a =
     let if1 = c .before .before .before in
-    let e : codeTest (withDigit 0 _) ≡ false =
-    sym (ap codeTest (c .before .before .with-digit .ensures)) ∙ (sym (c .before .is-code .ensures) ∙ c .if2 .left) in
-    rw (sym (if1 .before .is-digit .ensures) ∙ if1 .if1 .taken, e) refl
+    sym (first-digit _ _ false (sym (if1 .before .is-digit .ensures) ∙ if1 .if1 .taken)
+    (code-asked (c .before .before .with-digit .ensures) (c .before .is-code .ensures) (c .if2 .left)))
 
 returns-3 : tie.Need-returns-3
 unfolding firstMove depthLimit

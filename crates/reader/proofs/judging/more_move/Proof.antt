@@ -1,33 +1,30 @@
 -- `reader::judging::more_move` meets its contract. Assumes nothing.
-use mathlib.Core.Path.{refl, sym, ap, _∙_}
+use mathlib.Core.Path.{sym, _∙_}
+use mathlib.Core.Bool.{true, false}
+use native.Mathlib.Omega.{arith}
 use borrow.Author.Needs.{needs}
-use Rattle.meaning.specs.Limits.{codeTest}
 use Rattle.meaning.specs.Judge.{moreMove}
-use Rattle.meaning.proofs.reader.Moves.{digit-range}
+use Rattle.meaning.proofs.reader.Moves.{digit-range, more-digit}
+use Rattle.reader.proofs.Ranges.{code-asked}
 use Rattle.reader.proofs.judging.more_move.Statement.{statement}
 use Rattle.reader.proofs.judging.more_move.Tie as tie
 
 with-digit-requires : tie.Need-with-digit-requires
 with-digit-requires c κs =
-    let i = digit-range _ (sym (c .before .is-digit .ensures) ∙ c .if1 .taken) in (c .before .before .pre, i .0, i .1)
+    let i = digit-range _ (sym (c .before .is-digit .ensures) ∙ c .if1 .taken) in
+    (omega (arith, c .before .before .pre), i .0, i .1)
 
 returns : tie.Need-returns
-unfolding moreMove
 returns c =
     let if1 = c .before .before .before in
-    rw (
-      sym (if1 .before .is-digit .ensures) ∙ if1 .if1 .taken,
-      sym (ap codeTest (c .before .before .with-digit .ensures)) ∙ (sym (c .before .is-code .ensures) ∙ c .if2 .taken),
-    ) refl
+    sym (more-digit _ _ _ true (sym (if1 .before .is-digit .ensures) ∙ if1 .if1 .taken)
+    (code-asked (c .before .before .with-digit .ensures) (c .before .is-code .ensures) (c .if2 .taken)))
 
 returns-2 : tie.Need-returns-2
-unfolding moreMove
 returns-2 c =
     let if1 = c .before .before .before in
-    rw (
-      sym (if1 .before .is-digit .ensures) ∙ if1 .if1 .taken,
-      sym (ap codeTest (c .before .before .with-digit .ensures)) ∙ (sym (c .before .is-code .ensures) ∙ c .if2 .left),
-    ) refl
+    sym (more-digit _ _ _ false (sym (if1 .before .is-digit .ensures) ∙ if1 .if1 .taken)
+    (code-asked (c .before .before .with-digit .ensures) (c .before .is-code .ensures) (c .if2 .left)))
 
 returns-3 : tie.Need-returns-3
 unfolding moreMove
