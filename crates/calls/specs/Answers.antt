@@ -5,7 +5,7 @@ use mathlib.Core.Path.{_≡_}
 use mathlib.Core.List.{List}
 use Prim.Native.Nat.{ℕ}
 use Rattle.meaning.specs.Limits.{firstHeapCell}
-use Rattle.meaning.specs.Verdicts.{Done, done, refused, only}
+use Rattle.meaning.specs.Verdicts.{Done, done, refused, only, valued}
 use Rattle.meaning.specs.Batch.{Outcome, asLent, batch}
 use Rattle.store.specs.Answers.{refusalOf}
 use Rattle.calls.specs.declared.answer.Stepped.{Stepped}
@@ -14,7 +14,7 @@ use Rattle.calls.specs.declared.Ran.the-variants as ran
 
 -- a call's status, value and `top`, with the words that it leaves
 abbrev pub steppedIn : Stepped → List ℕ → Done
-steppedIn r ws = record { verdict = record { status = r .status; value = r .value }; words = ws; top = r .top }
+steppedIn r ws = record { verdict = valued (r .status) (r .value); words = ws; top = r .top }
 
 -- a call's answer, whatever words it leaves: done, with a value; or refused, with a status
 abbrev pub IsDone : Stepped → ℕ → ℕ → Type 0

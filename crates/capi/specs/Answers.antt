@@ -5,7 +5,7 @@ use mathlib.Core.List.{List}
 use Prim.Native.Nat.{ℕ}
 use lib.ListN.{length}
 use Rattle.meaning.specs.Limits.{firstHeapCell, edition}
-use Rattle.meaning.specs.Verdicts.{Verdict, Done}
+use Rattle.meaning.specs.Verdicts.{Verdict, valued, Done}
 use Rattle.meaning.specs.Check.{check, collectIn}
 use Rattle.meaning.specs.Fresh.{freshIn}
 use Rattle.meaning.specs.Batch.{Outcome, batch}
@@ -22,7 +22,7 @@ use Rattle.capi.specs.declared.Text.{Text}
 
 -- a refusal's status and value
 abbrev pub refusalIs : Numbers → Verdict
-refusalIs r = record { status = r .status; value = r .value }
+refusalIs r = valued (r .status) (r .value)
 
 -- a status, a value and `top`
 abbrev pub reply : ℕ → ℕ → ℕ → Reply
@@ -30,7 +30,7 @@ reply s v t = record { status = s; value = v; top = t }
 
 -- a reply's status and value
 abbrev pub verdictIs : Reply → Verdict
-verdictIs r = record { status = r .status; value = r .value }
+verdictIs r = valued (r .status) (r .value)
 
 -- with the words of the store
 abbrev pub doneIs : Reply → List ℕ → Done
@@ -42,17 +42,17 @@ outcomeIs r ws out = record { verdict = verdictIs r; words = ws; top = r .top; a
 
 -- what printing gives, with the bytes of the text space
 abbrev pub printedIs : Text → List ℕ → text.Printed
-printedIs r out = record { verdict = record { status = r .status; value = r .value }; size = r .length; space = out }
+printedIs r out = record { verdict = valued (r .status) (r .value); size = r .length; space = out }
 
 -- what typing gives, with the words of the store
 abbrev pub typedIs : Entry → List ℕ → Done
-typedIs r ws = record { verdict = record { status = r .status; value = r .value }; words = ws; top = r .top }
+typedIs r ws = record { verdict = valued (r .status) (r .value); words = ws; top = r .top }
 
 -- what saving gives, with the words of the store and the bytes of the space
 abbrev pub savedIs : Filed → List ℕ → List ℕ → file.Saved
 savedIs r ws out =
     record {
-      verdict = record { status = r .status; value = r .value };
+      verdict = valued (r .status) (r .value);
       words = ws;
       top = r .top;
       size = r .length;

@@ -19,7 +19,7 @@ use Rattle.bytes.proofs.Filling.{padded-at}
 use Rattle.meaning.specs.Limits.{limit}
 use Rattle.meaning.specs.Sound.{at, Sound, capacity}
 use Rattle.meaning.specs.Reach.{heldBelow}
-use Rattle.meaning.specs.Verdicts.{Verdict, only}
+use Rattle.meaning.specs.Verdicts.{Verdict, only, damagedAt}
 use Rattle.meaning.specs.Check.{cellTest, damaged, lengthTest, topTest, verdictAt, check}
 use Rattle.meaning.specs.File.{firstOf, distanceFor, fileCells, fileCapacity, fileEdition, body, cellsIn, image}
 use Rattle.meaning.specs.File.{distanceTest, capacityTest, checkStore, checkAs}
@@ -129,7 +129,7 @@ module _ (f : ℕ) (bs : List ℕ) (a : Framed f bs) where
       go c (inr l) = free-right c l
 
   checked-damaged : (d : ℕ) → damaged f ws (f + n) 0 (f + n) ≡ d → d < f + n
-      → check f ws (f + n) ≡ record { status = 3; value = d }
+      → check f ws (f + n) ≡ damagedAt d
   checked-damaged d e h =
       let k : capacity ws ≡ f + n + (fileCapacity bs - (f + n)) = omega (arith, cells, a .enough) in
       let early : damaged f ws (f + n) 0 (capacity ws) ≡ d =

@@ -4,7 +4,7 @@ use mathlib.Core.List.{List}
 use Prim.Native.Nat.{ℕ}
 use lib.ListN.{length}
 use Rattle.meaning.specs.Limits.{firstHeapCell, edition}
-use Rattle.meaning.specs.Verdicts.{Verdict, only, Done, ifSound}
+use Rattle.meaning.specs.Verdicts.{Verdict, only, damagedAt, Done, ifSound}
 use Rattle.meaning.specs.File as file
 use Rattle.store.specs.Answers.{refusalOf}
 use Rattle.file.specs.declared.Loaded.{Loaded}
@@ -21,7 +21,7 @@ verdictOf loaded.BadEdition = only 31
 verdictOf loaded.BadDistance = only 32
 verdictOf loaded.BadCapacity = only 33
 verdictOf loaded.WrongSlice = only 35
-verdictOf (loaded.Damaged c) = record { status = 3; value = c }
+verdictOf (loaded.Damaged c) = damagedAt c
 verdictOf loaded.NotCollected = only 34
 
 -- `top` of the store, or 0

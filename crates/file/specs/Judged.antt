@@ -7,7 +7,7 @@ use Prim.Native.Nat.{ℕ, _+_, _^_, _≤_, _<_}
 use lib.Dec.{ltb}
 use Rattle.meaning.specs.Limits.{firstHeapCell}
 use Rattle.meaning.specs.Sound.{Cell, at}
-use Rattle.meaning.specs.Verdicts.{Verdict, only}
+use Rattle.meaning.specs.Verdicts.{Verdict, only, damagedAt}
 use Rattle.meaning.specs.Check.{damaged}
 use Rattle.meaning.specs.File.{firstOf, fileDistance, fileCells, fileCapacity, fileEdition}
 use Rattle.file.specs.Windows.{heldFrom}
@@ -28,7 +28,7 @@ pub record TrailerOf (bs : List ℕ) (t : Trailer) : Type 0 where
 unfoldable pub foundIn : ℕ → ℕ → List ℕ → Verdict
 foundIn f n ws =
     let c = damaged f ws (f + n) 0 (f + n) in
-    cond (ltb c (f + n)) (record { status = 3; value = c }) (cond (heldFrom (at ws) (f + n) f n) (only 0) (only 34))
+    cond (ltb c (f + n)) (damagedAt c) (cond (heldFrom (at ws) (f + n) f n) (only 0) (only 34))
 
 -- some cells from w on, of the m cells k, and whether each of them is held
 pub record PartOf (k : ℕ → Cell) (m w : ℕ) (p : Part) : Type 0 where

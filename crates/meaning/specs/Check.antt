@@ -11,7 +11,7 @@ use Rattle.meaning.specs.Limits.{limit, codeTest}
 use Rattle.meaning.specs.Sound.{capacity}
 use Rattle.meaning.specs.Reach.{live}
 use Rattle.meaning.specs.Collected.{collected, collectedTop}
-use Rattle.meaning.specs.Verdicts.{Verdict, only, Done, done, refused, ifSound}
+use Rattle.meaning.specs.Verdicts.{Verdict, only, damagedAt, Done, done, refused, ifSound}
 
 -- the words a and b are those of a bracket: empty, or with ends from F on and below `lim`
 unfoldable pub bracketTest : ℕ → ℕ → ℕ → ℕ → Bool
@@ -46,7 +46,7 @@ topTest F cells top = cond (ltb top F) false (leb top cells)
 
 -- 3 with the damaged cell, or 0 where c is past the last cell
 unfoldable pub verdictAt : List ℕ → ℕ → Verdict
-verdictAt ws c = cond (ltb c (capacity ws)) (record { status = 3; value = c }) (only 0)
+verdictAt ws c = cond (ltb c (capacity ws)) (damagedAt c) (only 0)
 
 unfoldable pub check : ℕ → List ℕ → ℕ → Verdict
 check F ws top =

@@ -5,7 +5,7 @@ use mathlib.Core.List.{List, [], _∷_}
 use Prim.Native.Nat.{ℕ, suc, _-_}
 use lib.Dec.{eqb}
 use Rattle.meaning.specs.Expr.{Expr, nothing, symbol, parens, append}
-use Rattle.meaning.specs.Verdicts.{Verdict}
+use Rattle.meaning.specs.Verdicts.{Verdict, valued}
 use Rattle.meaning.specs.Judge.{Stand, begun, spaced, number, closed, stopped}
 use Rattle.meaning.specs.Judge.{Move, stops, begins, grows, opens, closes, parts, judge}
 
@@ -60,7 +60,7 @@ stopStatus closed = 23
 stopStatus (stopped s) = s
 
 unfoldable pub stopVerdict : Reader → Verdict
-stopVerdict r = record { status = stopStatus (r .stand); value = r .offset }
+stopVerdict r = valued (stopStatus (r .stand)) (r .offset)
 
 -- ---- what it denotes: the reader, with the expressions that stand open
 

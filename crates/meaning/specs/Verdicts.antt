@@ -8,9 +8,16 @@ pub record Verdict : Type 0 where
   pub status : ℕ
   pub value : ℕ
 
--- a status with value 0
+-- a status with a value, or with value 0
+abbrev pub valued : ℕ → ℕ → Verdict
+valued s v = record { status = s; value = v }
+
 abbrev pub only : ℕ → Verdict
-only s = record { status = s; value = 0 }
+only s = valued s 0
+
+-- 3 with the damaged cell
+abbrev pub damagedAt : ℕ → Verdict
+damagedAt c = valued 3 c
 
 -- a verdict with the store and `top` as they are left
 pub record Done : Type 0 where
@@ -20,7 +27,7 @@ pub record Done : Type 0 where
 
 -- done, with a value
 abbrev pub done : List ℕ → ℕ → ℕ → Done
-done ws top v = record { verdict = record { status = 0; value = v }; words = ws; top = top }
+done ws top v = record { verdict = valued 0 v; words = ws; top = top }
 
 -- refused, with the store and `top` that stay
 abbrev pub refused : List ℕ → ℕ → Verdict → Done

@@ -15,7 +15,7 @@ use lib.ListN.{length, getD, replicate}
 use Rattle.meaning.specs.Limits.{firstHeapCell, limit}
 use Rattle.meaning.specs.Sound.{at, capacity, CellRule, Sound}
 use Rattle.meaning.specs.Reach.{Reached, live}
-use Rattle.meaning.specs.Verdicts.{Verdict, only, Done, done, refused}
+use Rattle.meaning.specs.Verdicts.{Verdict, only, damagedAt, Done, done, refused}
 use Rattle.meaning.specs.File.{firstOf, fileOf, fileDistance, fileCells, fileCapacity, fileEdition, body, loadIn, Saved}
 use Rattle.meaning.specs.File.{saveIn}
 use Rattle.promises.specs.Table.{OneOf, Not, Judged}
@@ -93,7 +93,7 @@ pub data LoadedAs (f : ℕ) (bs ws : List ℕ) : Done → Type 0 where
       → LoadedAs f bs ws (refused ws 0 (only 35))
   damaged : Passed f bs ws → (v : List ℕ) → StoreIn f bs v → (c : ℕ) → c < capacity v
       → Not (CellRule f v (f + fileCells bs) c) → ((x : ℕ) → x < c → CellRule f v (f + fileCells bs) x)
-      → LoadedAs f bs ws (refused ws 0 (record { status = 3; value = c }))
+      → LoadedAs f bs ws (refused ws 0 (damagedAt c))
   notCollected : Passed f bs ws → (v : List ℕ) → StoreIn f bs v → Sound f v (f + fileCells bs)
       → Not (AllReached f v (f + fileCells bs)) → LoadedAs f bs ws (refused ws 0 (only 34))
   loaded : Passed f bs ws → (v : List ℕ) → StoreIn f bs v → Sound f v (f + fileCells bs)

@@ -18,7 +18,7 @@ use Rattle.bytes.specs.Decimal.{decimal}
 use Rattle.meaning.specs.Limits.{depthLimit}
 use Rattle.meaning.specs.Expr.{Expr}
 use Rattle.meaning.specs.Sound.{IsCode}
-use Rattle.meaning.specs.Verdicts.{Verdict}
+use Rattle.meaning.specs.Verdicts.{Verdict, valued}
 use Rattle.meaning.specs.Text.{text, Readable}
 use Rattle.meaning.specs.Reader.{isWhole, stopVerdict, expression, reads, blank}
 use Rattle.promises.specs.Table.{Not}
@@ -79,9 +79,9 @@ pub data StopsWith (bs : List ℕ) (k : ℕ) : ℕ → Type 0 where
 
 -- 23 at the length where the text ends too soon; else the first byte with which no text begins so, and its status
 pub data RefusedText (bs : List ℕ) : Verdict → Type 0 where
-  endsTooSoon : BeginsText bs → Not (AreText bs) → RefusedText bs (record { status = 23; value = length bs })
+  endsTooSoon : BeginsText bs → Not (AreText bs) → RefusedText bs (valued 23 (length bs))
   stopsAt : (k s : ℕ) → k < length bs → BeginsText (take k bs) → Not (BeginsText (take (suc k) bs)) → StopsWith bs k s
-      → RefusedText bs (record { status = s; value = k })
+      → RefusedText bs (valued s k)
 
 abbrev pub StopsLeftmost : Type 0
 StopsLeftmost =

@@ -2,7 +2,7 @@
 -- Assumes nothing.
 use mathlib.Core.List.{List, [], _∷_}
 use Prim.Native.Nat.{ℕ}
-use Rattle.meaning.specs.Verdicts.{Verdict, Done}
+use Rattle.meaning.specs.Verdicts.{Verdict, valued, Done}
 use Rattle.meaning.specs.Call.{step}
 use Rattle.meaning.specs.Typed.{typeIn}
 
@@ -32,4 +32,4 @@ inWords (v ∷ vs) = v .status ∷ v .value ∷ inWords vs
 abbrev pub verdicts : List ℕ → List Verdict
 verdicts [] = []
 verdicts (s ∷ []) = []
-verdicts (s ∷ v ∷ ws) = record { status = s; value = v } ∷ verdicts ws
+verdicts (s ∷ v ∷ ws) = valued s v ∷ verdicts ws

@@ -11,7 +11,7 @@ use Rattle.meaning.specs.Sound.{empty, ends, at, capacity, Allowed, CellRule, S
 use Rattle.meaning.specs.Meaning.{meaning}
 use Rattle.meaning.specs.Reach.{live}
 use Rattle.meaning.specs.Collected.{collected}
-use Rattle.meaning.specs.Verdicts.{Verdict, only, Done}
+use Rattle.meaning.specs.Verdicts.{Verdict, only, damagedAt, Done}
 use Rattle.meaning.specs.Check.{check, collectIn}
 use Rattle.meaning.specs.Fresh.{fresh, freshIn}
 use Rattle.meaning.specs.Look.{look}
@@ -36,7 +36,7 @@ pub data Judged (F : ℕ) (ws : List ℕ) (top : ℕ) : Verdict → Type 0 where
   badLength : Not (Allowed F (length ws)) → Judged F ws top (only 1)
   badTop : Allowed F (length ws) → Not (TopRule F ws top) → Judged F ws top (only 2)
   badCell : (c : ℕ) → Allowed F (length ws) → TopRule F ws top → c < capacity ws → Not (CellRule F ws top c)
-      → ((x : ℕ) → x < c → CellRule F ws top x) → Judged F ws top (record { status = 3; value = c })
+      → ((x : ℕ) → x < c → CellRule F ws top x) → Judged F ws top (damagedAt c)
   isSound : Sound F ws top → Judged F ws top (only 0)
 
 pub record CheckTable (F : ℕ) (ws : List ℕ) (top : ℕ) (v : Verdict) : Type 0 where

@@ -3,7 +3,7 @@ use mathlib.Core.Path.{_≡_}
 use mathlib.Core.Bool.{Bool, true, false, _&&_}
 use Prim.Native.Nat.{ℕ, suc, _^_, _≤_, _<_}
 use lib.Dec.{eqb}
-use Rattle.meaning.specs.Verdicts.{Verdict}
+use Rattle.meaning.specs.Verdicts.{Verdict, valued}
 use Rattle.meaning.specs.Judge as said
 use Rattle.meaning.specs.Judge.{begun, spaced, number, closed, stopped, stops, begins, grows, opens, closes, parts}
 use Rattle.meaning.specs.Judge.{withDigit}
@@ -96,7 +96,7 @@ CanGo m b r = CanRead r × Suits m b (r .depth)
 
 -- a refusal with its offset
 abbrev pub refusedAt : Fault → ℕ → Verdict
-refusedAt f at = record { status = faultOf f; value = at }
+refusedAt f at = valued (faultOf f) at
 
 -- the end of the text: the number of terms, or the refusal with its offset
 abbrev pub Finds : said-reader.Reader → Found → Type 0

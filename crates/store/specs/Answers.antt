@@ -6,7 +6,7 @@ use Prim.Native.Nat.{ℕ, _+_, _*_, _≤_}
 use lib.ListN.{length}
 use denote.Ref.{RefT}
 use Rattle.meaning.specs.Limits.{firstHeapCell}
-use Rattle.meaning.specs.Verdicts.{Verdict, only, Done, done, refused}
+use Rattle.meaning.specs.Verdicts.{Verdict, only, damagedAt, Done, done, refused}
 use Rattle.meaning.specs.Check.{check}
 use Rattle.meaning.specs.Fresh.{freshIn}
 use Rattle.meaning.specs.Look.{Span, lookSpan, look}
@@ -22,7 +22,7 @@ use Rattle.store.specs.declared.Span as span
 abbrev pub refusalOf : Unsound → Verdict
 refusalOf unsound.BadLength = only 1
 refusalOf unsound.BadTop = only 2
-refusalOf (unsound.Damaged c) = record { status = 3; value = c }
+refusalOf (unsound.Damaged c) = damagedAt c
 
 -- the check: 0, or why the store is unsound
 abbrev pub verdictOf : Checked → Verdict

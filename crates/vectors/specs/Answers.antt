@@ -2,7 +2,7 @@
 use mathlib.Core.Path.{_≡_}
 use mathlib.Core.List.{List}
 use Prim.Native.Nat.{ℕ}
-use Rattle.meaning.specs.Verdicts.{Verdict}
+use Rattle.meaning.specs.Verdicts.{Verdict, valued}
 use Rattle.store.specs.declared.Made.{Made}
 use Rattle.store.specs.Answers.{madeIn}
 use Rattle.calls.specs.declared.Ran.{Ran}
@@ -11,7 +11,7 @@ use Rattle.vectors.specs.declared.answers.Answer.{Answer}
 
 -- an answer's status and value
 abbrev pub verdictIs : Answer → Verdict
-verdictIs r = record { status = r .status; value = r .value }
+verdictIs r = valued (r .status) (r .value)
 
 -- a fresh store's answer, whatever words are left
 abbrev pub IsMade : Answer → Made → Type 0

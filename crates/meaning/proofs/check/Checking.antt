@@ -25,7 +25,7 @@ use Rattle.words.specs.Second.{bracketTo}
 use Rattle.meaning.specs.Limits.{codeTest, limit}
 use Rattle.meaning.specs.Sound.{at, IsBracket, isEmpty, isFull, IsTerm, isSymbol, isBracket, capacity, Allowed}
 use Rattle.meaning.specs.Sound.{CellRule, Sound}
-use Rattle.meaning.specs.Verdicts.{Verdict, only, onZero}
+use Rattle.meaning.specs.Verdicts.{Verdict, only, damagedAt, onZero}
 use Rattle.meaning.specs.Check.{topTest, bracketTest, termTest, cellTest, damaged, lengthTest, verdictAt, check}
 use Rattle.meaning.proofs.Lists.{lt-or-ge}
 
@@ -218,7 +218,7 @@ module _ (F : ℕ) (ws : List ℕ) (top : ℕ) where
     top-bad : lengthTest F (length ws) ≡ true → topTest F (capacity ws) top ≡ false → CheckCases (only 2)
     cell-bad : (c : ℕ) → lengthTest F (length ws) ≡ true → topTest F (capacity ws) top ≡ true → c < capacity ws
         → test c ≡ false
-        → ((x : ℕ) → x < c → test x ≡ true) → CheckCases (record { status = 3; value = c })
+        → ((x : ℕ) → x < c → test x ≡ true) → CheckCases (damagedAt c)
     sound : Sound F ws top → CheckCases (only 0)
 
   pub check-cases : CheckCases (check F ws top)
@@ -229,7 +229,7 @@ module _ (F : ℕ) (ws : List ℕ) (top : ℕ) where
       go : (t u v : Bool) → lengthTest F (length ws) ≡ t → topTest F (capacity ws) top ≡ u
           → ltb (damaged F ws top 0 (capacity ws)) (capacity ws) ≡ v
           → CheckCases (cond t (cond u (cond {A = Verdict} v
-          (record { status = 3; value = damaged F ws top 0 (capacity ws) }) (only 0)) (only 2)) (only 1))
+          (damagedAt (damaged F ws top 0 (capacity ws))) (only 0)) (only 2)) (only 1))
       go false u v a b c = length-bad a
       go true false v a b c = top-bad a b
       go true true true a b c =

@@ -16,7 +16,7 @@ use lib.ListN.{length}
 use borrow.Author.Tests.{lt-ltb, le-ltb}
 use Rattle.words.specs.Cell.{firstWord, secondWord}
 use Rattle.meaning.specs.Sound.{capacity}
-use Rattle.meaning.specs.Verdicts.{only}
+use Rattle.meaning.specs.Verdicts.{only, damagedAt}
 use Rattle.meaning.specs.Check.{cellTest, damaged, lengthTest, topTest, verdictAt, check}
 use Rattle.meaning.proofs.sound.Cells.{limit-fits}
 use Rattle.meaning.proofs.check.Checking.{length-yes, top-yes, tests-sound, sound-check}
@@ -72,7 +72,7 @@ module _ (F : ℕ) (ws : List ℕ) (top : ℕ) where
     pub finish : cells ≤ c → damaged F ws top c (cells - c) ≡ c
     finish h = let k : cells - c ≡ 0 = omega arith in rw k refl
 
-pub verdict-damaged : (ws : List ℕ) (c : ℕ) → c < capacity ws → verdictAt ws c ≡ record { status = 3; value = c }
+pub verdict-damaged : (ws : List ℕ) (c : ℕ) → c < capacity ws → verdictAt ws c ≡ damagedAt c
 unfolding verdictAt
 verdict-damaged ws c h = rw (lt-ltb c (capacity ws) h, verdictAt) refl
 

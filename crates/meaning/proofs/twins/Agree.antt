@@ -18,7 +18,7 @@ use borrow.Author.Tests.{ltb-true, ltb-false, lt-ltb, le-ltb}
 use Rattle.meaning.specs.Sound.{Cell, code, empty, ends, at, Sound, size}
 use Rattle.meaning.specs.Reach.{reached, live}
 use Rattle.meaning.specs.Collected.{mapEnds, collected, collectedTop, new}
-use Rattle.meaning.specs.Verdicts.{Verdict, Done, done, refused, only}
+use Rattle.meaning.specs.Verdicts.{Verdict, Done, done, refused, only, valued}
 use Rattle.meaning.specs.Actions.{put, share, head, rest, openTerm, openFirst, codeTerm, codeFirst}
 use Rattle.meaning.proofs.Lists.{In}
 use Rattle.meaning.proofs.sound.Cells.{good, TermIn, BracketIn, term-of-bracket}
@@ -53,7 +53,7 @@ module _ (F : ℕ) (ws : List ℕ) (top : ℕ) (p : 0 < F) (s : Sound F ws top) 
   done-both : (v v′ : ℕ) → v ≡ v′ → Agree F (done ws top v) (done ws′ top′ v′)
   done-both v v′ e =
       record {
-        verdict = ap {B = Verdict} (λ x. record { status = 0; value = x }) e;
+        verdict = ap (valued 0) e;
         same = sym
             (canon-collected F ws top p s);
       }

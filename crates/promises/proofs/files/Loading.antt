@@ -16,7 +16,7 @@ use Rattle.bytes.specs.Little.{wordsOf}
 use Rattle.bytes.proofs.Filling.{padded-at}
 use Rattle.meaning.specs.Sound.{Allowed, Sound}
 use Rattle.meaning.specs.Reach.{live}
-use Rattle.meaning.specs.Verdicts.{Verdict, only, Done, done, refused}
+use Rattle.meaning.specs.Verdicts.{Verdict, only, damagedAt, Done, done, refused}
 use Rattle.meaning.specs.Check.{check}
 use Rattle.meaning.specs.File.{firstOf, fileCells, fileCapacity, fileEdition, body, cellsIn, image, distanceTest}
 use Rattle.meaning.specs.File.{capacityTest, checkStore, checkAs, checkFile, loadIn}
@@ -228,11 +228,11 @@ module _ (bs ws : List ℕ) where
       (λ q. omega arith)
   loaded-once r (damaged p w s c h n b) =
       let e = same-store p w s in
-      let j : Judged f v top (record { status = 3; value = c }) =
+      let j : Judged f v top (damagedAt c) =
       badCell c (allowed p) (top-right p) (rw e at h) (rw e at n) (rw e at b) in
-      load-refused (record { status = 3; value = c })
-      (store-unsound p (record { status = 3; value = c })
-      (judged-once f v top (check f v top) (record { status = 3; value = c }) (judged f v top) j) (λ q. omega arith))
+      load-refused (damagedAt c)
+      (store-unsound p (damagedAt c)
+      (judged-once f v top (check f v top) (damagedAt c) (judged f v top) j) (λ q. omega arith))
       (λ q. omega arith)
   loaded-once r (notCollected p w s k z) =
       let e = same-store p w s in

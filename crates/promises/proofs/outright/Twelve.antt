@@ -18,7 +18,7 @@ use Rattle.meaning.specs.Sound.{IsCode, capacity, Sound}
 use Rattle.meaning.specs.Meaning.{meaning}
 use Rattle.meaning.specs.Reach.{live}
 use Rattle.meaning.specs.Collected.{collected}
-use Rattle.meaning.specs.Verdicts.{Done, done}
+use Rattle.meaning.specs.Verdicts.{refused, valued, Done, done}
 use Rattle.meaning.specs.Operands.{ops, opAt, uses, wrong11, wrong12, wrong13, fault}
 use Rattle.meaning.specs.Call.{joinNeed, soughtBy, step}
 use Rattle.meaning.specs.Effect.{effect, sets, becomes, liveForRoom, callStatus}
@@ -66,7 +66,7 @@ module _ (F : ℕ) where
 
 by-parts : (x : Done) (w : List ℕ) (u c v : ℕ) → x .verdict .status ≡ c → x .verdict .value ≡ v → x .words ≡ w
     → x .top ≡ u
-    → x ≡ record { verdict = record { status = c; value = v }; words = w; top = u }
+    → x ≡ refused w u (valued c v)
 by-parts x w u c v e f g h = rw (← e, ← f, ← g, ← h) refl
 
 module _ (F : ℕ) (p : 0 < F) (ws : List ℕ) (top : ℕ) (s : Sound F ws top) where

@@ -12,7 +12,7 @@ use Prim.Native.Nat.{ℕ, suc, _≤_, _<_}
 use native.Mathlib.Omega.{arith}
 use lib.ListN.{length, take, drop, take-append-drop}
 use lib.Seq.{take-take}
-use Rattle.meaning.specs.Verdicts.{Verdict}
+use Rattle.meaning.specs.Verdicts.{Verdict, valued}
 use Rattle.meaning.specs.Judge.{Stand, begun, spaced, number, closed, stopped}
 use Rattle.meaning.specs.Reader.{Reader, advances, atStart, isWhole, stopStatus, stopVerdict, reads, blank}
 use Rattle.meaning.proofs.Lists.{lt-or-ge}
@@ -48,9 +48,6 @@ shorter n p b =
 
 -- ---- a text that is refused
 
-abbrev verdict : ℕ → ℕ → Verdict
-verdict s k = record { status = s; value = k }
-
 going-status : (s : Stand) → Going s → stopStatus s ≡ 23
 going-status begun g = refl
 going-status spaced g = refl
@@ -63,8 +60,8 @@ module _ (bs : List ℕ) where
       → RefusedText bs (stopVerdict (advances atStart bs))
   unfolding stopVerdict atStart
   too-soon w h =
-      let e : stopVerdict (advances atStart bs) ≡ verdict 23 (length bs) =
-      ap₂ verdict (going-status (advances atStart bs .stand) (h .going)) (h .offset ∙ omega arith) in
+      let e : stopVerdict (advances atStart bs) ≡ valued 23 (length bs) =
+      ap₂ valued (going-status (advances atStart bs .stand) (h .going)) (h .offset ∙ omega arith) in
       subst (λ (v : Verdict). RefusedText bs v) (sym e)
       (endsTooSoon (begins-of bs (begins-text bs (h .going)))
       (λ t. false≢true (sym w ∙ subst (λ (x : List ℕ). isWhole (reads blank x .place) ≡ true) (t .2)
@@ -78,7 +75,7 @@ module _ (bs : List ℕ) where
       ap (λ (x : List ℕ). advances atStart x .stand) (sym t) ∙ h .stand (drop (suc k) bs) in
       let n : advances atStart bs .offset ≡ k =
       ap (λ (x : List ℕ). advances atStart x .offset) (sym t) ∙ (h .offset (drop (suc k) bs) ∙ omega arith) in
-      subst (λ (v : Verdict). RefusedText bs v) (sym (ap₂ verdict (ap stopStatus a) n))
+      subst (λ (v : Verdict). RefusedText bs v) (sym (ap₂ valued (ap stopStatus a) n))
       (stopsAt k s (h .inside) (begins-of (take k bs) (begins-text (take k bs) (h .going)))
       (λ b. no-text bs k s h (completed-of (take (suc k) bs) b)) (stops-with bs k s h))
 
@@ -127,5 +124,5 @@ one-refusal bs v w (endsTooSoon b n) (stopsAt k s l p m h) = absurd (m (shorter 
 one-refusal bs v w (stopsAt k s l p m h) (endsTooSoon b n) = absurd (m (shorter (suc k) bs b))
 one-refusal bs v w (stopsAt k s l p m h) (stopsAt k′ s′ l′ p′ m′ h′) =
     let e : k ≡ k′ = omega (arith, not-before bs k k′ m p′, not-before bs k′ k m′ p) in
-    ap₂ verdict
+    ap₂ valued
     (status-once bs k′ s s′ (subst (λ (i : ℕ). StopsWith bs i s) e h) h′) e

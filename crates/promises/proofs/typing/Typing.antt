@@ -20,7 +20,7 @@ use Rattle.meaning.specs.Sound.{at, capacity, Sound}
 use Rattle.meaning.specs.Meaning.{meaning}
 use Rattle.meaning.specs.Reach.{live}
 use Rattle.meaning.specs.Collected.{collected}
-use Rattle.meaning.specs.Verdicts.{Verdict, Done, refused, only}
+use Rattle.meaning.specs.Verdicts.{Verdict, Done, refused, only, valued}
 use Rattle.meaning.specs.Lay.{allTerms, lastBelow, laid, puts, newCells}
 use Rattle.meaning.specs.Call.{sought, lacks, carryOut}
 use Rattle.meaning.specs.Effect.{Effect, typing, after, answer}
@@ -151,7 +151,7 @@ module _ (F : ℕ) (ws : List ℕ) (top : ℕ) (s : Sound F ws top) (d : ℕ) (b
     says : TypedAs F ws top d bs (r .verdict)
     says =
         subst (TypedAs F ws top d bs)
-        (sym (ap₂ {C = Verdict} (λ x y. record { status = x; value = y }) by-room
+        (sym (ap₂ valued by-room
         (m .value ∙ no-value (r .verdict .status)))) (go (ltb (capacity ws) (F + live F v top + n)) refl)
       where
         go : (t : Bool) → ltb (capacity ws) (F + live F v top + n) ≡ t → TypedAs F ws top d bs (only (cond t 16 0))

@@ -17,7 +17,7 @@ use lib.Seq.{ext-getD}
 use Rattle.meaning.specs.Sound.{Cell, code, empty, ends, at, capacity, Allowed, CellRule, Sound}
 use Rattle.meaning.specs.Reach.{live}
 use Rattle.meaning.specs.Collected.{mapEnds, new}
-use Rattle.meaning.specs.Verdicts.{Verdict, only, Done}
+use Rattle.meaning.specs.Verdicts.{Verdict, only, damagedAt, valued, Done}
 use Rattle.meaning.specs.Check.{lengthTest, check}
 use Rattle.meaning.specs.Effect.{effect}
 use Rattle.meaning.specs.Batch.{Outcome, asLent}
@@ -57,7 +57,7 @@ module _ (F : ℕ) (ws : List ℕ) (top : ℕ) where
   judged-once v w (badCell c l t h n b) (badLength k) = absurd (k l)
   judged-once v w (badCell c l t h n b) (badTop m k) = absurd (k t)
   judged-once v w (badCell c l t h n b) (badCell x m u g k d) =
-      ap {B = Verdict} (λ z. record { status = 3; value = z }) (lowest (lt-or-ge c x) (lt-or-ge x c))
+      ap damagedAt (lowest (lt-or-ge c x) (lt-or-ge x c))
     where
       lowest : (c < x) ⊎ (x ≤ c) → (x < c) ⊎ (c ≤ x) → c ≡ x
       lowest (inl y) z = absurd (n (d c y))
@@ -75,7 +75,7 @@ one-check F ws top v w a b = judged-once F ws top v w (a .judged) (b .judged)
 -- ---- by parts
 
 verdict-parts : (v w : Verdict) → v .status ≡ w .status → v .value ≡ w .value → v ≡ w
-verdict-parts v w e f = ap₂ {C = Verdict} (λ x y. record { status = x; value = y }) e f
+verdict-parts v w e f = ap₂ valued e f
 
 pub done-parts : (r q : Done) → r .verdict ≡ q .verdict → r .words ≡ q .words → r .top ≡ q .top → r ≡ q
 done-parts r q e f g = rw (e, f, g) refl
