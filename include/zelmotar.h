@@ -60,9 +60,9 @@ extern "C" {
 
 /* The version of this file and of the library that it goes with: major, minor, patch. */
 #define ZELMOTAR_VERSION_MAJOR 0
-#define ZELMOTAR_VERSION_MINOR 1
+#define ZELMOTAR_VERSION_MINOR 2
 #define ZELMOTAR_VERSION_PATCH 0
-#define ZELMOTAR_VERSION "0.1.0"
+#define ZELMOTAR_VERSION "0.2.0"
 
 /* Put before a function whose answer must be looked at: compilers that can warn of an answer that is dropped
  * do so. Define it as nothing to have no such warnings. */
@@ -128,10 +128,12 @@ extern "C" {
  * raises top: so many bytes of space are always enough. */
 #define ZELMOTAR_FILE_BYTES(top) (8 * (size_t)(top) + ZELMOTAR_TRAILER_BYTES)
 
-/* What a function answers. Status and value are named with each function; top is the end of the occupied
- * cells afterwards, in cells, and goes into the next call on the same store. */
+/* What a function answers. Status and value are named with each function. rule says what is wrong with a damaged cell:
+ * one of ZELMOTAR_RULE_STRAY_BIT to ZELMOTAR_RULE_BEYOND_TOP where the status is ZELMOTAR_DAMAGED, and 0 with every
+ * other. top is the end of the occupied cells afterwards, in cells, and goes into the next call on the same store. */
 typedef struct {
     uint32_t status;
+    uint32_t rule;
     uint32_t value;
     size_t top;
 } zelmotar_reply;
@@ -142,24 +144,28 @@ typedef struct {
     size_t to;
 } zelmotar_span;
 
-/* What a print answers: its status, the value that goes with it, and how many bytes the text has. */
+/* What a print answers: status and rule as in zelmotar_reply, the value that goes with the status, and how many bytes
+ * the text has. */
 typedef struct {
     uint32_t status;
+    uint32_t rule;
     size_t value;
     size_t length;
 } zelmotar_text;
 
-/* What typing a register in answers: its status; the value that goes with it, which is the offset of a byte where the
- * text is refused, and so as wide as text_n; and top as in zelmotar_reply. */
+/* What typing a register in answers: status, rule and top as in zelmotar_reply, and the value that goes with the
+ * status, which is the offset of a byte where the text is refused, and so as wide as text_n. */
 typedef struct {
     uint32_t status;
+    uint32_t rule;
     size_t value;
     size_t top;
 } zelmotar_typed;
 
-/* What saving a store answers: status, value and top as in zelmotar_reply, and how many bytes the file has. */
+/* What saving a store answers: status, rule, value and top as in zelmotar_reply, and how many bytes the file has. */
 typedef struct {
     uint32_t status;
+    uint32_t rule;
     uint32_t value;
     size_t top;
     size_t length;
@@ -170,9 +176,21 @@ enum {
     ZELMOTAR_DONE = 0,         /* done */
     ZELMOTAR_BAD_LENGTH = 1,   /* n is odd, under 32 or over 8,192; value 0 */
     ZELMOTAR_BAD_TOP = 2,      /* top is under 16 or over n / 2; value 0 */
-    ZELMOTAR_DAMAGED = 3,      /* a cell breaks its rule; value: the first such cell, lowest address */
+    ZELMOTAR_DAMAGED = 3,      /* a cell breaks its rule; value: the first such cell, lowest address; rule: the one
+                                * that it breaks */
     ZELMOTAR_BAD_CALLS = 4,    /* the call list is over 4,096 words or not a multiple of four; value 0 */
     ZELMOTAR_SHORT_ANSWERS = 5 /* the answer space is under two words a call; value 0 */
+};
+
+/* Rule that a damaged cell breaks. The first that applies is given. 2 to 5 concern cells below top, registers among
+ * them, and 1 every cell, those from top on too. It is 0 with every status but ZELMOTAR_DAMAGED. */
+enum {
+    ZELMOTAR_RULE_STRAY_BIT = 1,   /* bit 30, 29 or 28 of the second word is set */
+    ZELMOTAR_RULE_NOT_BRACKET = 2, /* a register, and bit 31 of the second word is not set */
+    ZELMOTAR_RULE_BAD_EMPTY = 3,   /* the second word is 0x80000000, and the first is not 0 */
+    ZELMOTAR_RULE_BAD_SYMBOL = 4,  /* bit 31 is not set, and the second word is not 0 or the first is no code */
+    ZELMOTAR_RULE_BAD_ENDS = 5,    /* ends, but not 16 <= l <= r < top in a register, 16 <= l <= r < c in heap cell c */
+    ZELMOTAR_RULE_BEYOND_TOP = 6   /* a cell from top on, and not both words are 0 */
 };
 
 /* Status of one call in a batch: ZELMOTAR_DONE, or the first of these that applies. A refused call has
@@ -187,13 +205,13 @@ enum {
     ZELMOTAR_NO_ROOM = 16        /* no room for the new cells; no expression changes, and the store is left collected */
 };
 
-/* Status of a print: ZELMOTAR_DONE; or one of ZELMOTAR_BAD_LENGTH to ZELMOTAR_DAMAGED, with its value; or one of
- * the first three of these, with value 0. The text is written from left to right, so of 21 and 22 it is the one of
+/* Status of a print: ZELMOTAR_DONE; or one of ZELMOTAR_BAD_LENGTH to ZELMOTAR_DAMAGED, with its value and rule; or one
+ * of the first three of these, with value 0. The text is written from left to right, so of 21 and 22 it is the one of
  * the byte farther left, and ZELMOTAR_TOO_DEEP where both hold at one byte.
  *
- * Status of a register typed in: the first that applies of ZELMOTAR_BAD_LENGTH to ZELMOTAR_DAMAGED, with its value;
- * ZELMOTAR_NO_REGISTER with value 0; ZELMOTAR_BAD_CODE, ZELMOTAR_TOO_DEEP or ZELMOTAR_NOT_TEXT, whichever is at the
- * byte farthest left, with the offset of this byte as value, counted from 0; ZELMOTAR_NO_ROOM with value 0; and
+ * Status of a register typed in: the first that applies of ZELMOTAR_BAD_LENGTH to ZELMOTAR_DAMAGED, with its value and
+ * rule; ZELMOTAR_NO_REGISTER with value 0; ZELMOTAR_BAD_CODE, ZELMOTAR_TOO_DEEP or ZELMOTAR_NOT_TEXT, whichever is at
+ * the byte farthest left, with the offset of this byte as value, counted from 0; ZELMOTAR_NO_ROOM with value 0; and
  * ZELMOTAR_DONE with value 0. ZELMOTAR_BAD_CODE is at a 0 that begins a term, or at the digit that takes a code over
  * 268,435,455. */
 enum {
@@ -203,12 +221,12 @@ enum {
     ZELMOTAR_NOT_TEXT = 23     /* no text goes on with this byte, or the text ends too soon, at text_n */
 };
 
-/* Status of a store saved: the first that applies of ZELMOTAR_BAD_LENGTH to ZELMOTAR_DAMAGED, with its value;
+/* Status of a store saved: the first that applies of ZELMOTAR_BAD_LENGTH to ZELMOTAR_DAMAGED, with its value and rule;
  * ZELMOTAR_SHORT_SPACE with value 0; and ZELMOTAR_DONE with value 0.
  *
  * Status of a file loaded: the first that applies of ZELMOTAR_SHORT_FILE to ZELMOTAR_BAD_CAPACITY, with value 0;
- * ZELMOTAR_WRONG_SLICE with value 0; ZELMOTAR_DAMAGED with the first damaged cell of the store in the file;
- * ZELMOTAR_NOT_COLLECTED with value 0; and ZELMOTAR_DONE with value 0. */
+ * ZELMOTAR_WRONG_SLICE with value 0; ZELMOTAR_DAMAGED with the first damaged cell of the store in the file as value,
+ * and the rule that it breaks; ZELMOTAR_NOT_COLLECTED with value 0; and ZELMOTAR_DONE with value 0. */
 enum {
     ZELMOTAR_SHORT_FILE = 30,    /* under 16 bytes, and so without a trailer */
     ZELMOTAR_BAD_EDITION = 31,   /* the edition is not 1 */
@@ -269,6 +287,22 @@ static inline const char *zelmotar_status_text(uint32_t status)
     }
 }
 
+/* What is wrong with a cell that breaks a rule, in a few words; 0 is for none, and any other number is "no such rule".
+ * The Rust package says the same. */
+static inline const char *zelmotar_rule_text(uint32_t rule)
+{
+    static const char *const texts[] = {
+        "no rule is broken",
+        "its used bit or a chain bit is set",
+        "it is a register and not a bracket",
+        "it is an empty bracket whose first word is not 0",
+        "it is neither a bracket nor a symbol",
+        "its ends are out of order or out of range",
+        "it is beyond top and not two zero words",
+    };
+    return rule < sizeof texts / sizeof texts[0] ? texts[rule] : "no such rule";
+}
+
 /* How many words have to be lent to zelmotar_load for a file: twice the capacity in its trailer, and so at most
  * ZELMOTAR_MAX_WORDS. 0 where the file has no trailer or a capacity that is too large; zelmotar_load refuses it then,
  * whatever is lent. Nothing else of the file is looked at. */
@@ -287,7 +321,7 @@ static inline size_t zelmotar_file_words(const uint8_t *file, size_t file_n)
  *
  * Reads the n words, and those of a damaged store twice. Writes nothing.
  * Answers ZELMOTAR_DONE with value 0 if the store is sound, else ZELMOTAR_BAD_LENGTH, ZELMOTAR_BAD_TOP or
- * ZELMOTAR_DAMAGED with the values named there. top comes back as it came. */
+ * ZELMOTAR_DAMAGED with the value and the rule named there. top comes back as it came. */
 ZELMOTAR_USE_RESULT zelmotar_reply zelmotar_check(const uint32_t *words, size_t n, size_t top);
 
 /* Writes a fresh store: sixteen empty registers and zeros after them, whatever the words held.
@@ -301,7 +335,8 @@ ZELMOTAR_USE_RESULT zelmotar_reply zelmotar_fresh(uint32_t *words, size_t n);
  *
  * Reads and writes the n words: after the check two passes over the occupied cells, whatever they share.
  * Answers ZELMOTAR_DONE with the number of live cells as value and 16 more than it as top; else, as
- * zelmotar_check does, ZELMOTAR_BAD_LENGTH, ZELMOTAR_BAD_TOP or ZELMOTAR_DAMAGED, with top as it came. */
+ * zelmotar_check does, ZELMOTAR_BAD_LENGTH, ZELMOTAR_BAD_TOP or ZELMOTAR_DAMAGED, with its value and rule, and with top
+ * as it came. */
 ZELMOTAR_USE_RESULT zelmotar_reply zelmotar_collect(uint32_t *words, size_t n, size_t top);
 
 /* Runs a batch of calls, in order.
@@ -317,8 +352,8 @@ ZELMOTAR_USE_RESULT zelmotar_reply zelmotar_collect(uint32_t *words, size_t n, s
  * and goes in that collection, unless d is an operand register too, as in WRAP 0 0; cells that another register
  * reaches count and stay. A call that is refused so leaves the store collected, and d keeps what it held.
  * Answers ZELMOTAR_DONE with value 0 and the new top once every call has its answer, refused ones too;
- * else one of ZELMOTAR_BAD_LENGTH to ZELMOTAR_SHORT_ANSWERS, and then no call is run and top comes back as it
- * came. A batch of no calls is done and changes no word of the store. */
+ * else one of ZELMOTAR_BAD_LENGTH to ZELMOTAR_SHORT_ANSWERS, with its value and rule, and then no call is run and top
+ * comes back as it came. A batch of no calls is done and changes no word of the store. */
 ZELMOTAR_USE_RESULT zelmotar_reply zelmotar_run(uint32_t *words, size_t n, size_t top, const uint32_t *calls,
                                                  size_t calls_n, uint32_t *answers, size_t answers_n);
 
@@ -339,7 +374,7 @@ ZELMOTAR_USE_RESULT zelmotar_span zelmotar_look(const uint32_t *words, size_t n,
  * After the check it takes time with text_n, whatever the store shares: it ends at the first byte that does not fit.
  * Answers ZELMOTAR_DONE with value 0 and the length of the text. Else the length is 0 and every byte of the space
  * is 0, and the status is ZELMOTAR_BAD_LENGTH, ZELMOTAR_BAD_TOP or ZELMOTAR_DAMAGED as zelmotar_check has it, with its
- * value, or ZELMOTAR_NO_REGISTER, ZELMOTAR_TOO_DEEP or ZELMOTAR_SHORT_SPACE with value 0. */
+ * value and rule, or ZELMOTAR_NO_REGISTER, ZELMOTAR_TOO_DEEP or ZELMOTAR_SHORT_SPACE with value 0. */
 ZELMOTAR_USE_RESULT zelmotar_text zelmotar_print(const uint32_t *words, size_t n, size_t top, size_t reg, uint8_t *text,
                                                   size_t text_n);
 
@@ -358,10 +393,10 @@ ZELMOTAR_USE_RESULT zelmotar_text zelmotar_print(const uint32_t *words, size_t n
  * does, twice at most, where it collects.
  * Answers ZELMOTAR_DONE with value 0 and the new top. Else the register keeps its expression, and so does every other,
  * and the status is, in this order: ZELMOTAR_BAD_LENGTH, ZELMOTAR_BAD_TOP or ZELMOTAR_DAMAGED as zelmotar_check has it,
- * with its value; ZELMOTAR_NO_REGISTER with value 0; ZELMOTAR_BAD_CODE, ZELMOTAR_TOO_DEEP or ZELMOTAR_NOT_TEXT, with
- * the offset of the first byte that is not in order as value, or text_n where the text ends too soon;
- * ZELMOTAR_NO_ROOM with value 0. That one leaves the store collected, with its top; the others change no word, and
- * top comes back as it came. */
+ * with its value and rule; ZELMOTAR_NO_REGISTER with value 0; ZELMOTAR_BAD_CODE, ZELMOTAR_TOO_DEEP or
+ * ZELMOTAR_NOT_TEXT, with the offset of the first byte that is not in order as value, or text_n where the text ends
+ * too soon; ZELMOTAR_NO_ROOM with value 0. That one leaves the store collected, with its top; the others change no
+ * word, and top comes back as it came. */
 ZELMOTAR_USE_RESULT zelmotar_typed zelmotar_type(uint32_t *words, size_t n, size_t top, size_t reg, const uint8_t *text,
                                                   size_t text_n);
 
@@ -373,8 +408,9 @@ ZELMOTAR_USE_RESULT zelmotar_typed zelmotar_type(uint32_t *words, size_t n, size
  * After the check and the collection it takes time with file_n.
  * Answers ZELMOTAR_DONE with value 0, the new top and the length of the file, which is ZELMOTAR_FILE_BYTES of the new
  * top. Else the length is 0 and every byte of the space is 0, and the status is, in this order: ZELMOTAR_BAD_LENGTH,
- * ZELMOTAR_BAD_TOP or ZELMOTAR_DAMAGED as zelmotar_check has it, with its value, and then no word is changed and top
- * comes back as it came; ZELMOTAR_SHORT_SPACE with value 0, and then the store is left collected, with its top. */
+ * ZELMOTAR_BAD_TOP or ZELMOTAR_DAMAGED as zelmotar_check has it, with its value and rule, and then no word is changed
+ * and top comes back as it came; ZELMOTAR_SHORT_SPACE with value 0, and then the store is left collected, with its
+ * top. */
 ZELMOTAR_USE_RESULT zelmotar_saved zelmotar_save(uint32_t *words, size_t n, size_t top, uint8_t *file, size_t file_n);
 
 /* Loads a file of file_n bytes: the words become the store that it holds, whatever they were before. Saved again it has
@@ -387,7 +423,7 @@ ZELMOTAR_USE_RESULT zelmotar_saved zelmotar_save(uint32_t *words, size_t n, size
  * Answers ZELMOTAR_DONE with value 0 and 16 more than the number of heap cells as top. Else top is 0 and no word is
  * changed, and the status is, in this order: ZELMOTAR_SHORT_FILE, ZELMOTAR_BAD_EDITION, ZELMOTAR_BAD_DISTANCE,
  * ZELMOTAR_BAD_CAPACITY or ZELMOTAR_WRONG_SLICE with value 0; ZELMOTAR_DAMAGED where a cell of the store in the file
- * breaks its rule, with the lowest such cell as value; ZELMOTAR_NOT_COLLECTED with value 0. */
+ * breaks its rule, with the lowest such cell as value and that rule; ZELMOTAR_NOT_COLLECTED with value 0. */
 ZELMOTAR_USE_RESULT zelmotar_reply zelmotar_load(uint32_t *words, size_t n, const uint8_t *file, size_t file_n);
 
 #ifdef __cplusplus

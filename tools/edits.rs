@@ -26,8 +26,8 @@
 // words of the answer space after those, `answers`; and with `top`. `check`, `fresh`, `collect`, `type`
 // and `load` answer with status, value and `top`, a look with its two word numbers, a print with
 // status, value and length, then with the bytes of its space, `space`; `save` with status, value,
-// `top` and length, then with the bytes of its space, four to an answer, `bytes I`. The cells come
-// last.
+// `top` and length, then with the bytes of its space, four to an answer, `bytes I`. After each answer
+// but a look's comes the rule of a damaged cell, `rule`. The cells come last.
 #![allow(warnings)]
 mod build;
 mod bytes;
@@ -112,11 +112,18 @@ impl Lent {
         }
     }
 
-    // An answer to collecting, to a fresh store or to a text that is typed, by the term for it.
-    fn answered(&mut self, name: &str, status: u32, value: u32, top: usize, done: String) {
+    // An answer to collecting, to a fresh store, to a text that is typed or to a file, by the term for it.
+    fn answered(&mut self, name: &str, numbers: [u32; 3], top: usize, done: String) {
+        let [status, rule, value] = numbers;
         let term = format!("{done} .verdict .status ∷ {done} .verdict .value ∷ {done} .top ∷ []");
         self.say(name, &[status, value, top as u32], term);
+        self.rule(rule, format!("{done} .verdict"));
         self.left(top, done);
+    }
+
+    // The rule that goes with an answer, by the term for its verdict.
+    fn rule(&self, rule: u32, verdict: String) {
+        self.say("rule", &[rule], format!("{verdict} .rule ∷ []"));
     }
 
     // The store and `top` that a function leaves, by the term for what it does.
@@ -140,6 +147,7 @@ impl Lent {
         let a = capi::zelmotar_run(&mut self.words, self.top, &calls, &mut answers);
         let verdict = format!("{done} .verdict .status ∷ {done} .verdict .value ∷ []");
         self.say("run", &[a.status, a.value], verdict);
+        self.rule(a.rule, format!("{done} .verdict"));
         let used = if a.status == 0 { 2 * batch.len() } else { 0 };
         for (i, pair) in answers[..used].chunks(2).enumerate() {
             self.say(&batch[i].0, pair, format!("take 2 (drop {} ({done} .answers))", 2 * i));
@@ -182,15 +190,17 @@ impl Lent {
                 let v = format!("(check 16 {ws} {t})");
                 let term = format!("{v} .status ∷ {v} .value ∷ {t} ∷ []");
                 self.say(text, &[a.status, a.value, a.top as u32], term);
+                self.rule(a.rule, v);
             }
             ("fresh", []) => {
                 let a = capi::zelmotar_fresh(&mut self.words);
-                self.answered(text, a.status, a.value, a.top, format!("(freshIn 16 {ws})"));
+                let done = format!("(freshIn 16 {ws})");
+                self.answered(text, [a.status, a.rule, a.value], a.top, done);
             }
             ("collect", []) => {
                 let a = capi::zelmotar_collect(&mut self.words, self.top);
                 let done = format!("(collectIn 16 {ws} {t})");
-                self.answered(text, a.status, a.value, a.top, done);
+                self.answered(text, [a.status, a.rule, a.value], a.top, done);
             }
             ("look", &[r]) => {
                 let place = capi::zelmotar_look(&self.words, self.top, r as usize);
@@ -212,6 +222,7 @@ impl Lent {
                 let p = format!("(printIn 16 {ws} {t} {r} {n})");
                 let term = format!("{p} .verdict .status ∷ {p} .verdict .value ∷ {p} .size ∷ []");
                 self.say(text, &[a.status, a.value as u32, a.length as u32], term);
+                self.rule(a.rule, format!("{p} .verdict"));
                 let space: Vec<u32> = space.iter().map(|&b| b as u32).collect();
                 self.say("space", &space, format!("{p} .space"));
             }
@@ -221,7 +232,7 @@ impl Lent {
                 let a = capi::zelmotar_type(&mut self.words, self.top, r as usize, typed);
                 let typed: Vec<u32> = typed.iter().map(|&b| b as u32).collect();
                 let done = format!("(typeIn 16 {ws} {t} {r} ({}))", list(&typed));
-                self.answered(text, a.status, a.value as u32, a.top, done);
+                self.answered(text, [a.status, a.rule, a.value as u32], a.top, done);
             }
             ("save", &[n]) => self.save(text, n as usize),
             ("byte", &[i, b]) => self.file[i as usize] = b as u8,
@@ -232,7 +243,7 @@ impl Lent {
                 let a = capi::zelmotar_load(&mut self.words, &self.file);
                 let file: Vec<u32> = self.file.iter().map(|&b| b as u32).collect();
                 let done = format!("(loadIn ({}) (replicate {n} 7))", list(&file));
-                self.answered(text, a.status, a.value, a.top, done);
+                self.answered(text, [a.status, a.rule, a.value], a.top, done);
             }
             ("bytes", [n, first @ ..]) => program(*n as usize, first),
             ("word", &[w, n]) => self.word(w, n as usize),
@@ -249,6 +260,7 @@ impl Lent {
             "{done} .verdict .status ∷ {done} .verdict .value ∷ {done} .top ∷ {done} .size ∷ []"
         );
         self.say(text, &[a.status, a.value, a.top as u32, a.length as u32], term);
+        self.rule(a.rule, format!("{done} .verdict"));
         for (i, four) in space.chunks(4).enumerate() {
             let four: Vec<u32> = four.iter().map(|&b| b as u32).collect();
             let term = format!("take 4 (drop {} ({done} .space))", 4 * i);

@@ -276,7 +276,7 @@ impl<'a> Work<'a> {
 
     /// The library at this work.
     fn library(self) -> Contender<'a> {
-        let told = |raw::Reply { status, value, top }| Reply { status, value, top };
+        let told = |raw::Reply { status, rule, value, top }| Reply { status, rule, value, top };
         match self {
             Work::Fresh => Box::new(move |words, _, _| told(raw::fresh(words))),
             Work::Check => Box::new(move |words, top, _| told(raw::check(words, top))),
@@ -296,8 +296,8 @@ impl<'a> Work<'a> {
                 })
             }
             Work::Type(text) => Box::new(move |words, top, _| {
-                let raw::Typed { status, value, top } = raw::type_in(words, top, TYPED, text);
-                Reply { status, value: value as u32, top }
+                let raw::Typed { status, rule, value, top } = raw::type_in(words, top, TYPED, text);
+                Reply { status, rule, value: value as u32, top }
             }),
         }
     }
@@ -323,8 +323,8 @@ impl<'a> Work<'a> {
                 })
             }
             Work::Type(text) => Box::new(move |words, top, _| {
-                let Typed { status, value, top } = store.type_in(words, top, TYPED, text);
-                Reply { status, value: value as u32, top }
+                let Typed { status, rule, value, top } = store.type_in(words, top, TYPED, text);
+                Reply { status, rule, value: value as u32, top }
             }),
         }
     }
@@ -347,7 +347,7 @@ impl<'a> Work<'a> {
 
 /// What a look finds or a print answers, as a reply.
 fn seen(from: usize, to: usize) -> Reply {
-    Reply { status: 0, value: from as u32, top: to }
+    Reply { status: 0, rule: 0, value: from as u32, top: to }
 }
 
 /// Copies of a store on which work is timed together, and room for answers.
@@ -423,8 +423,8 @@ fn assert_same(store: &Lent, work: Work, contenders: &mut Columns<Contender>) {
 fn assert_same_text(store: &Lent, bytes: usize) {
     let texts = [(); 3].map(|()| vec![b'?'; bytes]);
     let [mut library, mut usual, mut better] = texts;
-    let raw::Text { status, value, length } = raw::print(&store.0, store.1, 0, &mut library);
-    let told = Text { status, value, length };
+    let raw::Text { status, rule, value, length } = raw::print(&store.0, store.1, 0, &mut library);
+    let told = Text { status, rule, value, length };
     assert_eq!(Usual::default().print(&store.0, store.1, 0, &mut usual), told);
     assert_eq!(Better::default().print(&store.0, store.1, 0, &mut better), told);
     assert!(library == usual && library == better, "contenders differ in a byte");

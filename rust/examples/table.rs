@@ -4,7 +4,7 @@
 use std::mem::{offset_of, size_of};
 
 use zelmotar::raw::{Reply, Saved, Span, Text, Typed};
-use zelmotar::{file_bytes, status_text, Call, Trailer};
+use zelmotar::{file_bytes, status_text, Call, Rule, Trailer};
 use zelmotar::{EDITION, MAX_CALLS, MAX_CELLS, MAX_CODE, MAX_DEPTH, MIN_CODE, REGISTERS, STATUSES};
 
 /// A call of each operation, in order.
@@ -15,20 +15,24 @@ fn operations() -> impl Iterator<Item = Call> {
 fn print_layout() {
     print!("answer of {} bytes:", size_of::<Reply>());
     print!(" status at {}", offset_of!(Reply, status));
+    print!(" rule at {}", offset_of!(Reply, rule));
     print!(" value at {}", offset_of!(Reply, value));
     println!(" top at {}", offset_of!(Reply, top));
     print!("span of {} bytes:", size_of::<Span>());
     println!(" from at {} to at {}", offset_of!(Span, from), offset_of!(Span, to));
     print!("text of {} bytes:", size_of::<Text>());
     print!(" status at {}", offset_of!(Text, status));
+    print!(" rule at {}", offset_of!(Text, rule));
     print!(" value at {}", offset_of!(Text, value));
     println!(" length at {}", offset_of!(Text, length));
     print!("typed of {} bytes:", size_of::<Typed>());
     print!(" status at {}", offset_of!(Typed, status));
+    print!(" rule at {}", offset_of!(Typed, rule));
     print!(" value at {}", offset_of!(Typed, value));
     println!(" top at {}", offset_of!(Typed, top));
     print!("saved of {} bytes:", size_of::<Saved>());
     print!(" status at {}", offset_of!(Saved, status));
+    print!(" rule at {}", offset_of!(Saved, rule));
     print!(" value at {}", offset_of!(Saved, value));
     print!(" top at {}", offset_of!(Saved, top));
     println!(" length at {}", offset_of!(Saved, length));
@@ -57,6 +61,9 @@ fn main() {
     println!("most depth {MAX_DEPTH}");
     for status in STATUSES {
         println!("status {} {}: {}", status.number, status.name, status.text);
+    }
+    for rule in Rule::ALL {
+        println!("rule {} {}: {rule}", rule.number(), rule.name());
     }
     for call in operations() {
         println!("operation {} {}", call.words()[0], call.name());

@@ -4,7 +4,7 @@ use core::error::Error;
 use core::fmt;
 
 use crate::ffi::{Reply, Saved, Text, Typed};
-use crate::{status_text, Call};
+use crate::{status_text, Call, Rule};
 
 /// The answer to one call of a batch.
 ///
@@ -149,8 +149,8 @@ impl Error for Fault {}
 /// After a refusal the words, the answer space and `top` are as they came, but for
 /// [`NoRoom`](Refusal::NoRoom) of a typed text and [`ShortSpace`](Refusal::ShortSpace) of a file,
 /// which leave the store collected. A space for a text or a file is not as it came: whatever
-/// refuses to write there, all its bytes are 0 then. More requests will bring more refusals, and a
-/// damaged cell will come with the rule that it breaks: a match has a case for the rest.
+/// refuses to write there, all its bytes are 0 then. More requests will bring more refusals, and
+/// more may come to be said of a damaged cell: a match has a case for the rest.
 #[derive(Clone, Copy, Debug, PartialEq, Eq, Hash)]
 #[must_use]
 #[non_exhaustive]
@@ -164,6 +164,8 @@ pub enum Refusal {
     Damaged {
         /// The first damaged cell, the one with the lowest address.
         cell: u32,
+        /// The rule that it breaks, the first that applies.
+        rule: Rule,
     },
     /// 4: the call list is over 4,096 words or not a multiple of four.
     BadCalls,
@@ -238,7 +240,25 @@ impl Refusal {
     /// The damaged cell, if that is the refusal.
     pub const fn cell(self) -> Option<u32> {
         match self {
-            Refusal::Damaged { cell } => Some(cell),
+            Refusal::Damaged { cell, .. } => Some(cell),
+            _ => None,
+        }
+    }
+
+    /// The rule that the damaged cell breaks, if that is the refusal.
+    ///
+    /// ```
+    /// use zelmotar::{Rule, Store};
+    ///
+    /// let (mut words, top) = Store::new(20)?.into_parts();
+    /// words[38] = 7; // A word of cell 19, which is free.
+    /// let refusal = Store::from_parts(words, top).check().unwrap_err();
+    /// assert_eq!((refusal.cell(), refusal.rule()), (Some(19), Some(Rule::BeyondTop)));
+    /// # Ok::<(), zelmotar::Refusal>(())
+    /// ```
+    pub const fn rule(self) -> Option<Rule> {
+        match self {
+            Refusal::Damaged { rule, .. } => Some(rule),
             _ => None,
         }
     }
@@ -267,13 +287,13 @@ impl Refusal {
     ///
     /// # Panics
     ///
-    /// If the status is no number that these give, so that something else is linked in the
-    /// library's place.
+    /// If the status is no number that these give, or the rule of a damaged cell is none, so that
+    /// something else is linked in the library's place.
     pub(crate) fn of(reply: Reply) -> Result<(), Refusal> {
         match reply.status {
             4 => Err(Refusal::BadCalls),
             5 => Err(Refusal::ShortAnswers),
-            status => Refusal::of_store(status, reply.value),
+            status => Refusal::of_store(status, reply.value, reply.rule),
         }
     }
 
@@ -288,7 +308,7 @@ impl Refusal {
             21 => Err(Refusal::TooDeep),
             22 => Err(Refusal::ShortSpace),
             // The value is a cell, and so fits a word.
-            status => Refusal::of_store(status, text.value as u32),
+            status => Refusal::of_store(status, text.value as u32, text.rule),
         }
     }
 
@@ -306,7 +326,7 @@ impl Refusal {
             21 => Err(Refusal::TooDeepAt { offset }),
             23 => Err(Refusal::NotText { offset }),
             // The value is a cell, and so fits a word.
-            status => Refusal::of_store(status, typed.value as u32),
+            status => Refusal::of_store(status, typed.value as u32, typed.rule),
         }
     }
 
@@ -318,7 +338,7 @@ impl Refusal {
     pub(crate) fn of_saved(saved: Saved) -> Result<(), Refusal> {
         match saved.status {
             22 => Err(Refusal::ShortSpace),
-            status => Refusal::of_store(status, saved.value),
+            status => Refusal::of_store(status, saved.value, saved.rule),
         }
     }
 
@@ -330,7 +350,7 @@ impl Refusal {
     pub(crate) fn of_loaded(reply: Reply) -> Result<(), Refusal> {
         match reply.status {
             0 => Ok(()),
-            3 => Err(Refusal::Damaged { cell: reply.value }),
+            3 => Err(Refusal::damaged(reply.value, reply.rule)),
             30 => Err(Refusal::ShortFile),
             31 => Err(Refusal::BadEdition),
             32 => Err(Refusal::BadDistance),
@@ -341,15 +361,21 @@ impl Refusal {
         }
     }
 
-    /// The refusal of a store that is lent, with the value of its status.
-    fn of_store(status: u32, value: u32) -> Result<(), Refusal> {
+    /// The refusal of a store that is lent, with the value of its status and the rule.
+    fn of_store(status: u32, value: u32, rule: u32) -> Result<(), Refusal> {
         match status {
             0 => Ok(()),
             1 => Err(Refusal::BadLength),
             2 => Err(Refusal::BadTop),
-            3 => Err(Refusal::Damaged { cell: value }),
+            3 => Err(Refusal::damaged(value, rule)),
             other => no_status(other),
         }
+    }
+
+    /// The refusal for a damaged cell, with the number of its rule.
+    fn damaged(cell: u32, rule: u32) -> Refusal {
+        let rule = Rule::from_number(rule).unwrap_or_else(|| no_rule(rule));
+        Refusal::Damaged { cell, rule }
     }
 }
 
@@ -358,13 +384,18 @@ pub(crate) fn no_status(number: u32) -> ! {
     panic!("the linked library answers {number}, which is no status of zelmotar for what was asked")
 }
 
-/// The text of its number in [`STATUSES`](crate::STATUSES), and the damaged cell or the byte of the text
-/// where there is one.
+/// Panics, as the library never gives this number for the rule of a damaged cell.
+fn no_rule(number: u32) -> ! {
+    panic!("the linked library answers rule {number}, which is no rule of zelmotar")
+}
+
+/// The text of its number in [`STATUSES`](crate::STATUSES), and the damaged cell with its rule or the byte
+/// of the text where there is one.
 impl fmt::Display for Refusal {
     fn fmt(&self, f: &mut fmt::Formatter<'_>) -> fmt::Result {
         f.write_str(status_text(self.number()))?;
-        match (self.cell(), self.offset()) {
-            (Some(cell), _) => write!(f, ": cell {cell}"),
+        match (*self, self.offset()) {
+            (Refusal::Damaged { cell, rule }, _) => write!(f, ": cell {cell}: {rule}"),
             (_, Some(offset)) => write!(f, ": byte {offset}"),
             _ => Ok(()),
         }
@@ -372,3 +403,42 @@ impl fmt::Display for Refusal {
 }
 
 impl Error for Refusal {}
+
+#[cfg(test)]
+mod tests {
+    use super::*;
+
+    /// Each kind of answer, with a status and a rule: the refusal in it.
+    fn refusals(status: u32, rule: u32) -> [Result<(), Refusal>; 5] {
+        let (value, top, length) = (19, 20, 0);
+        let reply = Reply { status, rule, value, top };
+        [
+            Refusal::of(reply),
+            Refusal::of_text(Text { status, rule, value: 19, length }),
+            Refusal::of_typed(Typed { status, rule, value: 19, top }),
+            Refusal::of_saved(Saved { status, rule, value, top, length }),
+            Refusal::of_loaded(reply),
+        ]
+    }
+
+    #[test]
+    fn a_damaged_cell_has_its_rule_in_every_answer() {
+        for rule in Rule::ALL {
+            let damaged = Err(Refusal::Damaged { cell: 19, rule });
+            assert_eq!(refusals(3, rule.number()), [damaged; 5]);
+        }
+        assert_eq!(refusals(0, 0), [Ok(()); 5]);
+    }
+
+    #[test]
+    #[should_panic = "answers rule 0, which is no rule"]
+    fn no_rule_at_all_is_none() {
+        let _ = refusals(3, 0);
+    }
+
+    #[test]
+    #[should_panic = "answers rule 7, which is no rule"]
+    fn a_number_over_the_last_rule_is_none() {
+        let _ = refusals(3, 7);
+    }
+}

@@ -12,6 +12,8 @@
 pub struct Reply {
     /// 0 for done, else the number of the refusal.
     pub status: u32,
+    /// The number of the rule that the cell breaks, 1 to 6, where the status is 3; else 0.
+    pub rule: u32,
     /// The number that the status names: a cell, a count of live cells, or 0.
     pub value: u32,
     /// The end of the occupied cells after the call, in cells.
@@ -40,6 +42,8 @@ pub struct Span {
 pub struct Text {
     /// 0 for done, else the number of the refusal.
     pub status: u32,
+    /// The number of the rule that the cell breaks, 1 to 6, where the status is 3; else 0.
+    pub rule: u32,
     /// The number that the status names: a cell, or 0.
     pub value: usize,
     /// The bytes of the text, 0 where it is refused.
@@ -55,6 +59,8 @@ pub struct Text {
 pub struct Typed {
     /// 0 for done, else the number of the refusal.
     pub status: u32,
+    /// The number of the rule that the cell breaks, 1 to 6, where the status is 3; else 0.
+    pub rule: u32,
     /// The number that the status names: a cell, the offset of a byte of the text, or 0.
     pub value: usize,
     /// The end of the occupied cells afterwards, in cells.
@@ -70,6 +76,8 @@ pub struct Typed {
 pub struct Saved {
     /// 0 for done, else the number of the refusal.
     pub status: u32,
+    /// The number of the rule that the cell breaks, 1 to 6, where the status is 3; else 0.
+    pub rule: u32,
     /// The number that the status names: a cell, or 0.
     pub value: u32,
     /// The end of the occupied cells afterwards, in cells.

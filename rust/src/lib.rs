@@ -13,6 +13,7 @@
 //!   Such a text can be typed into a register again.
 //! - A store is saved to a file, in bytes that are lent, and loaded from such bytes again.
 //! - A store that has no room for a call collects itself first. No answer shows when it did.
+//! - A damaged store is refused, with the first damaged cell and the [`Rule`] that it breaks.
 //!
 //! ```
 //! use zelmotar::{Answer, Call, Store};
@@ -66,6 +67,7 @@ mod call;
 mod equal;
 #[allow(unsafe_code)]
 mod ffi;
+mod rule;
 mod status;
 #[cfg(feature = "alloc")]
 mod stopped;
@@ -75,6 +77,7 @@ mod trailer;
 
 pub use answer::{Answer, Fault, Refusal};
 pub use call::Call;
+pub use rule::Rule;
 pub use status::{status_text, Status, STATUSES};
 #[cfg(feature = "alloc")]
 pub use stopped::Stopped;
@@ -85,7 +88,8 @@ pub use trailer::{file_bytes, Trailer, EDITION};
 /// The functions of the library as they are: slices go in, numbers come out.
 ///
 /// They are what [`Store`] is made of, for those who keep words and `top` themselves. All take any
-/// words, any `top`, any register, any text and any file; what is wrong is refused by number.
+/// words, any `top`, any register, any text and any file; what is wrong is refused by number. A
+/// damaged cell comes with the number of its [`Rule`].
 ///
 /// ```
 /// use zelmotar::raw;
@@ -111,6 +115,9 @@ pub use trailer::{file_bytes, Trailer, EDITION};
 /// let mut others = [7; 40];
 /// let reply = raw::load(&mut others, &file[..saved.length]);
 /// assert_eq!((reply.status, reply.top, others), (0, 19, words));
+/// words[36] = 18; // The left end of cell 18, which lies above the right one now.
+/// let reply = raw::check(&words, reply.top);
+/// assert_eq!((reply.status, reply.rule, reply.value), (3, 5, 18));
 /// ```
 pub mod raw {
     pub use crate::ffi::{check, collect, fresh, load, look, print, run, save, type_in};

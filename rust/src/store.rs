@@ -32,9 +32,9 @@ const FIRST_SPACE: usize = 256;
 ///
 /// # Panics
 ///
-/// A request panics if the linked library answers a number that is no status of the store's or prints
-/// what is no text, so that something else is linked in its place, or if `W` lends another slice each
-/// time that it is asked.
+/// A request panics if the linked library answers a number that is no status or no rule of the
+/// store's or prints what is no text, so that something else is linked in its place, or if `W` lends
+/// another slice each time that it is asked.
 ///
 /// ```
 /// use zelmotar::{Answer, Call, Store};
@@ -96,7 +96,7 @@ impl Store<Vec<u32>> {
     /// As every request: see [`Store`].
     ///
     /// ```
-    /// use zelmotar::{Refusal, Store};
+    /// use zelmotar::{Refusal, Rule, Store};
     ///
     /// # fn main() -> Result<(), Refusal> {
     /// let mut store = Store::new(64)?;
@@ -110,7 +110,8 @@ impl Store<Vec<u32>> {
     /// assert_eq!(Store::from_file(&file[1..]), Err(Refusal::BadDistance));
     /// assert_eq!(Store::from_file(&file[..15]), Err(Refusal::ShortFile));
     /// file[4] ^= 1; // A bit of the first heap cell, the symbol 7 in cell 16.
-    /// assert_eq!(Store::from_file(&file).unwrap_err().cell(), Some(16));
+    /// let refusal = Store::from_file(&file).unwrap_err();
+    /// assert_eq!((refusal.cell(), refusal.rule()), (Some(16), Some(Rule::BadSymbol)));
     /// # Ok(())
     /// # }
     /// ```
@@ -132,7 +133,10 @@ impl<W> Store<W> {
     /// words[6] = 5;
     /// let refusal = Store::from_parts(words, top).check().unwrap_err();
     /// assert_eq!(refusal.cell(), Some(3));
-    /// assert_eq!(refusal.to_string(), "a cell breaks its rule: cell 3");
+    /// assert_eq!(
+    ///     refusal.to_string(),
+    ///     "a cell breaks its rule: cell 3: it is an empty bracket whose first word is not 0"
+    /// );
     /// # Ok::<(), Refusal>(())
     /// ```
     pub fn from_parts(words: W, top: usize) -> Self {
@@ -187,8 +191,8 @@ impl<W: AsRef<[u32]> + AsMut<[u32]>> Store<W> {
     /// - [`Refusal::BadCapacity`] if its capacity is under 16 + `n` or over
     ///   [`MAX_CELLS`](crate::MAX_CELLS);
     /// - [`Refusal::WrongSlice`] if the number of words is not twice that capacity;
-    /// - [`Refusal::Damaged`] if a cell of the file breaks its rule; its address is the one that it
-    ///   has in the store;
+    /// - [`Refusal::Damaged`] if a cell of the file breaks its rule; its address and its rule are
+    ///   those that it has in the store;
     /// - [`Refusal::NotCollected`] if a heap cell is reached from no register.
     ///
     /// # Panics
@@ -230,7 +234,8 @@ impl<W: AsRef<[u32]> + AsMut<[u32]>> Store<W> {
     ///
     /// # Errors
     ///
-    /// [`Refusal::BadLength`], [`Refusal::BadTop`] or [`Refusal::Damaged`], in this order.
+    /// [`Refusal::BadLength`], [`Refusal::BadTop`] or [`Refusal::Damaged`], in this order; the last
+    /// with the first damaged cell and the [`Rule`](crate::Rule) that it breaks.
     ///
     /// # Panics
     ///

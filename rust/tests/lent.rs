@@ -1,7 +1,10 @@
 //! A store in lent words, with nothing that allocates: what is left of the package without its feature
 //! `alloc`. The tests are run with it and without.
 
-use zelmotar::{file_bytes, raw, status_text, Answer, Call, Fault, Refusal, Store, Term, Trailer};
+use std::mem::offset_of;
+
+use zelmotar::{file_bytes, raw, status_text, Answer, Call, Fault, Refusal, Rule, Store, Term};
+use zelmotar::{Trailer, MAX_CODE};
 
 #[test]
 fn a_store_in_an_array() {
@@ -108,30 +111,51 @@ fn what_is_said_needs_no_allocator() {
     assert_eq!(format!("{:?}", store.look(0)), "Terms((()))");
 }
 
+#[test]
+fn a_damaged_cell_in_an_array_and_its_rule() {
+    let mut words = [0; 40];
+    assert_eq!(Store::fresh(&mut words).map(|store| store.top()), Ok(16));
+    words[32..34].copy_from_slice(&[MAX_CODE + 1, 0]);
+    let refusal = Store::from_parts(&mut words, 17).check().expect_err("no code is so large");
+    assert_eq!((refusal.cell(), refusal.rule()), (Some(16), Some(Rule::BadSymbol)));
+    assert_eq!(Rule::BadSymbol.number(), 4);
+    assert_eq!(
+        format!("{refusal}"),
+        "a cell breaks its rule: cell 16: it is neither a bracket nor a symbol"
+    );
+}
+
 /// A reply, a span, a text, a typed text and a save whose fields differ, each field read by its name and by
 /// its place.
 #[test]
 fn each_field_of_an_answer_is_where_c_has_it() {
-    assert_eq!(core::mem::offset_of!(raw::Reply, status), 0);
-    assert_eq!(core::mem::offset_of!(raw::Reply, value), 4);
-    assert_eq!(core::mem::offset_of!(raw::Reply, top), 8);
-    assert_eq!(size_of::<raw::Reply>(), 8 + size_of::<usize>());
-    assert_eq!(core::mem::offset_of!(raw::Span, from), 0);
-    assert_eq!(core::mem::offset_of!(raw::Span, to), size_of::<usize>());
-    assert_eq!(size_of::<raw::Span>(), 2 * size_of::<usize>());
-    assert_eq!(core::mem::offset_of!(raw::Text, status), 0);
-    assert_eq!(core::mem::offset_of!(raw::Text, value), size_of::<usize>());
-    assert_eq!(core::mem::offset_of!(raw::Text, length), 2 * size_of::<usize>());
-    assert_eq!(size_of::<raw::Text>(), 3 * size_of::<usize>());
-    assert_eq!(core::mem::offset_of!(raw::Typed, status), 0);
-    assert_eq!(core::mem::offset_of!(raw::Typed, value), size_of::<usize>());
-    assert_eq!(core::mem::offset_of!(raw::Typed, top), 2 * size_of::<usize>());
-    assert_eq!(size_of::<raw::Typed>(), 3 * size_of::<usize>());
-    assert_eq!(core::mem::offset_of!(raw::Saved, status), 0);
-    assert_eq!(core::mem::offset_of!(raw::Saved, value), 4);
-    assert_eq!(core::mem::offset_of!(raw::Saved, top), 8);
-    assert_eq!(core::mem::offset_of!(raw::Saved, length), 8 + size_of::<usize>());
-    assert_eq!(size_of::<raw::Saved>(), 8 + 2 * size_of::<usize>());
+    let size = size_of::<usize>();
+    // The first place for a size after three words.
+    let third = 12usize.next_multiple_of(align_of::<usize>());
+    assert_eq!(offset_of!(raw::Reply, status), 0);
+    assert_eq!(offset_of!(raw::Reply, rule), 4);
+    assert_eq!(offset_of!(raw::Reply, value), 8);
+    assert_eq!(offset_of!(raw::Reply, top), third);
+    assert_eq!(size_of::<raw::Reply>(), third + size);
+    assert_eq!(offset_of!(raw::Span, from), 0);
+    assert_eq!(offset_of!(raw::Span, to), size);
+    assert_eq!(size_of::<raw::Span>(), 2 * size);
+    assert_eq!(offset_of!(raw::Text, status), 0);
+    assert_eq!(offset_of!(raw::Text, rule), 4);
+    assert_eq!(offset_of!(raw::Text, value), 8);
+    assert_eq!(offset_of!(raw::Text, length), 8 + size);
+    assert_eq!(size_of::<raw::Text>(), 8 + 2 * size);
+    assert_eq!(offset_of!(raw::Typed, status), 0);
+    assert_eq!(offset_of!(raw::Typed, rule), 4);
+    assert_eq!(offset_of!(raw::Typed, value), 8);
+    assert_eq!(offset_of!(raw::Typed, top), 8 + size);
+    assert_eq!(size_of::<raw::Typed>(), 8 + 2 * size);
+    assert_eq!(offset_of!(raw::Saved, status), 0);
+    assert_eq!(offset_of!(raw::Saved, rule), 4);
+    assert_eq!(offset_of!(raw::Saved, value), 8);
+    assert_eq!(offset_of!(raw::Saved, top), third);
+    assert_eq!(offset_of!(raw::Saved, length), third + size);
+    assert_eq!(size_of::<raw::Saved>(), third + 2 * size);
 
     // Register 0 on cells 17 and 18, and a bracket around itself in cell 19.
     let mut words = [0; 48];
@@ -141,29 +165,32 @@ fn each_field_of_an_answer_is_where_c_has_it() {
     let span = raw::look(&words, 21, 0);
     assert_eq!((span.from, span.to), (34, 38));
     let text = raw::print(&words, 21, 0, &mut [7; 9]);
-    assert_eq!((text.status, text.value, text.length), (0, 0, 3));
+    assert_eq!((text.status, text.rule, text.value, text.length), (0, 0, 0, 3));
     let typed = raw::type_in(&mut words, 21, 0, b"65 (66 x");
-    assert_eq!((typed.status, typed.value, typed.top), (23, 7, 21));
+    assert_eq!((typed.status, typed.rule, typed.value, typed.top), (23, 0, 7, 21));
     let saved = raw::save(&mut words.clone(), 21, &mut [7; 200]);
-    assert_eq!((saved.status, saved.value, saved.top, saved.length), (0, 0, 18, 160));
+    assert_eq!((saved.status, saved.rule, saved.value), (0, 0, 0));
+    assert_eq!((saved.top, saved.length), (18, 160));
     words[38..40].copy_from_slice(&[19, 0x8000_0000 + 19]);
     for reply in [raw::check(&words, 21), raw::collect(&mut words, 21)] {
-        assert_eq!((reply.status, reply.value, reply.top), (3, 19, 21));
+        assert_eq!((reply.status, reply.rule, reply.value, reply.top), (3, 5, 19, 21));
     }
     let reply = raw::run(&mut words, 21, &[], &mut []);
-    assert_eq!((reply.status, reply.value, reply.top), (3, 19, 21));
+    assert_eq!((reply.status, reply.rule, reply.value, reply.top), (3, 5, 19, 21));
     let text = raw::print(&words, 21, 0, &mut [7; 9]);
-    assert_eq!((text.status, text.value, text.length), (3, 19, 0));
+    assert_eq!((text.status, text.rule, text.value, text.length), (3, 5, 19, 0));
     let typed = raw::type_in(&mut words, 21, 0, b"65");
-    assert_eq!((typed.status, typed.value, typed.top), (3, 19, 21));
+    assert_eq!((typed.status, typed.rule, typed.value, typed.top), (3, 5, 19, 21));
     let saved = raw::save(&mut words, 21, &mut [7; 200]);
-    assert_eq!((saved.status, saved.value, saved.top, saved.length), (3, 19, 21, 0));
+    assert_eq!((saved.status, saved.rule, saved.value), (3, 5, 19));
+    assert_eq!((saved.top, saved.length), (21, 0));
     // Every byte of a `top` crosses, both ways.
     let top = usize::MAX / 255 * 0xa5 - 1;
     let reply = raw::check(&words, top);
-    assert_eq!((reply.status, reply.value, reply.top), (2, 0, top));
+    assert_eq!((reply.status, reply.rule, reply.value, reply.top), (2, 0, 0, top));
     let typed = raw::type_in(&mut words, top, 0, b"65");
-    assert_eq!((typed.status, typed.value, typed.top), (2, 0, top));
+    assert_eq!((typed.status, typed.rule, typed.value, typed.top), (2, 0, 0, top));
     let saved = raw::save(&mut words, top, &mut [7; 200]);
-    assert_eq!((saved.status, saved.value, saved.top, saved.length), (2, 0, top, 0));
+    assert_eq!((saved.status, saved.rule, saved.value), (2, 0, 0));
+    assert_eq!((saved.top, saved.length), (top, 0));
 }

@@ -3,8 +3,8 @@
  *
  * A store is made by the library itself, from a fresh one and random calls, then damaged in half of the cases.
  * The numbers are the same in every run. What the answers should be is not known here: the Rust tests hold them
- * against a model. What a text should be is in texts.h, what comes of one that is typed in typed.h, and what a file
- * should be and what comes of one in files.h. */
+ * against a model. Which rule a damaged cell breaks is in rules.h, what a text should be in texts.h, what comes of one
+ * that is typed in typed.h, and what a file should be and what comes of one in files.h. */
 #ifndef CASES_H
 #define CASES_H
 
@@ -13,6 +13,7 @@
 
 #include "expect.h"
 #include "files.h"
+#include "rules.h"
 #include "zelmotar.h"
 
 #define MOST_STORE (ZELMOTAR_MAX_WORDS + 2)
@@ -34,6 +35,9 @@ struct test_case {
  * and of what was loaded. */
 static unsigned met[ZELMOTAR_SHORT_SPACE + 1], typed_met[ZELMOTAR_NOT_TEXT + 1];
 static unsigned saved_met[ZELMOTAR_SHORT_SPACE + 1], loaded_met[ZELMOTAR_WRONG_SLICE + 1];
+
+/* How often each rule came back from a check, and from a file that was loaded; 0 where no cell was damaged. */
+static unsigned rules_met[RULES], loaded_rules_met[RULES];
 
 static inline uint32_t random_word(void)
 {
@@ -140,14 +144,29 @@ static inline void wipe(struct test_case *c)
         ZELMOTAR_FIRST_WORD(c->words, at) = ZELMOTAR_SECOND_WORD(c->words, at) = 0;
 }
 
+/* Words for a cell that are about those that it may have: each an end next to a limit, or any number, with the bracket
+ * bit as a rule and now and then a stray one. One bit changed in a sound store hardly ever breaks some of the rules. */
+static inline void random_cell(uint32_t words[2], size_t at, size_t top)
+{
+    const size_t ends[10] = {0, 1, 15, 16, 17, at - 1, at, top - 1, top, random_word()};
+    words[0] = (uint32_t)ends[below(10)];
+    words[1] = (uint32_t)ends[below(10)] & ZELMOTAR_RIGHT_END;
+    if (below(4))
+        words[1] |= ZELMOTAR_BRACKET;
+    if (below(6) == 0)
+        words[1] |= (uint32_t)1 << (28 + below(3));
+}
+
 static inline void damage(struct test_case *c)
 {
     const size_t tops[6] = {0, 15, c->words_n / 2 + 1, c->words_n / 2, SIZE_MAX, c->top + 1};
     const size_t lengths[6] = {0, 1, 30, c->words_n - 1, c->words_n + 1, MOST_STORE};
-    switch (below(4)) {
+    const size_t at = below(c->words_n / 2);
+    switch (below(5)) {
     case 0: c->words[below(c->words_n)] ^= (uint32_t)1 << below(32); break;
     case 1: c->top = tops[below(6)]; break;
     case 2: wipe(c); break;
+    case 3: random_cell(c->words + 2 * at, at, c->top); break;
     default: c->words_n = lengths[below(6)]; break;
     }
 }
@@ -280,13 +299,24 @@ static inline void spoil_trailer(struct test_case *c)
     put_word(at, others[below(8)]);
 }
 
-/* A file with one bit or one word of its trailer changed, or cut off at either end; or words lent for it that are too
- * few or too many. */
+/* One cell of a file set to other words. Its heap cells come first and then its registers, right before the trailer. */
+static inline void spoil_cell(struct test_case *c)
+{
+    const size_t cells = word_at(c->file + (c->file_n - 12)), place = below(cells + ZELMOTAR_REGISTERS);
+    const size_t at = place < cells ? ZELMOTAR_REGISTERS + place : place - cells;
+    uint8_t *to = c->file + (c->file_n - 16 - 8 * (cells + ZELMOTAR_REGISTERS - place));
+    uint32_t words[2];
+    random_cell(words, at, ZELMOTAR_REGISTERS + cells);
+    put_word(put_word(to, words[0]), words[1]);
+}
+
+/* A file with one bit, one cell or one word of its trailer changed, or cut off at either end; or words lent for it that
+ * are too few or too many. */
 static inline void spoil_file(struct test_case *c)
 {
     const size_t lengths[6] = {0, c->loaded_n - 2, c->loaded_n - 1, c->loaded_n + 1, c->loaded_n + 2, MOST_STORE};
     size_t at;
-    switch (below(6)) {
+    switch (below(7)) {
     case 0: c->file_n = below(3) ? below(c->file_n + 1) : below(20); break;
     case 1:
         at = below(c->file_n + 1);
@@ -295,6 +325,7 @@ static inline void spoil_file(struct test_case *c)
         break;
     case 2: spoil_trailer(c); break;
     case 3: c->loaded_n = lengths[below(6)]; break;
+    case 4: spoil_cell(c); break;
     default: c->file[below(c->file_n)] ^= (uint8_t)(1u << below(8)); break;
     }
 }
@@ -324,10 +355,21 @@ static inline void count(zelmotar_reply answer, const uint32_t *answers, size_t 
         met[answers[2 * i]]++;
 }
 
+/* Every rule has been met; but a file has no cells from `top` on. */
+static inline void expect_rules_met(void)
+{
+    unsigned rule;
+    for (rule = 0; rule < RULES; rule++) {
+        EXPECT(rules_met[rule] > 0);
+        EXPECT((loaded_rules_met[rule] > 0) == (rule != ZELMOTAR_RULE_BEYOND_TOP));
+    }
+}
+
 /* Every status has been met, and no number that is none; so have those of typing, of saving and of loading. */
 static inline void expect_all_met(void)
 {
     unsigned status;
+    expect_rules_met();
     for (status = 0; status <= ZELMOTAR_SHORT_SPACE; status++)
         EXPECT((met[status] > 0) == (status <= ZELMOTAR_SHORT_ANSWERS ||
                                      (status >= ZELMOTAR_BAD_OPERATION && status <= ZELMOTAR_NO_ROOM) ||

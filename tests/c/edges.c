@@ -85,8 +85,11 @@ static void expect_same(size_t i, size_t n)
 static void edges_check(void)
 {
     const uint32_t *words = lend(STORE, c.words, c.words_n, PROT_READ);
+    zelmotar_reply here;
     doing = "zelmotar_check";
-    EXPECT(same_reply(zelmotar_check(words, c.words_n, c.top), zelmotar_check(plain[STORE], c.words_n, c.top)));
+    here = zelmotar_check(words, c.words_n, c.top);
+    EXPECT(same_reply(here, expected_check(plain[STORE], c.words_n, c.top)));
+    rules_met[here.rule]++;
     expect_same(STORE, c.words_n);
 }
 
@@ -175,7 +178,7 @@ static void edges_load(void)
     doing = "zelmotar_load";
     here = zelmotar_load(words, c.loaded_n, file, c.file_n);
     EXPECT(same_reply(here, expected_load(plain[STORE], c.loaded_n, c.file, c.file_n)));
-    loaded_met[here.status]++;
+    loaded_met[here.status]++, loaded_rules_met[here.rule]++;
     expect_same(STORE, c.loaded_n), expect_same(TEXT, c.file_n);
 }
 
@@ -195,9 +198,8 @@ static void edges(void)
 }
 
 /* A register of the case printed into text_n bytes: the answer that is expected, the text, and zeros after it. */
-static void prints(size_t reg, size_t text_n, uint32_t status, uint32_t value, const char *text)
+static void prints_as(size_t reg, size_t text_n, zelmotar_text expected, const char *text)
 {
-    const zelmotar_text expected = {status, value, strlen(text)};
     for (place = LOW; place <= HIGH; place++) {
         const uint32_t *words = lend(STORE, c.words, c.words_n, PROT_READ);
         uint8_t *space = lend(TEXT, NULL, text_n, PROT_READ | PROT_WRITE);
@@ -207,6 +209,19 @@ static void prints(size_t reg, size_t text_n, uint32_t status, uint32_t value, c
         memcpy(plain[TEXT], text, expected.length);
         expect_same(STORE, c.words_n), expect_same(TEXT, text_n);
     }
+}
+
+static void prints(size_t reg, size_t text_n, uint32_t status, const char *text)
+{
+    const zelmotar_text expected = {status, 0, 0, strlen(text)};
+    prints_as(reg, text_n, expected, text);
+}
+
+/* A register that is not printed, as this cell breaks this rule. */
+static void prints_damaged(size_t reg, size_t text_n, uint32_t rule, size_t cell)
+{
+    const zelmotar_text expected = {ZELMOTAR_DAMAGED, rule, cell, 0};
+    prints_as(reg, text_n, expected, "");
 }
 
 /* Sets register d to l to r; empty with both 0. */
@@ -241,21 +256,21 @@ static void rows_of_terms(void)
 {
     start(18, 20); /* T1 */
     put(66, 0), put(67, 0), put(65, 0), put(ZELMOTAR_BRACKET_CELL(16, 17)), put(ZELMOTAR_EMPTY_CELL);
-    prints(0, 13, 0, 0, "65 (66 67) ()");
-    prints(0, 15, 0, 0, "65 (66 67) ()");
-    prints(0, 12, 22, 0, "");
+    prints(0, 13, 0, "65 (66 67) ()");
+    prints(0, 15, 0, "65 (66 67) ()");
+    prints(0, 12, 22, "");
     start(0, 0); /* T2 */
-    prints(0, 3, 0, 0, "");
-    prints(0, 0, 0, 0, "");
+    prints(0, 3, 0, "");
+    prints(0, 0, 0, "");
     start(16, 16); /* T3 */
     put(ZELMOTAR_EMPTY_CELL);
-    prints(0, 2, 0, 0, "()");
+    prints(0, 2, 0, "()");
     start(16, 16), put(268435455, 0); /* T4 */
-    prints(0, 9, 0, 0, "268435455");
+    prints(0, 9, 0, "268435455");
     start(16, 16), put(100000002, 0);
-    prints(0, 9, 0, 0, "100000002");
+    prints(0, 9, 0, "100000002");
     start(16, 16), put(1, 0);
-    prints(0, 2, 0, 0, "1");
+    prints(0, 2, 0, "1");
 }
 
 static void rows_of_depth(void)
@@ -263,35 +278,34 @@ static void rows_of_depth(void)
     char text[129] = "";
     memset(text, '(', 64), memset(text + 64, ')', 64);
     start(0, 0), nest(&c, 0, 64); /* T5 */
-    prints(0, 128, 0, 0, text);
+    prints(0, 128, 0, text);
     start(0, 0), nest(&c, 0, 65);
-    prints(0, 200, 21, 0, ""); /* T6 */
-    prints(0, 64, 21, 0, "");  /* T7 */
-    prints(0, 63, 22, 0, "");
+    prints(0, 200, 21, ""); /* T6 */
+    prints(0, 64, 21, "");  /* T7 */
+    prints(0, 63, 22, "");
 }
 
 static void rows_of_refusals(void)
 {
     start(0, 0); /* T8 */
-    prints(15, 3, 0, 0, "");
-    prints(16, 3, 20, 0, "");
-    prints(16, 0, 20, 0, "");
+    prints(15, 3, 0, "");
+    prints(16, 3, 20, "");
+    prints(16, 0, 20, "");
     put(65, 0), put(66, 0), put(ZELMOTAR_BRACKET_CELL(16, 18)); /* T9 */
-    prints(16, 3, 3, 18, "");
+    prints_damaged(16, 3, 5, 18);
     c.top = 101;
-    prints(16, 3, 2, 0, "");
+    prints(16, 3, 2, "");
     c.words_n = 30;
-    prints(16, 3, 1, 0, "");
+    prints(16, 3, 1, "");
     start(16, 16), put(0, 0); /* T27: a wiped cell */
-    prints(0, 2, 3, 16, "");
+    prints_damaged(0, 2, 4, 16);
 }
 
 /* A text typed into a register of the case: the answer that is expected, with the case's `top`, and the case's store as
  * the one that it leaves. `before` is the one that it is typed into. */
-static void types_from(const struct test_case *before, size_t reg, const char *text, size_t text_n, uint32_t status,
-                       size_t value)
+static void types_as(const struct test_case *before, size_t reg, const char *text, size_t text_n,
+                     zelmotar_typed expected)
 {
-    const zelmotar_typed expected = {status, value, c.top};
     EXPECT(before->words_n == c.words_n);
     for (place = LOW; place <= HIGH; place++) {
         uint32_t *words = lend(STORE, before->words, before->words_n, PROT_READ | PROT_WRITE);
@@ -305,13 +319,20 @@ static void types_from(const struct test_case *before, size_t reg, const char *t
 
 static void types(const struct test_case *before, size_t reg, const char *text, uint32_t status, size_t value)
 {
-    types_from(before, reg, text, strlen(text), status, value);
+    types_as(before, reg, text, strlen(text), typed_answer(status, value, c.top));
 }
 
 /* A text that changes nothing, typed into the case's own store. */
 static void refuses(size_t reg, const char *text, uint32_t status, size_t value)
 {
     types(&c, reg, text, status, value);
+}
+
+/* A text that changes nothing, as this cell of the case's store breaks this rule. */
+static void refuses_damaged(size_t reg, const char *text, uint32_t rule, size_t cell)
+{
+    const zelmotar_typed expected = {ZELMOTAR_DAMAGED, rule, cell, c.top};
+    types_as(&c, reg, text, strlen(text), expected);
 }
 
 /* A fresh store to type into. */
@@ -426,8 +447,8 @@ static void typed_rows_of_bytes(void)
     refuses(0, "268435456", 13, 8), refuses(0, "99999999999", 13, 8), refuses(0, "(268435456", 13, 9); /* T18 */
     refuses(0, "0", 13, 0), refuses(0, "01", 13, 0), refuses(0, "0x", 13, 0), refuses(0, "10 0", 13, 3); /* T25 */
     refuses(0, "(0)", 13, 1), refuses(0, "(1 0", 13, 3), refuses(0, "1 0 x", 13, 2);
-    refuses(0, "()0", 23, 2);           /* T26 */
-    types_from(&c, 0, "1\0", 2, 23, 1); /* a C string with the byte that ends it */
+    refuses(0, "()0", 23, 2); /* T26 */
+    types_as(&c, 0, "1\0", 2, typed_answer(23, 1, c.top)); /* a C string with the byte that ends it */
 }
 
 static void typed_rows_of_refusals(void)
@@ -436,20 +457,20 @@ static void typed_rows_of_refusals(void)
     types(fresh_one(17), 15, "7", 0, 0);
     refuses(16, "x", 20, 0), refuses(SIZE_MAX, "x", 20, 0), refuses(SIZE_MAX, "", 20, 0);
     start(0, 0), put(65, 0), put(66, 0), put(ZELMOTAR_BRACKET_CELL(16, 18)); /* T21 */
-    refuses(16, "x", 3, 18), refuses(SIZE_MAX, "", 3, 18);
+    refuses_damaged(16, "x", 5, 18), refuses_damaged(SIZE_MAX, "", 5, 18);
     c.top = 101;
     refuses(16, "x", 2, 0);
     c.words_n = 30;
     refuses(16, "x", 1, 0);
     start_with(17, 0, 16, 16), put(0, 0); /* T27 */
-    refuses(0, "1", 3, 16), refuses(16, "0", 3, 16);
+    refuses_damaged(0, "1", 4, 16), refuses_damaged(16, "0", 4, 16);
 }
 
 /* A call on a store: its status, with value 0, and the case's store as the one that it leaves. */
 static void runs(const struct test_case *before, uint32_t operation, uint32_t d, uint32_t a, uint32_t b,
                  uint32_t status)
 {
-    const zelmotar_reply expected = {ZELMOTAR_DONE, 0, c.top};
+    const zelmotar_reply expected = reply_of(ZELMOTAR_DONE, c.top);
     uint32_t call[4];
     spell(call, operation, d, a, b);
     for (place = LOW; place <= HIGH; place++) {
@@ -574,9 +595,8 @@ static void collected_p2(void)
 
 /* A store saved to so many bytes: the answer that is expected, with the case's `top`; the case's store as the one that
  * is left; and its file and zeros behind it, or zeros alone. */
-static void saves(const struct test_case *before, size_t space_n, uint32_t status, uint32_t value)
+static void saves_as(const struct test_case *before, size_t space_n, zelmotar_saved expected)
 {
-    const zelmotar_saved expected = {status, value, c.top, status == ZELMOTAR_DONE ? c.file_n : 0};
     EXPECT(before->words_n == c.words_n);
     for (place = LOW; place <= HIGH; place++) {
         uint32_t *words = lend(STORE, before->words, before->words_n, PROT_READ | PROT_WRITE);
@@ -590,11 +610,23 @@ static void saves(const struct test_case *before, size_t space_n, uint32_t statu
     }
 }
 
+static void saves(const struct test_case *before, size_t space_n, uint32_t status)
+{
+    const zelmotar_saved expected = {status, 0, 0, c.top, status == ZELMOTAR_DONE ? c.file_n : 0};
+    saves_as(before, space_n, expected);
+}
+
+/* The case's store, which is not saved, as this cell breaks this rule. */
+static void saves_damaged(size_t space_n, uint32_t rule, uint32_t cell)
+{
+    const zelmotar_saved expected = {ZELMOTAR_DAMAGED, rule, cell, c.top, 0};
+    saves_as(&c, space_n, expected);
+}
+
 /* The case's file loaded into so many words, with so many bytes between it and the page that faults: the answer that is
  * expected; the case's store, or every word as it was lent. */
-static void loads_beside(size_t between, size_t loaded_n, uint32_t status, uint32_t value)
+static void loads_as(size_t between, size_t loaded_n, zelmotar_reply expected)
 {
-    const zelmotar_reply expected = {status, value, status == ZELMOTAR_DONE ? c.top : 0};
     static uint8_t lent[MOST_FILE];
     for (place = LOW; place <= HIGH; place++) {
         size_t shift = place == LOW ? between : 0;
@@ -604,37 +636,49 @@ static void loads_beside(size_t between, size_t loaded_n, uint32_t status, uint3
         file = (const uint8_t *)lend(TEXT, lent, c.file_n + between, PROT_READ) + shift;
         doing = "zelmotar_load";
         EXPECT(same_reply(zelmotar_load(words, loaded_n, file, c.file_n), expected));
-        if (status == ZELMOTAR_DONE)
+        if (expected.status == ZELMOTAR_DONE)
             memcpy(plain[STORE], c.words, loaded_n * sizeof *c.words);
         expect_same(STORE, loaded_n), expect_same(TEXT, c.file_n + between);
     }
 }
 
-static void loads(size_t loaded_n, uint32_t status, uint32_t value) { loads_beside(0, loaded_n, status, value); }
+static void loads_beside(size_t between, size_t loaded_n, uint32_t status)
+{
+    loads_as(between, loaded_n, reply_of(status, status == ZELMOTAR_DONE ? c.top : 0));
+}
+
+static void loads(size_t loaded_n, uint32_t status) { loads_beside(0, loaded_n, status); }
+
+/* A file that is not loaded, as this cell in it breaks this rule. */
+static void loads_damaged(size_t loaded_n, uint32_t rule, uint32_t cell)
+{
+    const zelmotar_reply expected = {ZELMOTAR_DAMAGED, rule, cell, 0};
+    loads_as(0, loaded_n, expected);
+}
 
 static void rows_of_saving(void)
 {
     start_with(20, 0, 0, 0), file_of_none(144, 0, 20, 1); /* S1 */
-    saves(fresh_one(20), 144, 0, 0), saves(fresh_one(20), 160, 0, 0), saves(fresh_one(20), 143, 22, 0);
+    saves(fresh_one(20), 144, 0), saves(fresh_one(20), 160, 0), saves(fresh_one(20), 143, 22);
     collected_p2(); /* S2 to S4 */
-    saves(&p2, 192, 0, 0), saves(&p2, 195, 0, 0), saves(&p2, 191, 22, 0), saves(&p2, 0, 22, 0);
-    saves(&c, 192, 0, 0), saves(&c, 191, 22, 0);
+    saves(&p2, 192, 0), saves(&p2, 195, 0), saves(&p2, 191, 22), saves(&p2, 0, 22);
+    saves(&c, 192, 0), saves(&c, 191, 22);
     c = p2, ZELMOTAR_LEFT(c.words, 21) = 23; /* S5 to S7: 1, 2 and 3, each before the next, and all before 22 */
-    saves(&c, 5, 3, 21), saves(&c, 192, 3, 21), saves(&c, 0, 3, 21);
-    c.top = 25, saves(&c, 5, 2, 0);
-    c.top = 0, saves(&c, 192, 2, 0);
-    c.words_n = 3, saves(&c, 5, 1, 0), saves(&c, 0, 1, 0);
-    start_with(17, 0, 16, 16), put(0, 0), saves(&c, 152, 3, 16); /* S8 */
+    saves_damaged(5, 5, 21), saves_damaged(192, 5, 21), saves_damaged(0, 5, 21);
+    c.top = 25, saves(&c, 5, 2);
+    c.top = 0, saves(&c, 192, 2);
+    c.words_n = 3, saves(&c, 5, 1), saves(&c, 0, 1);
+    start_with(17, 0, 16, 16), put(0, 0), saves_damaged(152, 4, 16); /* S8 */
 }
 
 static void rows_of_loading(void)
 {
     start_with(20, 0, 0, 0), file_of_none(144, 0, 20, 1); /* L1 */
-    loads(40, 0, 0);
-    collected_p2(), loads(48, 0, 0);
-    precede(5), loads(48, 0, 0); /* L2 */
+    loads(40, 0);
+    collected_p2(), loads(48, 0);
+    precede(5), loads(48, 0); /* L2 */
     start_with(17, 0, 16, 16), put(65, 0), file_of_one(65, 0, 16, ZELMOTAR_BRACKET + 16, 17); /* L12 */
-    loads(34, 0, 0);
+    loads(34, 0);
 }
 
 /* Rows of files that are refused for their trailer, whatever is lent, or for the number of words lent. */
@@ -643,44 +687,44 @@ static void rows_of_trailers(void)
     static const size_t lent[5] = {40, 0, 32, 38, 8192};
     size_t i;
     for (i = 0; i < 5; i++) {
-        c.file_n = 0, loads(lent[i], 30, 0); /* L3 */
-        file_of_none(144, 0, 20, 1), c.file_n = 15, loads(lent[i], 30, 0);
-        c.file_n = 0, add_trailer(7, 7, 7, 7), loads(lent[i], 31, 0); /* L4 */
-        file_of_none(144, 0, 20, 2), loads(lent[i], 31, 0);
-        file_of_none(143, 0, 20, 0), loads(lent[i], 31, 0);
-        file_of_none(144, 0, 20, 257), loads(lent[i], 31, 0);
-        file_of_none(143, 0, 20, 1), loads(lent[i], 32, 0); /* L5 */
-        file_of_none(145, 0, 20, 1), loads(lent[i], 32, 0);
-        file_of_none(152, 1, 20, 1), loads(lent[i], 32, 0);
-        file_of_none(145, 0, 20, 1), precede(8), loads(lent[i], 32, 0);
-        c.file_n = 0, add_trailer(144, 0, 20, 1), loads(lent[i], 32, 0);
-        file_of_none(144, 0x20000000u, 20, 1), loads(lent[i], 32, 0); /* L6 */
-        file_of_none(0xfffffff8u, 0x20000000u - 19, 20, 1), loads(lent[i], 32, 0);
-        file_of_none(144, 0xffffffffu, 20, 1), loads(lent[i], 32, 0);
-        file_of_none(143, 0, 15, 1), loads(lent[i], 32, 0);
-        file_of_none(144, 0, 15, 1), loads(lent[i], 33, 0); /* L7 */
-        file_of_none(144, 0, 4097, 1), loads(lent[i], 33, 0);
-        file_of_none(144, 0, 0x80000014u, 1), loads(lent[i], 33, 0);
-        file_of_one(65, 0, 16, ZELMOTAR_BRACKET + 16, 16), loads(lent[i], 33, 0);
-        file_of_none(144, 0, 21, 1), loads(lent[i], 35, 0); /* L8 */
+        c.file_n = 0, loads(lent[i], 30); /* L3 */
+        file_of_none(144, 0, 20, 1), c.file_n = 15, loads(lent[i], 30);
+        c.file_n = 0, add_trailer(7, 7, 7, 7), loads(lent[i], 31); /* L4 */
+        file_of_none(144, 0, 20, 2), loads(lent[i], 31);
+        file_of_none(143, 0, 20, 0), loads(lent[i], 31);
+        file_of_none(144, 0, 20, 257), loads(lent[i], 31);
+        file_of_none(143, 0, 20, 1), loads(lent[i], 32); /* L5 */
+        file_of_none(145, 0, 20, 1), loads(lent[i], 32);
+        file_of_none(152, 1, 20, 1), loads(lent[i], 32);
+        file_of_none(145, 0, 20, 1), precede(8), loads(lent[i], 32);
+        c.file_n = 0, add_trailer(144, 0, 20, 1), loads(lent[i], 32);
+        file_of_none(144, 0x20000000u, 20, 1), loads(lent[i], 32); /* L6 */
+        file_of_none(0xfffffff8u, 0x20000000u - 19, 20, 1), loads(lent[i], 32);
+        file_of_none(144, 0xffffffffu, 20, 1), loads(lent[i], 32);
+        file_of_none(143, 0, 15, 1), loads(lent[i], 32);
+        file_of_none(144, 0, 15, 1), loads(lent[i], 33); /* L7 */
+        file_of_none(144, 0, 4097, 1), loads(lent[i], 33);
+        file_of_none(144, 0, 0x80000014u, 1), loads(lent[i], 33);
+        file_of_one(65, 0, 16, ZELMOTAR_BRACKET + 16, 16), loads(lent[i], 33);
+        file_of_none(144, 0, 21, 1), loads(lent[i], 35); /* L8 */
     }
-    file_of_none(144, 0, 20, 1), loads(42, 35, 0), loads(39, 35, 0), loads(41, 35, 0), loads(20, 35, 0);
-    file_of_one(65, 1, 16, ZELMOTAR_BRACKET + 16, 17), loads(32, 35, 0);
+    file_of_none(144, 0, 20, 1), loads(42, 35), loads(39, 35), loads(41, 35), loads(20, 35);
+    file_of_one(65, 1, 16, ZELMOTAR_BRACKET + 16, 17), loads(32, 35);
 }
 
 /* Rows of files that are refused for a cell. */
 static void rows_of_cells(void)
 {
-    file_of_one(65, 1, 16, ZELMOTAR_BRACKET + 16, 17), loads(34, 3, 16); /* L9 */
-    file_of_one(65, 0, 17, ZELMOTAR_BRACKET + 17, 17), loads(34, 3, 0);
-    file_of_one(65, 1, 16, 16, 17), loads(34, 3, 0);
-    file_of_one(65, 1, ZELMOTAR_EMPTY_CELL, 17), loads(34, 3, 16); /* L10 */
-    file_of_one(65, 0, ZELMOTAR_EMPTY_CELL, 17), loads(34, 34, 0); /* L11 */
+    file_of_one(65, 1, 16, ZELMOTAR_BRACKET + 16, 17), loads_damaged(34, 4, 16); /* L9 */
+    file_of_one(65, 0, 17, ZELMOTAR_BRACKET + 17, 17), loads_damaged(34, 5, 0);
+    file_of_one(65, 1, 16, 16, 17), loads_damaged(34, 2, 0);
+    file_of_one(65, 1, ZELMOTAR_EMPTY_CELL, 17), loads_damaged(34, 4, 16); /* L10 */
+    file_of_one(65, 0, ZELMOTAR_EMPTY_CELL, 17), loads(34, 34); /* L11 */
     c.file_n = 0, add_cell(65, 0), add_cell(ZELMOTAR_BRACKET_CELL(16, 16)); /* held, and still not reached */
-    add_empty(16), add_trailer(160, 2, 20, 1), loads(40, 34, 0);
-    file_of_one(0, 0, 16, ZELMOTAR_BRACKET + 16, 17), loads(34, 3, 16); /* L13 */
-    file_of_one(0, 0, ZELMOTAR_EMPTY_CELL, 17), loads(34, 3, 16);
-    start_with(17, 0, 16, 16), put(1, 0), file_of_one(1, 0, 16, ZELMOTAR_BRACKET + 16, 17), loads(34, 0, 0);
+    add_empty(16), add_trailer(160, 2, 20, 1), loads(40, 34);
+    file_of_one(0, 0, 16, ZELMOTAR_BRACKET + 16, 17), loads_damaged(34, 4, 16); /* L13 */
+    file_of_one(0, 0, ZELMOTAR_EMPTY_CELL, 17), loads_damaged(34, 4, 16);
+    start_with(17, 0, 16, 16), put(1, 0), file_of_one(1, 0, 16, ZELMOTAR_BRACKET + 16, 17), loads(34, 0);
 }
 
 /* The case's file, into the words of P2, held against the second reader. */
@@ -698,7 +742,7 @@ static void every_file(void)
     size_t i;
     collected_p2();
     for (i = 0; i <= 8; i++)
-        loads_beside(i, 48, 0, 0), loads_beside(i, 46, 35, 0);
+        loads_beside(i, 48, 0), loads_beside(i, 46, 35);
     for (i = 0; i < 8 * 200; i++) {
         collected_p2(), precede(8), c.file[i / 8] ^= (uint8_t)(1u << i % 8);
         load_p2();
@@ -717,8 +761,8 @@ static void every_file(void)
 static void longest_file(void)
 {
     make_longest(&c);
-    saves(&c, c.file_n, 0, 0), saves(&c, c.file_n - 1, 22, 0), loads(c.words_n, 0, 0);
-    c.file[0] = 1, loads(c.words_n, 3, ZELMOTAR_REGISTERS);
+    saves(&c, c.file_n, 0), saves(&c, c.file_n - 1, 22), loads(c.words_n, 0);
+    c.file[0] = 1, loads_damaged(c.words_n, 3, ZELMOTAR_REGISTERS); /* it is an empty bracket */
 }
 
 /* Types a text into a register of a small store with a word on either side, and holds it against the second reader and

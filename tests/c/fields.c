@@ -1,8 +1,11 @@
 /* fields: the layout of the five structs that come back. Each field has its place and size, and is read by
- * name and by its bytes from answers whose fields all differ. */
+ * name and by its bytes from answers whose fields all differ. Every function that tells of a damaged cell hands on the
+ * rule that it breaks, and the rule is 0 with every other status. */
 #include <string.h>
 
 #include "expect.h"
+#include "files.h"
+#include "rules.h"
 #include "zelmotar.h"
 
 #define WORDS 64
@@ -12,45 +15,40 @@ static uint32_t words[WORDS];
 /* Whether the bytes at a place of a struct are those of a number. */
 #define AT(place, field, number) (memcmp((const char *)&(place) + offsetof_##field, &(number), sizeof(number)) == 0)
 
-enum { offsetof_status = 0, offsetof_value = 4, offsetof_top = 8, offsetof_from = 0, offsetof_to = sizeof(size_t) };
-enum { offsetof_text_value = sizeof(size_t), offsetof_length = 2 * sizeof(size_t) }; /* of a text; its status is at 0 */
-enum { offsetof_typed_value = sizeof(size_t), offsetof_typed_top = 2 * sizeof(size_t) }; /* of typing, likewise */
-enum { offsetof_saved_length = 8 + sizeof(size_t) }; /* of saving; the rest is as in a reply */
+/* All answers begin alike. Their values differ in width, but what follows a value is as wide as a size_t, and so stands
+ * in one place behind either. */
+enum { offsetof_status = 0, offsetof_rule = 4, offsetof_value = 8, offsetof_top = 8 + sizeof(size_t) };
+enum { offsetof_length = 8 + sizeof(size_t) };           /* of a text */
+enum { offsetof_saved_length = 8 + 2 * sizeof(size_t) }; /* of saving, behind top */
+enum { offsetof_from = 0, offsetof_to = sizeof(size_t) };
+
+/* Whether a field of a struct has this place and this size. */
+#define STANDS(type, field, place, size) (offsetof(type, field) == (place) && sizeof(((type *)0)->field) == (size))
+
+/* Whether a struct begins with a status and a rule. */
+#define BEGINS(type) (STANDS(type, status, offsetof_status, 4) && STANDS(type, rule, offsetof_rule, 4))
 
 static void layout(void)
 {
-    EXPECT(offsetof(zelmotar_reply, status) == offsetof_status);
-    EXPECT(offsetof(zelmotar_reply, value) == offsetof_value);
-    EXPECT(offsetof(zelmotar_reply, top) == offsetof_top);
-    EXPECT(sizeof(((zelmotar_reply *)0)->status) == 4 && sizeof(((zelmotar_reply *)0)->value) == 4);
-    EXPECT(sizeof(((zelmotar_reply *)0)->top) == sizeof(size_t));
-    EXPECT(sizeof(zelmotar_reply) == 8 + sizeof(size_t));
-    EXPECT(offsetof(zelmotar_span, from) == offsetof_from && offsetof(zelmotar_span, to) == offsetof_to);
-    EXPECT(sizeof(((zelmotar_span *)0)->from) == sizeof(size_t) && sizeof(((zelmotar_span *)0)->to) == sizeof(size_t));
-    EXPECT(sizeof(zelmotar_span) == 2 * sizeof(size_t));
-    EXPECT(offsetof(zelmotar_text, status) == offsetof_status && offsetof(zelmotar_text, value) == offsetof_text_value);
-    EXPECT(offsetof(zelmotar_text, length) == offsetof_length && sizeof(((zelmotar_text *)0)->status) == 4);
-    EXPECT(sizeof(((zelmotar_text *)0)->value) == sizeof(size_t));
-    EXPECT(sizeof(((zelmotar_text *)0)->length) == sizeof(size_t));
-    EXPECT(sizeof(zelmotar_text) == 3 * sizeof(size_t));
-    EXPECT(offsetof(zelmotar_typed, status) == offsetof_status && sizeof(((zelmotar_typed *)0)->status) == 4);
-    EXPECT(offsetof(zelmotar_typed, value) == offsetof_typed_value);
-    EXPECT(offsetof(zelmotar_typed, top) == offsetof_typed_top);
-    EXPECT(sizeof(((zelmotar_typed *)0)->value) == sizeof(size_t));
-    EXPECT(sizeof(((zelmotar_typed *)0)->top) == sizeof(size_t));
-    EXPECT(sizeof(zelmotar_typed) == 3 * sizeof(size_t));
-    EXPECT(offsetof(zelmotar_saved, status) == offsetof_status && sizeof(((zelmotar_saved *)0)->status) == 4);
-    EXPECT(offsetof(zelmotar_saved, value) == offsetof_value && sizeof(((zelmotar_saved *)0)->value) == 4);
-    EXPECT(offsetof(zelmotar_saved, top) == offsetof_top && sizeof(((zelmotar_saved *)0)->top) == sizeof(size_t));
-    EXPECT(offsetof(zelmotar_saved, length) == offsetof_saved_length);
-    EXPECT(sizeof(((zelmotar_saved *)0)->length) == sizeof(size_t));
-    EXPECT(sizeof(zelmotar_saved) == 8 + 2 * sizeof(size_t));
+    const size_t wide = sizeof(size_t);
+    EXPECT(BEGINS(zelmotar_reply) && sizeof(zelmotar_reply) == 8 + 2 * wide);
+    EXPECT(STANDS(zelmotar_reply, value, offsetof_value, 4) && STANDS(zelmotar_reply, top, offsetof_top, wide));
+    EXPECT(STANDS(zelmotar_span, from, offsetof_from, wide) && STANDS(zelmotar_span, to, offsetof_to, wide));
+    EXPECT(sizeof(zelmotar_span) == 2 * wide);
+    EXPECT(BEGINS(zelmotar_text) && sizeof(zelmotar_text) == 8 + 2 * wide);
+    EXPECT(STANDS(zelmotar_text, value, offsetof_value, wide) && STANDS(zelmotar_text, length, offsetof_length, wide));
+    EXPECT(BEGINS(zelmotar_typed) && sizeof(zelmotar_typed) == 8 + 2 * wide);
+    EXPECT(STANDS(zelmotar_typed, value, offsetof_value, wide) && STANDS(zelmotar_typed, top, offsetof_top, wide));
+    EXPECT(BEGINS(zelmotar_saved) && sizeof(zelmotar_saved) == 8 + 3 * wide);
+    EXPECT(STANDS(zelmotar_saved, value, offsetof_value, 4) && STANDS(zelmotar_saved, top, offsetof_top, wide));
+    EXPECT(STANDS(zelmotar_saved, length, offsetof_saved_length, wide));
 }
 
 /* An answer, field by field: by name and by bytes. */
-static void reads(zelmotar_reply answer, uint32_t status, uint32_t value, size_t top)
+static void reads(zelmotar_reply answer, uint32_t status, uint32_t rule, uint32_t value, size_t top)
 {
     EXPECT(answer.status == status && AT(answer, status, status));
+    EXPECT(answer.rule == rule && AT(answer, rule, rule));
     EXPECT(answer.value == value && AT(answer, value, value));
     EXPECT(answer.top == top && AT(answer, top, top));
 }
@@ -66,27 +64,46 @@ static void symbols(size_t top, uint32_t l, uint32_t r)
         ZELMOTAR_FIRST_WORD(words, c) = 7;
 }
 
-/* Register 0 on the symbols 17 and 18, and cell 19 a bracket around itself. */
-static void damaged_store(void)
+/* For each rule a cell of a store whose `top` is 21, and the words with which it breaks that rule. */
+static const struct damage {
+    uint32_t cell, first, second;
+} damages[RULES] = {
+    {0, 17, ZELMOTAR_BRACKET + 18},  /* none */
+    {20, 7, ZELMOTAR_USED},          /* a symbol with a used bit */
+    {6, 17, 18},                     /* a register without its bracket bit */
+    {9, 17, ZELMOTAR_BRACKET},       /* a register with a left end alone */
+    {18, 7, 18},                     /* a symbol with a right end */
+    {19, 19, ZELMOTAR_BRACKET + 19}, /* a bracket around itself */
+    {25, 7, 0},                      /* a symbol beyond top */
+};
+
+/* Register 0 on the symbols 17 and 18, and the one cell that breaks the rule. */
+static void damaged_store(uint32_t rule)
 {
-    const uint32_t knot[2] = {ZELMOTAR_BRACKET_CELL(19, 19)};
+    const struct damage damage = damages[rule];
     symbols(21, 17, 18);
-    memcpy(words + 38, knot, sizeof knot);
+    ZELMOTAR_FIRST_WORD(words, damage.cell) = damage.first;
+    ZELMOTAR_SECOND_WORD(words, damage.cell) = damage.second;
 }
 
 static void answers(void)
 {
     const size_t far = SIZE_MAX / 255 * 0xa5 - 1; /* each byte of it is set */
-    damaged_store();
-    reads(zelmotar_check(words, WORDS, 21), 3, 19, 21);
-    reads(zelmotar_collect(words, WORDS, 21), 3, 19, 21);
-    reads(zelmotar_run(words, WORDS, 21, words, 0, words, 0), 3, 19, 21);
-    reads(zelmotar_check(words, WORDS, far), 2, 0, far);
-    reads(zelmotar_collect(words, WORDS, far), 2, 0, far);
-    reads(zelmotar_fresh(words, WORDS), 0, 0, 16);
-    reads(zelmotar_fresh(words, WORDS - 1), 1, 0, 0);
+    const uint32_t calls[4] = {ZELMOTAR_LIVE, 0, 0, 0};
+    uint32_t space[2] = {0, 0};
+    reads(zelmotar_fresh(words, WORDS), 0, 0, 0, 16);
+    reads(zelmotar_fresh(words, WORDS - 1), 1, 0, 0, 0);
+    damaged_store(5);
+    reads(zelmotar_check(words, WORDS, far), 2, 0, 0, far);
+    reads(zelmotar_check(words, WORDS - 1, far), 1, 0, 0, far);
+    reads(zelmotar_collect(words, WORDS, far), 2, 0, 0, far);
+    reads(zelmotar_run(words, WORDS, far, calls, 4, space, 2), 2, 0, 0, far);
     symbols(21, 17, 18);
-    reads(zelmotar_collect(words, WORDS, 21), 0, 2, 18);
+    reads(zelmotar_check(words, WORDS, 21), 0, 0, 0, 21);
+    reads(zelmotar_run(words, WORDS, 21, calls, 3, space, 2), 4, 0, 0, 21);
+    reads(zelmotar_run(words, WORDS, 21, calls, 4, space, 1), 5, 0, 0, 21);
+    reads(zelmotar_run(words, WORDS, 21, calls, 4, space, 2), 0, 0, 0, 21);
+    reads(zelmotar_collect(words, WORDS, 21), 0, 0, 2, 18);
 }
 
 static void spans(void)
@@ -100,10 +117,11 @@ static void spans(void)
 }
 
 /* What a print answers, field by field: by name and by bytes. */
-static void reads_text(zelmotar_text answer, uint32_t status, size_t value, size_t length)
+static void reads_text(zelmotar_text answer, uint32_t status, uint32_t rule, size_t value, size_t length)
 {
     EXPECT(answer.status == status && AT(answer, status, status));
-    EXPECT(answer.value == value && AT(answer, text_value, value));
+    EXPECT(answer.rule == rule && AT(answer, rule, rule));
+    EXPECT(answer.value == value && AT(answer, value, value));
     EXPECT(answer.length == length && AT(answer, length, length));
 }
 
@@ -112,83 +130,115 @@ static void texts(void)
 {
     static uint8_t text[2000];
     uint32_t c;
-    damaged_store();
-    reads_text(zelmotar_print(words, WORDS, 21, 0, text, 5), 3, 19, 0);
-    reads_text(zelmotar_print(words, WORDS, 50, 0, text, 5), 2, 0, 0);
+    damaged_store(5);
+    reads_text(zelmotar_print(words, WORDS, 50, 0, text, 5), 2, 0, 0, 0);
+    reads_text(zelmotar_print(words, WORDS - 1, 50, 0, text, 5), 1, 0, 0, 0);
     symbols(18, 16, 17);
-    reads_text(zelmotar_print(words, WORDS, 18, 0, text, 5), 0, 0, 3);
-    reads_text(zelmotar_print(words, WORDS, 18, 16, text, 5), 20, 0, 0);
-    reads_text(zelmotar_print(words, WORDS, 18, 0, text, 2), 22, 0, 0);
+    reads_text(zelmotar_print(words, WORDS, 18, 0, text, 5), 0, 0, 0, 3);
+    reads_text(zelmotar_print(words, WORDS, 18, 16, text, 5), 20, 0, 0, 0);
+    reads_text(zelmotar_print(words, WORDS, 18, 0, text, 2), 22, 0, 0, 0);
     for (c = 18; c < 32; c += 2) {
         words[2 * c] = words[2 * c + 2] = c - 2;
         words[2 * c + 1] = words[2 * c + 3] = ZELMOTAR_BRACKET + c - 1;
     }
     words[0] = 30, words[1] = ZELMOTAR_BRACKET + 31;
-    reads_text(zelmotar_print(words, WORDS, 32, 0, text, 2000), 0, 0, 1019);
+    reads_text(zelmotar_print(words, WORDS, 32, 0, text, 2000), 0, 0, 0, 1019);
 }
 
 /* What typing answers, field by field: by name and by bytes. */
-static void reads_typed(zelmotar_typed answer, uint32_t status, size_t value, size_t top)
+static void reads_typed(zelmotar_typed answer, uint32_t status, uint32_t rule, size_t value, size_t top)
 {
     EXPECT(answer.status == status && AT(answer, status, status));
-    EXPECT(answer.value == value && AT(answer, typed_value, value));
-    EXPECT(answer.top == top && AT(answer, typed_top, top));
+    EXPECT(answer.rule == rule && AT(answer, rule, rule));
+    EXPECT(answer.value == value && AT(answer, value, value));
+    EXPECT(answer.top == top && AT(answer, top, top));
 }
 
-/* The last text is in order up to an offset that two bytes of a word have to count. */
+/* The longest text is in order up to an offset that two bytes of a word have to count. */
 static void typings(void)
 {
     const size_t far = SIZE_MAX / 255 * 0xa5 - 1; /* each byte of it is set */
     static uint8_t text[1001];
     size_t i;
     text[0] = '1', text[1] = ' ', text[2] = '2';
-    damaged_store();
-    reads_typed(zelmotar_type(words, WORDS, 21, 0, text, 3), 3, 19, 21);
-    reads_typed(zelmotar_type(words, WORDS, far, 0, text, 3), 2, 0, far);
-    reads_typed(zelmotar_type(words, WORDS - 1, far, 0, text, 3), 1, 0, far);
+    damaged_store(5);
+    reads_typed(zelmotar_type(words, WORDS, far, 0, text, 3), 2, 0, 0, far);
+    reads_typed(zelmotar_type(words, WORDS - 1, far, 0, text, 3), 1, 0, 0, far);
     symbols(17, 0, 0);
-    reads_typed(zelmotar_type(words, WORDS, 17, 16, text, 3), 20, 0, 17);
-    reads_typed(zelmotar_type(words, WORDS, 17, far, text, 3), 20, 0, 17);
-    reads_typed(zelmotar_type(words, WORDS, 17, 0, text, 2), 23, 2, 17);
-    reads_typed(zelmotar_type(words, WORDS, 17, 0, text, 3), 0, 0, 19);
+    reads_typed(zelmotar_type(words, WORDS, 17, 16, text, 3), 20, 0, 0, 17);
+    reads_typed(zelmotar_type(words, WORDS, 17, far, text, 3), 20, 0, 0, 17);
+    reads_typed(zelmotar_type(words, WORDS, 17, 0, text, 2), 23, 0, 2, 17);
+    reads_typed(zelmotar_type(words, WORDS, 17, 0, (const uint8_t *)"1 0", 3), 13, 0, 2, 17);
+    reads_typed(zelmotar_type(words, WORDS, 17, 0, text, 3), 0, 0, 0, 19);
     for (i = 0; i < 1000; i++)
         text[i] = i % 2 == 0 ? '7' : ' ';
     text[1000] = ')';
-    reads_typed(zelmotar_type(words, WORDS, 19, 0, text, 1000), 23, 1000, 19);
-    reads_typed(zelmotar_type(words, WORDS, 19, 0, text, 1001), 23, 1000, 19);
-    reads_typed(zelmotar_type(words, WORDS, 19, 0, text, 999), 16, 0, 18);
+    reads_typed(zelmotar_type(words, WORDS, 19, 0, text, 1000), 23, 0, 1000, 19);
+    reads_typed(zelmotar_type(words, WORDS, 19, 0, text, 1001), 23, 0, 1000, 19);
+    reads_typed(zelmotar_type(words, WORDS, 19, 0, text, 999), 16, 0, 0, 18);
+    memset(text, '(', 65);
+    reads_typed(zelmotar_type(words, WORDS, 18, 0, text, 65), 21, 0, 64, 18);
 }
 
 /* What saving answers, field by field: by name and by bytes. */
-static void reads_saved(zelmotar_saved answer, uint32_t status, uint32_t value, size_t top, size_t length)
+static void reads_saved(zelmotar_saved answer, uint32_t status, uint32_t rule, uint32_t value, size_t top,
+                        size_t length)
 {
     EXPECT(answer.status == status && AT(answer, status, status));
+    EXPECT(answer.rule == rule && AT(answer, rule, rule));
     EXPECT(answer.value == value && AT(answer, value, value));
     EXPECT(answer.top == top && AT(answer, top, top));
     EXPECT(answer.length == length && AT(answer, saved_length, length));
 }
 
-/* The last store is full, and its file longer than one byte can count. A file with a damaged cell has all fields of a
- * reply that can be other than 0. */
+/* The last store is full, and its file longer than one byte can count. */
 static void files(void)
 {
     const size_t far = SIZE_MAX / 255 * 0xa5 - 1; /* each byte of it is set */
     static uint8_t file[300];
-    damaged_store();
-    reads_saved(zelmotar_save(words, WORDS, 21, file, 300), 3, 19, 21, 0);
-    reads_saved(zelmotar_save(words, WORDS, far, file, 300), 2, 0, far, 0);
-    reads_saved(zelmotar_save(words, WORDS - 1, far, file, 300), 1, 0, far, 0);
+    damaged_store(5);
+    reads_saved(zelmotar_save(words, WORDS, far, file, 300), 2, 0, 0, far, 0);
+    reads_saved(zelmotar_save(words, WORDS - 1, far, file, 300), 1, 0, 0, far, 0);
     symbols(21, 17, 18);
-    reads_saved(zelmotar_save(words, WORDS, 21, file, 159), 22, 0, 18, 0);
-    reads_saved(zelmotar_save(words, WORDS, 18, file, 300), 0, 0, 18, 160);
-    reads(zelmotar_load(words, WORDS, file, 160), 0, 0, 18);
-    reads(zelmotar_load(words, WORDS, file, 159), 31, 0, 0);
-    reads(zelmotar_load(words, WORDS - 1, file, 160), 35, 0, 0);
-    file[12] = 1; /* the second word of cell 17 */
-    reads(zelmotar_load(words, WORDS, file, 160), 3, 17, 0);
+    reads(zelmotar_load(words, WORDS, file, put_file(file, words, WORDS, 21)), 34, 0, 0, 0);
+    reads_saved(zelmotar_save(words, WORDS, 21, file, 159), 22, 0, 0, 18, 0);
+    reads_saved(zelmotar_save(words, WORDS, 18, file, 300), 0, 0, 0, 18, 160);
+    reads(zelmotar_load(words, WORDS, file, 160), 0, 0, 0, 18);
+    reads(zelmotar_load(words, WORDS, file, 15), 30, 0, 0, 0);
+    reads(zelmotar_load(words, WORDS, file, 159), 31, 0, 0, 0);
+    reads(zelmotar_load(words, WORDS, file + 1, 159), 32, 0, 0, 0);
+    reads(zelmotar_load(words, WORDS - 1, file, 160), 35, 0, 0, 0);
+    file[152] = 15; /* the capacity */
+    reads(zelmotar_load(words, WORDS, file, 160), 33, 0, 0, 0);
     symbols(32, 16, 31);
-    reads_saved(zelmotar_save(words, WORDS, 32, file, 300), 0, 0, 32, 272);
-    reads(zelmotar_load(words, WORDS, file, 272), 0, 0, 32);
+    reads_saved(zelmotar_save(words, WORDS, 32, file, 300), 0, 0, 0, 32, 272);
+    reads(zelmotar_load(words, WORDS, file, 272), 0, 0, 0, 32);
+}
+
+/* A damaged store, by every function that refuses it: all tell the same cell and the same rule. */
+static void refusals(uint32_t rule, uint32_t cell)
+{
+    uint8_t space[300] = {'7'};
+    damaged_store(rule);
+    reads(zelmotar_check(words, WORDS, 21), 3, rule, cell, 21);
+    reads(zelmotar_collect(words, WORDS, 21), 3, rule, cell, 21);
+    reads(zelmotar_run(words, WORDS, 21, words, 0, words, 0), 3, rule, cell, 21);
+    reads_typed(zelmotar_type(words, WORDS, 21, 0, space, 1), 3, rule, cell, 21);
+    reads_text(zelmotar_print(words, WORDS, 21, 0, space, sizeof space), 3, rule, cell, 0);
+    reads_saved(zelmotar_save(words, WORDS, 21, space, sizeof space), 3, rule, cell, 21, 0);
+}
+
+/* Each rule; and but for the last, whose cell is in no file, that of the file with this cell. */
+static void rules(void)
+{
+    static uint8_t file[300];
+    uint32_t rule;
+    for (rule = 1; rule < RULES; rule++)
+        refusals(rule, damages[rule].cell);
+    for (rule = 1; rule < ZELMOTAR_RULE_BEYOND_TOP; rule++) {
+        damaged_store(rule);
+        reads(zelmotar_load(words, WORDS, file, put_file(file, words, WORDS, 21)), 3, rule, damages[rule].cell, 0);
+    }
 }
 
 int main(void)
@@ -199,5 +249,6 @@ int main(void)
     texts();
     typings();
     files();
+    rules();
     return expect_end();
 }

@@ -2,12 +2,14 @@
  * written apart from the library, from SCOPE 2.5, 5.9 and 5.10.
  *
  * The reader takes a file's store out whole and then judges it. That each heap cell is reached is told by a count
- * (typed.h). Whether a store is sound, and what a collection leaves of it, is the library's own. */
+ * (typed.h), and whether a store is sound by the second judge (rules.h). What a collection leaves of it is the
+ * library's own. */
 #ifndef FILES_H
 #define FILES_H
 
 #include <string.h>
 
+#include "rules.h"
 #include "typed.h"
 #include "zelmotar.h"
 
@@ -52,16 +54,14 @@ static inline size_t put_file(uint8_t *file, const uint32_t *words, size_t n, si
 static inline zelmotar_saved expected_save(uint32_t *words, size_t n, size_t top, uint8_t *space, size_t space_n)
 {
     static uint8_t file[LONGEST_FILE];
-    zelmotar_reply collected = zelmotar_collect(words, n, top);
-    zelmotar_saved answer = {ZELMOTAR_DONE, 0, 0, 0};
+    const zelmotar_reply checked = expected_check(words, n, top);
+    zelmotar_saved answer = {checked.status, checked.rule, checked.value, top, 0};
     size_t length;
-    answer.status = collected.status, answer.top = collected.top;
     memset(space, 0, space_n);
-    if (collected.status != ZELMOTAR_DONE) {
-        answer.value = collected.value;
+    if (checked.status != ZELMOTAR_DONE)
         return answer;
-    }
-    length = put_file(file, words, n, collected.top);
+    answer.top = zelmotar_collect(words, n, top).top;
+    length = put_file(file, words, n, answer.top);
     if (length > space_n) {
         answer.status = ZELMOTAR_SHORT_SPACE;
         return answer;
@@ -108,13 +108,6 @@ static inline void take_store(uint32_t *words, struct trailer t, const uint8_t *
     }
 }
 
-static inline zelmotar_reply reply_of(uint32_t status, uint32_t value, size_t top)
-{
-    zelmotar_reply answer;
-    answer.status = status, answer.value = value, answer.top = top;
-    return answer;
-}
-
 /* What loading should answer, and what it should leave in the words (SCOPE 5.9). */
 static inline zelmotar_reply expected_load(uint32_t *words, size_t n, const uint8_t *file, size_t file_n)
 {
@@ -124,31 +117,28 @@ static inline zelmotar_reply expected_load(uint32_t *words, size_t n, const uint
     uint32_t status;
     size_t top;
     if (file_n < 16)
-        return reply_of(ZELMOTAR_SHORT_FILE, 0, 0);
+        return reply_of(ZELMOTAR_SHORT_FILE, 0);
     t = trailer_of(file, file_n);
     status = judge_trailer(t, file_n, n);
     if (status != ZELMOTAR_DONE)
-        return reply_of(status, 0, 0);
+        return reply_of(status, 0);
     take_store(store, t, file + (file_n - (size_t)t.distance));
     top = ZELMOTAR_REGISTERS + (size_t)t.cells;
-    checked = zelmotar_check(store, n, top);
-    if (checked.status != ZELMOTAR_DONE)
-        return reply_of(checked.status, checked.value, 0);
+    checked = expected_check(store, n, top);
+    if (checked.status != ZELMOTAR_DONE) {
+        checked.top = 0;
+        return checked;
+    }
     if (reached_without(store, top, SIZE_MAX) != t.cells)
-        return reply_of(ZELMOTAR_NOT_COLLECTED, 0, 0);
+        return reply_of(ZELMOTAR_NOT_COLLECTED, 0);
     memcpy(words, store, n * sizeof *words);
-    return reply_of(ZELMOTAR_DONE, 0, top);
+    return checked;
 }
 
 static inline int same_saved(zelmotar_saved one, zelmotar_saved other)
 {
-    return one.status == other.status && one.value == other.value && one.top == other.top &&
+    return one.status == other.status && one.rule == other.rule && one.value == other.value && one.top == other.top &&
            one.length == other.length;
-}
-
-static inline int same_reply(zelmotar_reply one, zelmotar_reply other)
-{
-    return one.status == other.status && one.value == other.value && one.top == other.top;
 }
 
 #endif

@@ -1,10 +1,10 @@
 /* numbers: every number of zelmotar.h, held against what the library does with it.
  *
- * usage: numbers VERSION, where VERSION is the Rust package's, as 0.1.0
+ * usage: numbers VERSION, where VERSION is the Rust package's, as 0.2.0
  *
  * tools/header-test changes each number by one and sees this test fail. So a status is not only compared with
  * what a call answers: each operation has an effect here that no other has, each limit passes and fails one
- * step beyond, and each macro is used on a cell that the library wrote. */
+ * step beyond, each rule is broken alone and beside others, and each macro is used on a cell that the library wrote. */
 #include <string.h>
 
 #include "expect.h"
@@ -27,7 +27,7 @@ static uint32_t call(uint32_t operation, uint32_t d, uint32_t a, uint32_t b)
     zelmotar_reply answer;
     list[0] = operation, list[1] = d, list[2] = a, list[3] = b;
     answer = zelmotar_run(words, 2 * CELLS, top, list, 4, told, 2);
-    EXPECT(answer.status == 0 && answer.value == 0);
+    EXPECT(answer.status == 0 && answer.rule == 0 && answer.value == 0);
     top = answer.top;
     value = told[1];
     return told[0];
@@ -102,16 +102,18 @@ static void statuses_of_a_request(void)
     words[32] = ZELMOTAR_MIN_CODE - 1;
     answer = zelmotar_check(words, 2 * CELLS, top);
     EXPECT(answer.status == ZELMOTAR_DAMAGED && answer.value == ZELMOTAR_REGISTERS && answer.top == top);
+    EXPECT(answer.rule == ZELMOTAR_RULE_BAD_SYMBOL);
     ZELMOTAR_FIRST_WORD(words, 7) = 1;
     answer = zelmotar_check(words, 2 * CELLS, top);
     EXPECT(answer.status == ZELMOTAR_DAMAGED && answer.value == 7 && answer.top == top);
+    EXPECT(answer.rule == ZELMOTAR_RULE_BAD_EMPTY);
 }
 
 /* Prints a register into text_n bytes and gives the status. */
 static uint32_t print(size_t reg, size_t text_n)
 {
     zelmotar_text answer = zelmotar_print(words, 2 * CELLS, top, reg, text, text_n);
-    EXPECT(answer.value == 0 && (answer.status == 0 || answer.length == 0));
+    EXPECT(answer.rule == 0 && answer.value == 0 && (answer.status == 0 || answer.length == 0));
     return answer.status;
 }
 
@@ -134,6 +136,7 @@ static void statuses_of_a_print(void)
 static uint32_t type(size_t reg, const char *typed)
 {
     zelmotar_typed answer = zelmotar_type(words, 2 * CELLS, top, reg, (const uint8_t *)typed, strlen(typed));
+    EXPECT(answer.rule == 0);
     top = answer.top;
     value = (uint32_t)answer.value;
     return answer.status;
@@ -170,7 +173,7 @@ static void statuses_of_typing(void)
 static uint32_t save(size_t file_n)
 {
     zelmotar_saved answer = zelmotar_save(words, 2 * CELLS, top, file, file_n);
-    EXPECT(answer.value == 0 && (answer.status == 0 || answer.length == 0));
+    EXPECT(answer.rule == 0 && answer.value == 0 && (answer.status == 0 || answer.length == 0));
     top = answer.top, length = answer.length;
     return answer.status;
 }
@@ -206,6 +209,7 @@ static uint32_t load_with(long i, uint32_t word, size_t less)
     memcpy(at, kept, sizeof kept);
     EXPECT(answer.status == ZELMOTAR_DONE ? answer.top == top : answer.top == 0);
     EXPECT(answer.value == (answer.status == ZELMOTAR_DAMAGED ? ZELMOTAR_REGISTERS : 0));
+    EXPECT(answer.rule == (answer.status == ZELMOTAR_DAMAGED ? ZELMOTAR_RULE_BAD_SYMBOL : 0));
     return answer.status;
 }
 
@@ -320,8 +324,110 @@ static void cells_made(void)
         put(18, bracket);
         ZELMOTAR_SECOND_WORD(words, 18) |= stray[i];
         answer = zelmotar_check(words, 2 * CELLS, top);
-        EXPECT(answer.status == 3 && answer.value == 18);
+        EXPECT(answer.status == 3 && answer.rule == ZELMOTAR_RULE_STRAY_BIT && answer.value == 18);
     }
+}
+
+/* A store whose registers 0 and 1 hold the symbols in cells 16 to 18 and the bracket in cell 19 around them, with one
+ * cell set to these words. Gives the rule that the check tells of it, or 0 where the store is still sound. */
+static uint32_t rule_with(size_t c, uint32_t first, uint32_t second)
+{
+    zelmotar_reply answer;
+    start();
+    EXPECT(type(0, "7 8 9") == ZELMOTAR_DONE && call(ZELMOTAR_WRAP, 1, 0, 0) == ZELMOTAR_DONE && top == 20);
+    ZELMOTAR_FIRST_WORD(words, c) = first, ZELMOTAR_SECOND_WORD(words, c) = second;
+    answer = zelmotar_check(words, 2 * CELLS, top);
+    EXPECT(answer.status == (answer.rule == 0 ? ZELMOTAR_DONE : ZELMOTAR_DAMAGED));
+    EXPECT(answer.value == (answer.rule == 0 ? 0 : c) && answer.top == top);
+    return answer.rule;
+}
+
+/* Words of a register: those next to the limits of each rule, and one step beyond. */
+static void rules_of_a_register(void)
+{
+    EXPECT(rule_with(0, ZELMOTAR_EMPTY_CELL) == 0);
+    EXPECT(rule_with(15, ZELMOTAR_BRACKET_CELL(16, 16)) == 0 && rule_with(15, ZELMOTAR_BRACKET_CELL(16, 19)) == 0);
+    EXPECT(rule_with(0, 0, ZELMOTAR_BRACKET | ZELMOTAR_USED) == ZELMOTAR_RULE_STRAY_BIT);
+    EXPECT(rule_with(7, 16, ZELMOTAR_BRACKET | ZELMOTAR_LEFT_CHAIN | 19) == ZELMOTAR_RULE_STRAY_BIT);
+    EXPECT(rule_with(15, 16, ZELMOTAR_BRACKET | ZELMOTAR_RIGHT_CHAIN | 19) == ZELMOTAR_RULE_STRAY_BIT);
+    EXPECT(rule_with(0, ZELMOTAR_SYMBOL_CELL(7)) == ZELMOTAR_RULE_NOT_BRACKET);
+    EXPECT(rule_with(15, 16, 19) == ZELMOTAR_RULE_NOT_BRACKET);
+    EXPECT(rule_with(15, 1, ZELMOTAR_BRACKET) == ZELMOTAR_RULE_BAD_EMPTY);
+    EXPECT(rule_with(15, ZELMOTAR_BRACKET_CELL(15, 16)) == ZELMOTAR_RULE_BAD_ENDS);
+    EXPECT(rule_with(15, ZELMOTAR_BRACKET_CELL(18, 17)) == ZELMOTAR_RULE_BAD_ENDS);
+    EXPECT(rule_with(15, ZELMOTAR_BRACKET_CELL(16, 20)) == ZELMOTAR_RULE_BAD_ENDS);
+    EXPECT(rule_with(0, ZELMOTAR_BRACKET_CELL(0, 1)) == ZELMOTAR_RULE_BAD_ENDS);
+}
+
+static void rules_of_an_occupied_cell(void)
+{
+    EXPECT(rule_with(16, ZELMOTAR_EMPTY_CELL) == 0 && rule_with(19, ZELMOTAR_BRACKET_CELL(16, 18)) == 0);
+    EXPECT(rule_with(16, ZELMOTAR_SYMBOL_CELL(ZELMOTAR_MIN_CODE)) == 0);
+    EXPECT(rule_with(19, ZELMOTAR_SYMBOL_CELL(ZELMOTAR_MAX_CODE)) == 0);
+    EXPECT(rule_with(16, 0, ZELMOTAR_BRACKET | ZELMOTAR_USED) == ZELMOTAR_RULE_STRAY_BIT);
+    EXPECT(rule_with(18, 16, ZELMOTAR_BRACKET | ZELMOTAR_LEFT_CHAIN | 17) == ZELMOTAR_RULE_STRAY_BIT);
+    EXPECT(rule_with(19, 16, ZELMOTAR_BRACKET | ZELMOTAR_RIGHT_CHAIN | 18) == ZELMOTAR_RULE_STRAY_BIT);
+    EXPECT(rule_with(16, 1, ZELMOTAR_BRACKET) == ZELMOTAR_RULE_BAD_EMPTY);
+    EXPECT(rule_with(16, 0, 0) == ZELMOTAR_RULE_BAD_SYMBOL && rule_with(19, 0, 0) == ZELMOTAR_RULE_BAD_SYMBOL);
+    EXPECT(rule_with(16, ZELMOTAR_SYMBOL_CELL(ZELMOTAR_MAX_CODE + 1)) == ZELMOTAR_RULE_BAD_SYMBOL);
+    EXPECT(rule_with(16, 65, 1) == ZELMOTAR_RULE_BAD_SYMBOL && rule_with(19, 16, 18) == ZELMOTAR_RULE_BAD_SYMBOL);
+    EXPECT(rule_with(19, ZELMOTAR_BRACKET_CELL(15, 18)) == ZELMOTAR_RULE_BAD_ENDS);
+    EXPECT(rule_with(19, ZELMOTAR_BRACKET_CELL(18, 17)) == ZELMOTAR_RULE_BAD_ENDS);
+    EXPECT(rule_with(18, ZELMOTAR_BRACKET_CELL(16, 18)) == ZELMOTAR_RULE_BAD_ENDS);
+    EXPECT(rule_with(16, ZELMOTAR_BRACKET_CELL(0, 1)) == ZELMOTAR_RULE_BAD_ENDS);
+}
+
+/* What a cell below `top` may hold, a free cell may not. */
+static void rules_of_a_free_cell(void)
+{
+    EXPECT(rule_with(20, 0, 0) == 0 && rule_with(CELLS - 1, 0, 0) == 0);
+    EXPECT(rule_with(20, 0, ZELMOTAR_USED) == ZELMOTAR_RULE_STRAY_BIT);
+    EXPECT(rule_with(20, 0, ZELMOTAR_LEFT_CHAIN) == ZELMOTAR_RULE_STRAY_BIT);
+    EXPECT(rule_with(CELLS - 1, 0, ZELMOTAR_RIGHT_CHAIN) == ZELMOTAR_RULE_STRAY_BIT);
+    EXPECT(rule_with(20, 1, 0) == ZELMOTAR_RULE_BEYOND_TOP && rule_with(20, 0, 1) == ZELMOTAR_RULE_BEYOND_TOP);
+    EXPECT(rule_with(20, ZELMOTAR_EMPTY_CELL) == ZELMOTAR_RULE_BEYOND_TOP);
+    EXPECT(rule_with(20, ZELMOTAR_BRACKET_CELL(16, 19)) == ZELMOTAR_RULE_BEYOND_TOP);
+    EXPECT(rule_with(CELLS - 1, ZELMOTAR_SYMBOL_CELL(7)) == ZELMOTAR_RULE_BEYOND_TOP);
+}
+
+/* Words that break two rules, if each is read by itself: the lower number is told. 3 is also 5, as the right end 0 is
+ * below the left one. */
+static void rules_together(void)
+{
+    EXPECT(rule_with(7, 0, ZELMOTAR_USED) == ZELMOTAR_RULE_STRAY_BIT);                          /* 1 and 2 */
+    EXPECT(rule_with(7, 20, ZELMOTAR_BRACKET | ZELMOTAR_USED) == ZELMOTAR_RULE_STRAY_BIT);      /* 1 and 3 */
+    EXPECT(rule_with(18, 20, ZELMOTAR_BRACKET | ZELMOTAR_USED) == ZELMOTAR_RULE_STRAY_BIT);
+    EXPECT(rule_with(18, 0, ZELMOTAR_USED) == ZELMOTAR_RULE_STRAY_BIT);                         /* 1 and 4 */
+    EXPECT(rule_with(18, 65, ZELMOTAR_USED | 1) == ZELMOTAR_RULE_STRAY_BIT);
+    EXPECT(rule_with(7, 17, ZELMOTAR_BRACKET | ZELMOTAR_USED | 16) == ZELMOTAR_RULE_STRAY_BIT); /* 1 and 5 */
+    EXPECT(rule_with(18, 16, ZELMOTAR_BRACKET | ZELMOTAR_USED | 18) == ZELMOTAR_RULE_STRAY_BIT);
+    EXPECT(rule_with(20, 1, ZELMOTAR_USED | 1) == ZELMOTAR_RULE_STRAY_BIT);                     /* 1 and 6 */
+    EXPECT(rule_with(7, 0, 0) == ZELMOTAR_RULE_NOT_BRACKET);                                    /* 2 and 4 */
+    EXPECT(rule_with(7, 65, 1) == ZELMOTAR_RULE_NOT_BRACKET);
+    EXPECT(rule_with(7, 20, 16) == ZELMOTAR_RULE_NOT_BRACKET);                                  /* 2 and 5 */
+    EXPECT(rule_with(7, 20, ZELMOTAR_BRACKET) == ZELMOTAR_RULE_BAD_EMPTY);                      /* 3 and 5 */
+    EXPECT(rule_with(18, 20, ZELMOTAR_BRACKET) == ZELMOTAR_RULE_BAD_EMPTY);
+}
+
+/* Of two damaged cells the lower one is told with its own rule, though that of the other has a lower number. */
+static void rules_of_two_cells(void)
+{
+    zelmotar_reply answer;
+    EXPECT(rule_with(20, 0, ZELMOTAR_USED) == ZELMOTAR_RULE_STRAY_BIT);
+    ZELMOTAR_FIRST_WORD(words, 18) = 0;
+    answer = zelmotar_check(words, 2 * CELLS, top);
+    EXPECT(answer.value == 18 && answer.rule == ZELMOTAR_RULE_BAD_SYMBOL);
+    ZELMOTAR_FIRST_WORD(words, 7) = 20, ZELMOTAR_SECOND_WORD(words, 7) = ZELMOTAR_BRACKET | 20;
+    answer = zelmotar_check(words, 2 * CELLS, top);
+    EXPECT(answer.value == 7 && answer.rule == ZELMOTAR_RULE_BAD_ENDS);
+}
+
+/* What is said of numbers that are no rule; tests/c/table.c has the others. */
+static void texts_of_rules(void)
+{
+    EXPECT(strcmp(zelmotar_rule_text(0), "no rule is broken") == 0);
+    EXPECT(strcmp(zelmotar_rule_text(7), "no such rule") == 0);
+    EXPECT(strcmp(zelmotar_rule_text(UINT32_MAX), "no such rule") == 0);
 }
 
 static void version(const char *package)
@@ -351,5 +457,11 @@ int main(int count, char **list)
     masks();
     cells_taken_apart();
     cells_made();
+    rules_of_a_register();
+    rules_of_an_occupied_cell();
+    rules_of_a_free_cell();
+    rules_together();
+    rules_of_two_cells();
+    texts_of_rules();
     return expect_end();
 }

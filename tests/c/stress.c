@@ -3,12 +3,13 @@
  * usage: stress COUNT
  *
  * It is made for valgrind, which sees each byte that is touched outside, and each decision that hangs on a word
- * that nobody wrote: a fresh store, the words for a file and all spaces are lent as malloc gives them. What is printed
- * is held against a second printer (texts.h), what is typed in, word by word, against a second reader and layer
- * (typed.h), and what is saved and loaded, byte by byte and word by word, against a second writer and reader of files
- * (files.h). What is typed in is printed again, and what is printed is typed in again; what is saved is loaded again,
- * and what is loaded is saved again. */
+ * that nobody wrote: a fresh store, the words for a file and all spaces are lent as malloc gives them. What the check
+ * says is held against a second judge of cells (rules.h), what is printed against a second printer (texts.h), what is
+ * typed in, word by word, against a second reader and layer (typed.h), and what is saved and loaded, byte by byte and
+ * word by word, against a second writer and reader of files (files.h). What is typed in is printed again, and what is
+ * printed is typed in again; what is saved is loaded again, and what is loaded is saved again. */
 #include "cases.h"
+#include "rules.h"
 #include "texts.h"
 #include "typed.h"
 
@@ -46,7 +47,9 @@ static void stress_reading(void)
     uint32_t *words = lend(c.words, c.words_n);
     zelmotar_reply answer = zelmotar_check(words, c.words_n, c.top);
     zelmotar_span span = zelmotar_look(words, c.words_n, c.top, c.reg);
-    EXPECT(answer.top == c.top && memcmp(words, c.words, c.words_n * sizeof *words) == 0);
+    EXPECT(same_reply(answer, expected_check(c.words, c.words_n, c.top)));
+    EXPECT(memcmp(words, c.words, c.words_n * sizeof *words) == 0);
+    rules_met[answer.rule]++;
     EXPECT(span.from <= span.to && span.to <= c.words_n);
     EXPECT(answer.status == ZELMOTAR_DONE || span.to == 0);
     free(words);
@@ -56,6 +59,7 @@ static void stress_fresh(void)
 {
     uint32_t *words = lend(NULL, c.words_n);
     zelmotar_reply answer = zelmotar_fresh(words, c.words_n);
+    EXPECT(answer.rule == 0 && answer.value == 0);
     if (answer.status == ZELMOTAR_DONE)
         EXPECT(zelmotar_check(words, c.words_n, answer.top).status == ZELMOTAR_DONE);
     free(words);
@@ -65,25 +69,41 @@ static void stress_collect(void)
 {
     uint32_t *words = lend(c.words, c.words_n);
     zelmotar_reply answer = zelmotar_collect(words, c.words_n, c.top);
-    if (answer.status == ZELMOTAR_DONE)
+    zelmotar_reply checked = expected_check(c.words, c.words_n, c.top);
+    if (checked.status == ZELMOTAR_DONE) {
+        EXPECT(answer.status == ZELMOTAR_DONE && answer.rule == 0);
         EXPECT(answer.top == answer.value + ZELMOTAR_REGISTERS && answer.top <= c.top);
-    else
-        EXPECT(answer.top == c.top && memcmp(words, c.words, c.words_n * sizeof *words) == 0);
+    } else {
+        EXPECT(same_reply(answer, checked) && memcmp(words, c.words, c.words_n * sizeof *words) == 0);
+    }
     free(words);
+}
+
+/* How the case's batch should be refused, if at all (SCOPE 5.1). */
+static zelmotar_reply expected_refusal(void)
+{
+    zelmotar_reply answer = expected_check(c.words, c.words_n, c.top);
+    if (answer.status == ZELMOTAR_DONE && (c.calls_n > ZELMOTAR_MAX_CALL_WORDS || c.calls_n % 4 != 0))
+        answer.status = ZELMOTAR_BAD_CALLS;
+    else if (answer.status == ZELMOTAR_DONE && c.answers_n < c.calls_n / 4 * 2)
+        answer.status = ZELMOTAR_SHORT_ANSWERS;
+    return answer;
 }
 
 static void stress_run(void)
 {
     uint32_t *words = lend(c.words, c.words_n), *calls = lend(c.calls, c.calls_n), *answers = lend(NULL, c.answers_n);
     zelmotar_reply answer = zelmotar_run(words, c.words_n, c.top, calls, c.calls_n, answers, c.answers_n);
+    zelmotar_reply refusal = expected_refusal();
     size_t i;
     count(answer, answers, c.calls_n);
-    if (answer.status == ZELMOTAR_DONE) {
+    if (refusal.status == ZELMOTAR_DONE) {
+        EXPECT(same_reply(answer, reply_of(ZELMOTAR_DONE, answer.top)));
         EXPECT(zelmotar_check(words, c.words_n, answer.top).status == ZELMOTAR_DONE);
         for (i = c.calls_n / 2; i < c.answers_n; i++)
             EXPECT(answers[i] == 0);
     } else {
-        EXPECT(answer.top == c.top && memcmp(words, c.words, c.words_n * sizeof *words) == 0);
+        EXPECT(same_reply(answer, refusal) && memcmp(words, c.words, c.words_n * sizeof *words) == 0);
     }
     EXPECT(memcmp(calls, c.calls, c.calls_n * sizeof *calls) == 0);
     free(words), free(calls), free(answers);
@@ -172,7 +192,7 @@ static void expect_loaded(const uint8_t *file, size_t file_n, const uint32_t *ex
 {
     uint32_t *words = lend(NULL, n);
     uint8_t *bytes = lend_bytes(file, file_n);
-    EXPECT(same_reply(zelmotar_load(words, n, bytes, file_n), reply_of(ZELMOTAR_DONE, 0, top)));
+    EXPECT(same_reply(zelmotar_load(words, n, bytes, file_n), reply_of(ZELMOTAR_DONE, top)));
     EXPECT(memcmp(words, expected, n * sizeof *words) == 0);
     free(words), free(bytes);
 }
@@ -230,11 +250,64 @@ static zelmotar_reply stress_load(void)
     EXPECT(same_reply(answer, zelmotar_load(unset, c.loaded_n, file, c.file_n)));
     if (answer.status == ZELMOTAR_DONE || answer.status == ZELMOTAR_WRONG_SLICE)
         EXPECT((zelmotar_file_words(file, c.file_n) == c.loaded_n) == (answer.status == ZELMOTAR_DONE));
-    loaded_met[answer.status]++;
+    loaded_met[answer.status]++, loaded_rules_met[answer.rule]++;
     if (answer.status == ZELMOTAR_DONE)
         save_again(words, answer.top);
     free(words), free(expected), free(unset), free(file);
     return answer;
+}
+
+enum { REGISTER, OCCUPIED, FREE, PLACES }; /* the kinds of place that a cell has */
+
+/* How often each rule was broken in each kind of place, one cell after the other; 0 where no cell was damaged. */
+static unsigned broken[RULES][PLACES];
+
+/* A store of 24 cells with four symbols, one cell of which is set to these words: what the check says of it, and what
+ * comes of its file, which has that cell if it is below `top`. The words lent for the file are as the last one left
+ * them. */
+static void stress_cell(size_t at, uint32_t first, uint32_t second)
+{
+    enum { WORDS = 2 * 24, TOP = 20 };
+    static uint32_t words[WORDS], loaded[WORDS], expected[WORDS];
+    uint8_t file[ZELMOTAR_FILE_BYTES(TOP)];
+    zelmotar_reply answer = zelmotar_fresh(words, WORDS);
+    EXPECT(zelmotar_type(words, WORDS, answer.top, 0, (const uint8_t *)"7 7 7 7", 7).top == TOP);
+    ZELMOTAR_FIRST_WORD(words, at) = first, ZELMOTAR_SECOND_WORD(words, at) = second;
+    answer = zelmotar_check(words, WORDS, TOP);
+    EXPECT(same_reply(answer, expected_check(words, WORDS, TOP)));
+    broken[answer.rule][at < ZELMOTAR_REGISTERS ? REGISTER : at < TOP ? OCCUPIED : FREE]++;
+    EXPECT(put_file(file, words, WORDS, TOP) == sizeof file);
+    answer = zelmotar_load(loaded, WORDS, file, sizeof file);
+    EXPECT(same_reply(answer, expected_load(expected, WORDS, file, sizeof file)));
+    EXPECT(memcmp(loaded, expected, sizeof loaded) == 0);
+}
+
+/* The words next to every limit, with each set of flags. */
+static void stress_words(size_t at)
+{
+    static const uint32_t firsts[12] = {0, 1, 15, 16, 17, 18, 19, 20, 21, 268435455, 268435456, UINT32_MAX};
+    static const uint32_t rights[10] = {0, 1, 15, 16, 17, 18, 19, 20, 21, 268435455};
+    uint32_t flags;
+    size_t i, j;
+    for (i = 0; i < 12; i++)
+        for (j = 0; j < 10; j++)
+            for (flags = 0; flags < 16; flags++)
+                stress_cell(at, firsts[i], flags << 28 | rights[j]);
+}
+
+/* The first and the last cell of each kind of place, and one in the heap between them. Each rule is broken wherever it
+ * can be, and nowhere else. */
+static void stress_cells(void)
+{
+    static const size_t cells[7] = {0, 15, 16, 18, 19, 20, 23};
+    static const unsigned can_be[RULES][PLACES] = {{1, 1, 1}, {1, 1, 1}, {1, 0, 0}, {1, 1, 0},
+                                                   {0, 1, 0}, {1, 1, 0}, {0, 0, 1}};
+    size_t i, j;
+    for (i = 0; i < 7; i++)
+        stress_words(cells[i]);
+    for (i = 0; i < RULES; i++)
+        for (j = 0; j < PLACES; j++)
+            EXPECT((broken[i][j] > 0) == can_be[i][j]);
 }
 
 /* A text of more than 2^50 bytes: a print that went on after the first byte that it cannot write would not end. */
@@ -283,6 +356,7 @@ int main(int count_given, char **list)
         fprintf(stderr, "usage: stress COUNT\n");
         return 2;
     }
+    stress_cells();
     stress_endless();
     stress_full();
     for (; left > 0; left--) {

@@ -5,6 +5,7 @@
 #include "zelmotar.h"
 
 #define STATUS(name) printf("status %d %s: %s\n", ZELMOTAR_##name, #name, zelmotar_status_text(ZELMOTAR_##name))
+#define RULE(name) printf("rule %d %s: %s\n", ZELMOTAR_RULE_##name, #name, zelmotar_rule_text(ZELMOTAR_RULE_##name))
 #define OPERATION(name) printf("operation %d %s\n", ZELMOTAR_##name, #name)
 #define PLACE(type, field) printf(" %s at %u", #field, (unsigned)offsetof(type, field))
 
@@ -44,6 +45,16 @@ static void print_statuses(void)
     STATUS(BAD_CAPACITY);
     STATUS(NOT_COLLECTED);
     STATUS(WRONG_SLICE);
+}
+
+static void print_rules(void)
+{
+    RULE(STRAY_BIT);
+    RULE(NOT_BRACKET);
+    RULE(BAD_EMPTY);
+    RULE(BAD_SYMBOL);
+    RULE(BAD_ENDS);
+    RULE(BEYOND_TOP);
 }
 
 static void print_operations(void)
@@ -98,6 +109,7 @@ static void print_layout(void)
 {
     printf("answer of %u bytes:", (unsigned)sizeof(zelmotar_reply));
     PLACE(zelmotar_reply, status);
+    PLACE(zelmotar_reply, rule);
     PLACE(zelmotar_reply, value);
     PLACE(zelmotar_reply, top);
     printf("\nspan of %u bytes:", (unsigned)sizeof(zelmotar_span));
@@ -105,14 +117,17 @@ static void print_layout(void)
     PLACE(zelmotar_span, to);
     printf("\ntext of %u bytes:", (unsigned)sizeof(zelmotar_text));
     PLACE(zelmotar_text, status);
+    PLACE(zelmotar_text, rule);
     PLACE(zelmotar_text, value);
     PLACE(zelmotar_text, length);
     printf("\ntyped of %u bytes:", (unsigned)sizeof(zelmotar_typed));
     PLACE(zelmotar_typed, status);
+    PLACE(zelmotar_typed, rule);
     PLACE(zelmotar_typed, value);
     PLACE(zelmotar_typed, top);
     printf("\nsaved of %u bytes:", (unsigned)sizeof(zelmotar_saved));
     PLACE(zelmotar_saved, status);
+    PLACE(zelmotar_saved, rule);
     PLACE(zelmotar_saved, value);
     PLACE(zelmotar_saved, top);
     PLACE(zelmotar_saved, length);
@@ -123,6 +138,7 @@ int main(void)
 {
     print_limits();
     print_statuses();
+    print_rules();
     print_operations();
     print_texts();
     print_files();

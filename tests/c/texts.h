@@ -1,13 +1,14 @@
 /* texts.h: what a print should give, by a second printer that is written apart from the library.
  *
  * It is not recursive: the brackets that are open lie in a list, and every byte goes through one function, which
- * ends the text where it does not fit. Whether the store is sound is the library's own check. */
+ * ends the text where it does not fit. Whether the store is sound is told by the second judge (rules.h). */
 #ifndef TEXTS_H
 #define TEXTS_H
 
 #include <stdio.h>
 #include <string.h>
 
+#include "rules.h"
 #include "zelmotar.h"
 
 /* A text as it is written, up to the first byte that cannot be. */
@@ -80,12 +81,12 @@ static inline void put_register(struct writing *w, const uint32_t *words, size_t
 static inline zelmotar_text expected_print(const uint32_t *words, size_t n, size_t top, size_t reg, uint8_t *text,
                                             size_t text_n)
 {
-    zelmotar_reply checked = zelmotar_check(words, n, top);
-    zelmotar_text answer = {0, 0, 0};
+    zelmotar_reply checked = expected_check(words, n, top);
+    zelmotar_text answer = {0, 0, 0, 0};
     struct writing w = {NULL, 0, 0, ZELMOTAR_DONE};
     w.text = text, w.text_n = text_n;
     if (checked.status != ZELMOTAR_DONE)
-        w.status = checked.status, answer.value = checked.value;
+        w.status = checked.status, answer.rule = checked.rule, answer.value = checked.value;
     else if (reg >= ZELMOTAR_REGISTERS)
         w.status = ZELMOTAR_NO_REGISTER;
     else
@@ -98,7 +99,8 @@ static inline zelmotar_text expected_print(const uint32_t *words, size_t n, size
 
 static inline int same_text(zelmotar_text one, zelmotar_text other)
 {
-    return one.status == other.status && one.value == other.value && one.length == other.length;
+    return one.status == other.status && one.rule == other.rule && one.value == other.value &&
+           one.length == other.length;
 }
 
 #endif

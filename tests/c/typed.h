@@ -3,13 +3,14 @@
  *
  * Neither is recursive. The reader judges a byte by the one to its left, the brackets that are open there and the code
  * that it goes on with. The layer keeps the terms that have no cell yet in a list, and lays those of a bracket when it
- * closes. Whether there is room is told by a count of the cells that are reached. Whether the store is sound, and what
- * a collection leaves of it, is the library's own. */
+ * closes. Whether there is room is told by a count of the cells that are reached, and whether the store is sound by the
+ * second judge (rules.h). What a collection leaves of it is the library's own. */
 #ifndef TYPED_H
 #define TYPED_H
 
 #include <string.h>
 
+#include "rules.h"
 #include "zelmotar.h"
 
 static inline int is_digit(int byte) { return byte >= '0' && byte <= '9'; }
@@ -152,10 +153,10 @@ static inline size_t collect_for(uint32_t *words, size_t n, size_t top, size_t r
     return zelmotar_collect(words, n, top).top;
 }
 
+/* An answer that names no damaged cell. */
 static inline zelmotar_typed typed_answer(uint32_t status, size_t value, size_t top)
 {
-    zelmotar_typed answer;
-    answer.status = status, answer.value = value, answer.top = top;
+    const zelmotar_typed answer = {status, 0, value, top};
     return answer;
 }
 
@@ -163,11 +164,12 @@ static inline zelmotar_typed typed_answer(uint32_t status, size_t value, size_t 
 static inline zelmotar_typed expected_type(uint32_t *words, size_t n, size_t top, size_t reg, const uint8_t *text,
                                             size_t text_n)
 {
-    zelmotar_reply checked = zelmotar_check(words, n, top);
+    const zelmotar_reply checked = expected_check(words, n, top);
+    const zelmotar_typed refused = {checked.status, checked.rule, checked.value, top};
     struct judgement judgement;
     size_t need;
     if (checked.status != ZELMOTAR_DONE)
-        return typed_answer(checked.status, checked.value, top);
+        return refused;
     if (reg >= ZELMOTAR_REGISTERS)
         return typed_answer(ZELMOTAR_NO_REGISTER, 0, top);
     judgement = judge_text(text, text_n);
@@ -183,7 +185,7 @@ static inline zelmotar_typed expected_type(uint32_t *words, size_t n, size_t top
 
 static inline int same_typed(zelmotar_typed one, zelmotar_typed other)
 {
-    return one.status == other.status && one.value == other.value && one.top == other.top;
+    return one.status == other.status && one.rule == other.rule && one.value == other.value && one.top == other.top;
 }
 
 #endif

@@ -2,58 +2,85 @@
  *
  * The module that rt makes is for x86-64. There the caller hands in a place for such a result as one more argument, the
  * first, and so the module's functions take it and give it back. On Arm the place comes in a register of its own. So
- * tools/archive gives the module's functions names that end in _at, and the functions of the C header are those below.
+ * tools/archive gives the module's functions names that end in _at, and the functions of the C header are those below:
+ * all but zelmotar_look, whose result has 16 bytes.
  *
  * The compiler of the kit has no headers: the types are those of include/zelmotar.h, spelt out for 64-bit Arm. */
 
+typedef unsigned char uint8_t;
+typedef unsigned uint32_t;
+typedef unsigned long size_t;
+
 typedef struct {
-    unsigned status;
-    unsigned long value;
-    unsigned long length;
+    uint32_t status;
+    uint32_t rule;
+    uint32_t value;
+    size_t top;
+} zelmotar_reply;
+
+typedef struct {
+    uint32_t status;
+    uint32_t rule;
+    size_t value;
+    size_t length;
 } zelmotar_text;
 
 typedef struct {
-    unsigned status;
-    unsigned long value;
-    unsigned long top;
+    uint32_t status;
+    uint32_t rule;
+    size_t value;
+    size_t top;
 } zelmotar_typed;
 
 typedef struct {
-    unsigned status;
-    unsigned value;
-    unsigned long top;
-    unsigned long length;
+    uint32_t status;
+    uint32_t rule;
+    uint32_t value;
+    size_t top;
+    size_t length;
 } zelmotar_saved;
 
-zelmotar_text *zelmotar_print_at(zelmotar_text *result, const unsigned *words, unsigned long n, unsigned long top,
-                                 unsigned long reg, unsigned char *text, unsigned long text_n);
+/* The function `name` of the header, by the module's `name_at`. Parameters and arguments come in brackets, which LIST
+ * takes off. Both names are written out with each function: tools/archive looks here for those that end in _at. */
+#define LIST(...) __VA_ARGS__
+#define HAND_ON(type, name, name_at, parameters, arguments) \
+    type *name_at(type *result, LIST parameters);           \
+    type name(LIST parameters)                              \
+    {                                                       \
+        type result;                                        \
+        name_at(&result, LIST arguments);                   \
+        return result;                                      \
+    }
 
-zelmotar_text zelmotar_print(const unsigned *words, unsigned long n, unsigned long top, unsigned long reg,
-                             unsigned char *text, unsigned long text_n)
-{
-    zelmotar_text result;
-    zelmotar_print_at(&result, words, n, top, reg, text, text_n);
-    return result;
-}
+HAND_ON(zelmotar_reply, zelmotar_check, zelmotar_check_at,
+        (const uint32_t *words, size_t n, size_t top),
+        (words, n, top))
 
-zelmotar_typed *zelmotar_type_at(zelmotar_typed *result, unsigned *words, unsigned long n, unsigned long top,
-                                 unsigned long reg, const unsigned char *text, unsigned long text_n);
+HAND_ON(zelmotar_reply, zelmotar_fresh, zelmotar_fresh_at,
+        (uint32_t *words, size_t n),
+        (words, n))
 
-zelmotar_typed zelmotar_type(unsigned *words, unsigned long n, unsigned long top, unsigned long reg,
-                             const unsigned char *text, unsigned long text_n)
-{
-    zelmotar_typed result;
-    zelmotar_type_at(&result, words, n, top, reg, text, text_n);
-    return result;
-}
+HAND_ON(zelmotar_reply, zelmotar_collect, zelmotar_collect_at,
+        (uint32_t *words, size_t n, size_t top),
+        (words, n, top))
 
-zelmotar_saved *zelmotar_save_at(zelmotar_saved *result, unsigned *words, unsigned long n, unsigned long top,
-                                 unsigned char *file, unsigned long file_n);
+HAND_ON(zelmotar_reply, zelmotar_run, zelmotar_run_at,
+        (uint32_t *words, size_t n, size_t top, const uint32_t *calls, size_t calls_n, uint32_t *answers,
+         size_t answers_n),
+        (words, n, top, calls, calls_n, answers, answers_n))
 
-zelmotar_saved zelmotar_save(unsigned *words, unsigned long n, unsigned long top, unsigned char *file,
-                             unsigned long file_n)
-{
-    zelmotar_saved result;
-    zelmotar_save_at(&result, words, n, top, file, file_n);
-    return result;
-}
+HAND_ON(zelmotar_text, zelmotar_print, zelmotar_print_at,
+        (const uint32_t *words, size_t n, size_t top, size_t reg, uint8_t *text, size_t text_n),
+        (words, n, top, reg, text, text_n))
+
+HAND_ON(zelmotar_typed, zelmotar_type, zelmotar_type_at,
+        (uint32_t *words, size_t n, size_t top, size_t reg, const uint8_t *text, size_t text_n),
+        (words, n, top, reg, text, text_n))
+
+HAND_ON(zelmotar_saved, zelmotar_save, zelmotar_save_at,
+        (uint32_t *words, size_t n, size_t top, uint8_t *file, size_t file_n),
+        (words, n, top, file, file_n))
+
+HAND_ON(zelmotar_reply, zelmotar_load, zelmotar_load_at,
+        (uint32_t *words, size_t n, const uint8_t *file, size_t file_n),
+        (words, n, file, file_n))

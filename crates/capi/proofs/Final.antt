@@ -18,7 +18,7 @@ use Rattle.capi.specs.declared.Text.{Text}
 
 done-same : (r r′ : Reply) (vs vs′ : List ℕ) → doneIs r vs ≡ doneIs r′ vs′ → (r ≡ r′) × (vs ≡ vs′)
 done-same r r′ vs vs′ e = (
-  ap (λ (d : Done). reply (d .verdict .status) (d .verdict .value) (d .top)) e,
+  ap (λ (d : Done). reply (d .verdict) (d .top)) e,
   ap (λ (d : Done). d .words) e,
 )
 
@@ -26,7 +26,7 @@ pub one-check : OneCheck
 one-check ws top r r′ p q =
     let e : verdictIs r ≡ verdictIs r′ = p .0 ∙ sym (q .0) in
     let t : r .top ≡ r′ .top = p .1 ∙ sym (q .1) in
-    λ j. reply (e j .status) (e j .value) (t j)
+    λ j. reply (e j) (t j)
 
 pub one-fresh : OneFresh
 one-fresh ws vs vs′ r r′ p q = done-same r r′ vs vs′ (p ∙ sym q)
@@ -37,7 +37,7 @@ one-collect ws top vs vs′ r r′ p q = done-same r r′ vs vs′ (p ∙ sym q)
 pub one-run : OneRun
 one-run ws top calls out vs vs′ os os′ r r′ p q =
     let e : outcomeIs r vs os ≡ outcomeIs r′ vs′ os′ = p ∙ sym q in (
-      ap (λ (o : Outcome). reply (o .verdict .status) (o .verdict .value) (o .top)) e,
+      ap (λ (o : Outcome). reply (o .verdict) (o .top)) e,
       ap (λ (o : Outcome). o .words) e,
       ap (λ (o : Outcome). o .answers) e,
     )
@@ -50,6 +50,7 @@ one-print ws top i out vs vs′ r r′ p q =
     let e : printedIs r vs ≡ printedIs r′ vs′ = p ∙ sym q in (
       ap {B = Text} (λ (x : Printed). record {
         status = x .verdict .status;
+        rule = x .verdict .rule;
         value = x .verdict .value;
         length = x .size;
       }) e,
@@ -61,6 +62,7 @@ one-type ws top d bs vs vs′ r r′ p q =
     let e : typedIs r vs ≡ typedIs r′ vs′ = p ∙ sym q in (
       ap {B = Entry} (λ (x : Done). record {
         status = x .verdict .status;
+        rule = x .verdict .rule;
         value = x .verdict .value;
         top = x .top;
       }) e,
@@ -72,6 +74,7 @@ one-save ws top out vs vs′ ss ss′ r r′ p q =
     let e : savedIs r vs ss ≡ savedIs r′ vs′ ss′ = p ∙ sym q in (
       ap {B = Filed} (λ (x : Saved). record {
         status = x .verdict .status;
+        rule = x .verdict .rule;
         value = x .verdict .value;
         top = x .top;
         length = x .size;

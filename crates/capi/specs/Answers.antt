@@ -5,7 +5,7 @@ use mathlib.Core.List.{List}
 use Prim.Native.Nat.{ℕ}
 use lib.ListN.{length}
 use Rattle.meaning.specs.Limits.{firstHeapCell, edition}
-use Rattle.meaning.specs.Verdicts.{Verdict, valued, Done}
+use Rattle.meaning.specs.Verdicts.{Verdict, Done}
 use Rattle.meaning.specs.Check.{check, collectIn}
 use Rattle.meaning.specs.Fresh.{freshIn}
 use Rattle.meaning.specs.Batch.{Outcome, batch}
@@ -20,17 +20,17 @@ use Rattle.capi.specs.declared.Numbers.{Numbers}
 use Rattle.capi.specs.declared.Reply.{Reply}
 use Rattle.capi.specs.declared.Text.{Text}
 
--- a refusal's status and value
+-- a refusal's numbers
 abbrev pub refusalIs : Numbers → Verdict
-refusalIs r = valued (r .status) (r .value)
+refusalIs r = record { status = r .status; value = r .value; rule = r .rule }
 
--- a status, a value and `top`
-abbrev pub reply : ℕ → ℕ → ℕ → Reply
-reply s v t = record { status = s; value = v; top = t }
+-- a verdict and `top`
+abbrev pub reply : Verdict → ℕ → Reply
+reply v t = record { status = v .status; rule = v .rule; value = v .value; top = t }
 
--- a reply's status and value
+-- a reply's numbers
 abbrev pub verdictIs : Reply → Verdict
-verdictIs r = valued (r .status) (r .value)
+verdictIs r = record { status = r .status; value = r .value; rule = r .rule }
 
 -- with the words of the store
 abbrev pub doneIs : Reply → List ℕ → Done
@@ -42,17 +42,23 @@ outcomeIs r ws out = record { verdict = verdictIs r; words = ws; top = r .top; a
 
 -- what printing gives, with the bytes of the text space
 abbrev pub printedIs : Text → List ℕ → text.Printed
-printedIs r out = record { verdict = valued (r .status) (r .value); size = r .length; space = out }
+printedIs r out =
+    record {
+      verdict = record { status = r .status; value = r .value; rule = r .rule };
+      size = r .length;
+      space = out;
+    }
 
 -- what typing gives, with the words of the store
 abbrev pub typedIs : Entry → List ℕ → Done
-typedIs r ws = record { verdict = valued (r .status) (r .value); words = ws; top = r .top }
+typedIs r ws =
+    record { verdict = record { status = r .status; value = r .value; rule = r .rule }; words = ws; top = r .top }
 
 -- what saving gives, with the words of the store and the bytes of the space
 abbrev pub savedIs : Filed → List ℕ → List ℕ → file.Saved
 savedIs r ws out =
     record {
-      verdict = valued (r .status) (r .value);
+      verdict = record { status = r .status; value = r .value; rule = r .rule };
       words = ws;
       top = r .top;
       size = r .length;

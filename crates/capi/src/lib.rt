@@ -15,26 +15,29 @@ use typing::Typed;
 ghost use mathlib.Core.Path.{_≡_};
 ghost use Prim.Native.Nat.{_≤_};
 ghost use Rattle.meaning.specs.Limits.{limit};
+ghost use Rattle.meaning.specs.Verdicts.{valued};
 ghost use Rattle.store.specs.Answers.{refusalOf};
 ghost use Rattle.reader.specs.Readers.{faultOf};
 ghost use Rattle.capi.specs.Answers.{refusalIs, reply, Checks, Makes, Collects, Runs, Places, Prints, Types};
 ghost use Rattle.capi.specs.Answers.{Saves, Loads};
 
-// A status, the value that goes with it, and `top` afterwards.
+// A status, the rule of a damaged cell or 0, the value that goes with the status, and `top` afterwards.
 #[repr(C)]
 pub struct Reply {
     pub status: u32,
+    pub rule: u32,
     pub value: u32,
     pub top: usize,
 }
 
-// A value is a cell or a number of cells, so it fits a word.
+// Nothing is damaged. A value is a cell or a number of cells, so it fits a word.
 fn reply_with(status: u32, value: usize, top: usize) -> Reply
     requires { ⌜ value ≤ limit ⌝ }
-    ensures { λ r. ⌜ r ≡ reply status value top ⌝ }
+    ensures { λ r. ⌜ r ≡ reply (valued status value) top ⌝ }
 {
     Reply {
         status,
+        rule: 0,
         value: value as u32,
         top,
     }
@@ -43,6 +46,7 @@ fn reply_with(status: u32, value: usize, top: usize) -> Reply
 // The numbers of a refusal.
 pub struct Numbers {
     pub status: u32,
+    pub rule: u32,
     pub value: usize,
 }
 
@@ -53,14 +57,17 @@ fn refusal(why: Unsound) -> Numbers
     match why {
         Unsound::BadLength => Numbers {
             status: 1,
+            rule: 0,
             value: 0,
         },
         Unsound::BadTop => Numbers {
             status: 2,
+            rule: 0,
             value: 0,
         },
-        Unsound::Damaged(cell) => Numbers {
+        Unsound::Damaged(cell, rule) => Numbers {
             status: 3,
+            rule,
             value: cell,
         },
     }
@@ -69,10 +76,15 @@ fn refusal(why: Unsound) -> Numbers
 // A store is refused. `top` comes back as it came.
 fn refuse(why: Unsound, top: usize) -> Reply
     requires { ⌜ refusalOf why .value ≤ limit ⌝ }
-    ensures { λ r. ⌜ r ≡ reply (refusalOf why .status) (refusalOf why .value) top ⌝ }
+    ensures { λ r. ⌜ r ≡ reply (refusalOf why) top ⌝ }
 {
     let n = refusal(why);
-    reply_with(n.status, n.value, top)
+    Reply {
+        status: n.status,
+        rule: n.rule,
+        value: n.value as u32,
+        top,
+    }
 }
 
 // The check alone. `top` comes back as it came.
@@ -127,20 +139,22 @@ pub extern "C" fn zelmotar_run(
     }
 }
 
-// What printing gives: a status, the value that goes with it, and the length of the text.
+// What printing gives: status, rule and value as above, and the length of the text.
 #[repr(C)]
 pub struct Text {
     pub status: u32,
+    pub rule: u32,
     pub value: usize,
     pub length: usize,
 }
 
 // Printing is refused: there is no text.
-fn no_text(status: u32, value: usize) -> Text
-    ensures { λ r. ⌜ r ≡ record { status = status; value = value; length = 0 } ⌝ }
+fn no_text(status: u32, rule: u32, value: usize) -> Text
+    ensures { λ r. ⌜ r ≡ record { status = status; rule = rule; value = value; length = 0 } ⌝ }
 {
     Text {
         status,
+        rule,
         value,
         length: 0,
     }
@@ -154,31 +168,40 @@ pub extern "C" fn zelmotar_print(words: &[u32], top: usize, reg: usize, space: &
     match text::print(words, top, reg, space) {
         Printed::Done(length) => Text {
             status: 0,
+            rule: 0,
             value: 0,
             length,
         },
         Printed::Refused(why) => {
             let n = refusal(why);
-            no_text(n.status, n.value)
+            no_text(n.status, n.rule, n.value)
         }
-        Printed::NoRegister => no_text(20, 0),
-        Printed::TooDeep => no_text(21, 0),
-        Printed::ShortSpace => no_text(22, 0),
+        Printed::NoRegister => no_text(20, 0, 0),
+        Printed::TooDeep => no_text(21, 0, 0),
+        Printed::ShortSpace => no_text(22, 0, 0),
     }
 }
 
-// What typing gives: a status, the value that goes with it, which may be an offset into the text, and `top` afterwards.
+// What typing gives: status, rule and value as above, where the value may be an offset into the text, and `top`
+// afterwards.
 #[repr(C)]
 pub struct Entry {
     pub status: u32,
+    pub rule: u32,
     pub value: usize,
     pub top: usize,
 }
 
+// Nothing is damaged.
 fn entry_with(status: u32, value: usize, top: usize) -> Entry
-    ensures { λ r. ⌜ r ≡ record { status = status; value = value; top = top } ⌝ }
+    ensures { λ r. ⌜ r ≡ record { status = status; rule = 0; value = value; top = top } ⌝ }
 {
-    Entry { status, value, top }
+    Entry {
+        status,
+        rule: 0,
+        value,
+        top,
+    }
 }
 
 // Why a text is refused, as a number.
@@ -201,7 +224,12 @@ pub extern "C" fn zelmotar_type(words: &mut [u32], top: usize, reg: usize, text:
         Typed::Done(end) => entry_with(0, 0, end),
         Typed::Refused(why) => {
             let n = refusal(why);
-            entry_with(n.status, n.value, top)
+            Entry {
+                status: n.status,
+                rule: n.rule,
+                value: n.value,
+                top,
+            }
         }
         Typed::NoRegister => entry_with(20, 0, top),
         Typed::BadText(fault, at) => entry_with(fault_number(fault), at, top),
@@ -217,10 +245,11 @@ pub extern "C" fn zelmotar_look(words: &[u32], top: usize, reg: usize) -> Span
     store::look_span(words, top, reg)
 }
 
-// What saving gives: a status, the value that goes with it, `top` afterwards and the length of the file.
+// What saving gives: status, rule and value as above, `top` afterwards and the length of the file.
 #[repr(C)]
 pub struct Filed {
     pub status: u32,
+    pub rule: u32,
     pub value: u32,
     pub top: usize,
     pub length: usize,
@@ -234,12 +263,14 @@ pub extern "C" fn zelmotar_save(words: &mut [u32], top: usize, space: &mut [u8])
     match file::save(words, top, space) {
         Saved::Done(low, length) => Filed {
             status: 0,
+            rule: 0,
             value: 0,
             top: low,
             length,
         },
         Saved::ShortSpace(low) => Filed {
             status: 22,
+            rule: 0,
             value: 0,
             top: low,
             length: 0,
@@ -248,6 +279,7 @@ pub extern "C" fn zelmotar_save(words: &mut [u32], top: usize, space: &mut [u8])
             let r = refuse(why, top);
             Filed {
                 status: r.status,
+                rule: r.rule,
                 value: r.value,
                 top: r.top,
                 length: 0,
@@ -268,7 +300,7 @@ pub extern "C" fn zelmotar_load(words: &mut [u32], file: &[u8]) -> Reply
         Loaded::BadDistance => reply_with(32, 0, 0),
         Loaded::BadCapacity => reply_with(33, 0, 0),
         Loaded::WrongSlice => reply_with(35, 0, 0),
-        Loaded::Damaged(cell) => reply_with(3, cell, 0),
+        Loaded::Damaged(cell, rule) => refuse(Unsound::Damaged(cell, rule), 0),
         Loaded::NotCollected => reply_with(34, 0, 0),
     }
 }

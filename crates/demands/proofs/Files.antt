@@ -60,7 +60,7 @@ taken f bs ws d (tables.badEdition l e) z = absurd (omega arith)
 taken f bs ws d (tables.badDistance l p n) z = absurd (omega arith)
 taken f bs ws d (tables.badCapacity l p r n) z = absurd (omega arith)
 taken f bs ws d (tables.wrongSlice l p r c n) z = absurd (omega arith)
-taken f bs ws d (tables.damaged p v s c h n b) z = absurd (omega arith)
+taken f bs ws d (tables.damaged p v s c q h n k b) z = absurd (omega arith)
 taken f bs ws d (tables.notCollected p v s k n) z = absurd (omega arith)
 taken f bs ws d (tables.loaded p v s k a) z = record {
   kind = p .kind;
@@ -82,7 +82,7 @@ loading bs ws loaded.BadEdition v k = k .kept (λ z. omega arith) .0
 loading bs ws loaded.BadDistance v k = k .kept (λ z. omega arith) .0
 loading bs ws loaded.BadCapacity v k = k .kept (λ z. omega arith) .0
 loading bs ws loaded.WrongSlice v k = k .kept (λ z. omega arith) .0
-loading bs ws (loaded.Damaged c) v k = k .kept (λ z. omega arith) .0
+loading bs ws (loaded.Damaged c q) v k = k .kept (λ z. omega arith) .0
 loading bs ws loaded.NotCollected v k = k .kept (λ z. omega arith) .0
 
 pub load-meets : LoadMeets
@@ -131,7 +131,7 @@ module _ (ws : List ℕ) (top : ℕ) (out : List ℕ) where
   refusal-small : (u : Unsound) → refusalOf u .status ≢ 22
   refusal-small unsound.BadLength z = omega (arith, z)
   refusal-small unsound.BadTop z = omega (arith, z)
-  refusal-small (unsound.Damaged c) z = omega (arith, z)
+  refusal-small (unsound.Damaged c q) z = omega (arith, z)
 
   saving : (r : Saved) (v a : List ℕ) → SaveTable edition firstHeapCell ws top (length out) (savedIn r v top a)
       → Saving ws top out r v a

@@ -4,11 +4,13 @@ use mathlib.Core.List.{List}
 use Prim.Native.Nat.{ℕ, _+_, _*_}
 use native.Mathlib.Omega.{arith}
 use lib.ListN.{getD}
+use Rattle.words.specs.Second.{flag, decode}
 use Rattle.meaning.specs.Limits.{limit, codeTest, depthLimit, callsLimit}
 use Rattle.meaning.specs.Sound.{at}
 use Rattle.meaning.specs.Reach.{reached, live}
 use Rattle.meaning.specs.Collected.{newAddress, collectedOf, collected}
-use Rattle.meaning.specs.Check.{bracketTest, termTest, cellTest, lengthTest, topTest, verdictAt, check, collectIn}
+use Rattle.meaning.specs.Check.{bracketRule, belowRule, brokenRule, cellTest, lengthTest, topTest, verdictAt, check}
+use Rattle.meaning.specs.Check.{collectIn}
 use Rattle.meaning.specs.Operands.{ops, opAt, uses, names, isOperand, wrong11, wrong12, wrong13, fault}
 use Rattle.meaning.specs.Actions.{put, copy, share, head, rest, openTerm, openFirst, codeTerm, codeFirst}
 use Rattle.meaning.specs.Actions.{newSymbol, newBracket, newRunOf, newRun}
@@ -37,8 +39,8 @@ record Computed : Type 0 where
       (wordsAfter second secondHistory)
 
 computed : Computed
-unfolding limit codeTest depthLimit callsLimit at reached live newAddress collectedOf collected bracketTest termTest
-    cellTest lengthTest topTest verdictAt check collectIn ops opAt uses wrong11 wrong12 wrong13 fault put copy share
+unfolding limit codeTest depthLimit callsLimit at reached live newAddress collectedOf collected decode flag bracketRule
+    belowRule brokenRule cellTest lengthTest topTest verdictAt check collectIn ops opAt uses wrong11 wrong12 wrong13 fault put copy share
     head rest openTerm openFirst codeTerm codeFirst newSymbol newBracket newRunOf newRun names isOperand keeps sought
     planOf lacks roomWords roomTop withRoom carryOut perform stepAfter step ended callsTest batchOf batch isDigit
     withDigit firstMove laterMove moreMove atStart isWhole stopVerdict read blank newCells typedOf typeIn

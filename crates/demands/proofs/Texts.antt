@@ -50,7 +50,7 @@ use Rattle.demands.proofs.Uses.{sound-or-not, refusal-not}
 refusal-small : (u : Unsound) → refusalOf u .status ≢ 16
 refusal-small unsound.BadLength z = omega (arith, z)
 refusal-small unsound.BadTop z = omega (arith, z)
-refusal-small (unsound.Damaged c) z = omega (arith, z)
+refusal-small (unsound.Damaged c q) z = omega (arith, z)
 
 fault-away : (f : Fault) → (faultOf f ≢ 0) × (faultOf f ≢ 16)
 fault-away fault.NoCode = (λ z. omega (arith, z), λ z. omega (arith, z))

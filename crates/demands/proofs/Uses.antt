@@ -87,7 +87,7 @@ sound-or-not ws top = go (check firstHeapCell ws top .status) refl
 pub refusal-not : (u : Unsound) → refusalOf u .status ≢ 0
 refusal-not unsound.BadLength z = omega (arith, z)
 refusal-not unsound.BadTop z = omega (arith, z)
-refusal-not (unsound.Damaged c) z = omega (arith, z)
+refusal-not (unsound.Damaged c q) z = omega (arith, z)
 
 collecting : (ws : List ℕ) (top : ℕ) (r : Collected) (v : List ℕ)
     → CollectTable firstHeapCell ws top (collectedIn r v top) → Collecting ws top r v

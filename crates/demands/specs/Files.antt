@@ -34,7 +34,7 @@ Loading bs ws loaded.BadEdition v = v ≡ ws
 Loading bs ws loaded.BadDistance v = v ≡ ws
 Loading bs ws loaded.BadCapacity v = v ≡ ws
 Loading bs ws loaded.WrongSlice v = v ≡ ws
-Loading bs ws (loaded.Damaged c) v = v ≡ ws
+Loading bs ws (loaded.Damaged c q) v = v ≡ ws
 Loading bs ws loaded.NotCollected v = v ≡ ws
 
 abbrev pub LoadMeets : Type 0

@@ -18,17 +18,17 @@ use Rattle.file.specs.declared.Saved.the-variants as saved
 
 -- ---- loading
 
-abbrev loadedBy : ℕ → ℕ → ℕ → Loaded
-loadedBy s v t =
+abbrev loadedBy : ℕ → ℕ → ℕ → ℕ → Loaded
+loadedBy s v q t =
     onZero s (loaded.Ready t)
-    (cond (eqb s 3) (loaded.Damaged v)
+    (cond (eqb s 3) (loaded.Damaged v q)
     (cond (eqb s 30) loaded.ShortFile
     (cond (eqb s 31) loaded.BadEdition
     (cond (eqb s 32) loaded.BadDistance
     (cond (eqb s 33) loaded.BadCapacity (cond (eqb s 34) loaded.NotCollected loaded.WrongSlice))))))
 
 abbrev loadedOf : Done → Loaded
-loadedOf d = loadedBy (d .verdict .status) (d .verdict .value) (d .top)
+loadedOf d = loadedBy (d .verdict .status) (d .verdict .value) (d .verdict .rule) (d .top)
 
 loaded-back : (r : Loaded) (vs : List ℕ) → loadedOf (loadedIn r vs) ≡ r
 loaded-back (loaded.Ready t) vs = refl
@@ -37,7 +37,7 @@ loaded-back loaded.BadEdition vs = refl
 loaded-back loaded.BadDistance vs = refl
 loaded-back loaded.BadCapacity vs = refl
 loaded-back loaded.WrongSlice vs = refl
-loaded-back (loaded.Damaged c) vs = refl
+loaded-back (loaded.Damaged c q) vs = refl
 loaded-back loaded.NotCollected vs = refl
 
 pub one-load : OneLoad

@@ -20,20 +20,21 @@ use Rattle.meaning.specs.Limits.{limit}
 use Rattle.meaning.specs.Sound.{at, Sound, capacity}
 use Rattle.meaning.specs.Reach.{heldBelow}
 use Rattle.meaning.specs.Verdicts.{Verdict, only, damagedAt}
-use Rattle.meaning.specs.Check.{cellTest, damaged, lengthTest, topTest, verdictAt, check}
+use Rattle.meaning.specs.Check.{brokenRule, cellTest, damaged, lengthTest, topTest, verdictAt, check}
 use Rattle.meaning.specs.File.{firstOf, distanceFor, fileCells, fileCapacity, fileEdition, body, cellsIn, image}
 use Rattle.meaning.specs.File.{distanceTest, capacityTest, checkStore, checkAs}
 use Rattle.meaning.proofs.Lists.{lt-or-ge}
 use Rattle.meaning.proofs.Counting.{positive}
+use Rattle.meaning.proofs.sound.Cells.{limit-fits}
 use Rattle.meaning.proofs.check.Checking.{yes-length, yes-top, yes-cell, damaged-before, tests-sound, sound-check}
 use Rattle.meaning.proofs.check.Scanning.{check-cells, verdict-damaged}
-use Rattle.meaning.proofs.file.Images.{held-zeros, damaged-zeros}
+use Rattle.meaning.proofs.file.Images.{held-zeros, cell-zeros, damaged-zeros}
 use Rattle.meaning.proofs.file.Accepted.{Framed, body-long, occupied, image-is, image-long, distance-yes, capacity-yes}
 use Rattle.meaning.proofs.file.Accepted.{as-edition, as-distance, as-capacity, as-slice, as-store}
 use Rattle.file.specs.Answers.{Gives}
 use Rattle.file.specs.Body.{storeIn, Whole}
 use Rattle.file.specs.Windows.{heldFrom}
-use Rattle.file.specs.Judged.{TrailerOf, foundIn}
+use Rattle.file.specs.Judged.{TrailerOf, ruleIn, foundIn}
 use Rattle.file.specs.declared.Loaded.{Loaded}
 use Rattle.file.specs.declared.Loaded.the-variants as loaded
 use Rattle.file.specs.declared.judging.Trailer.{Trailer}
@@ -43,9 +44,9 @@ use Rattle.file.proofs.Windowed.{held-live}
 -- ---- 3 and 34, as the code finds them
 
 module _ (f n c : ℕ) (ws : List ℕ) (e : c ≡ damaged f ws (f + n) 0 (f + n)) where
-  pub found-damaged : c < f + n → Gives (loaded.Damaged c) (foundIn f n ws) (f + n)
+  pub found-damaged : (q : ℕ) → q ≡ ruleIn f n ws c → c < f + n → Gives (loaded.Damaged c q) (foundIn f n ws) (f + n)
   unfolding foundIn
-  found-damaged h = rw (← e, lt-ltb c (f + n) h) (refl, refl)
+  found-damaged q r h = rw (← e, lt-ltb c (f + n) h, r) (refl, refl)
 
   module _ (t : Bool) (h : f + n ≤ c) (q : t ≡ heldFrom (at ws) (f + n) f n) where
     pub found-ready : t ≡ true → Gives (loaded.Ready (f + n)) (foundIn f n ws) (f + n)
@@ -114,7 +115,7 @@ module _ (f : ℕ) (bs : List ℕ) (a : Framed f bs) where
       let z = occupied f bs a in
       let p : getD xs (2 * c) 0 ≡ 0 = List·getD-eq-default xs 0 (omega arith) in
       let q : getD xs (2 * c + 1) 0 ≡ 0 = List·getD-eq-default xs 0 (omega arith) in
-      yes-cell f ws (f + n) c (record {
+      yes-cell f ws (f + n) (omega (arith, a .enough, a .allowed, limit-fits)) c (record {
         register = λ l. absurd (omega arith);
         occupied = λ l r. absurd (omega arith);
         free = λ l. (padded-at xs m (2 * c) ∙ p, padded-at xs m (2 * c + 1) ∙ q);
@@ -129,14 +130,15 @@ module _ (f : ℕ) (bs : List ℕ) (a : Framed f bs) where
       go c (inr l) = free-right c l
 
   checked-damaged : (d : ℕ) → damaged f ws (f + n) 0 (f + n) ≡ d → d < f + n
-      → check f ws (f + n) ≡ damagedAt d
+      → check f ws (f + n) ≡ damagedAt d (ruleIn f n ws d)
   checked-damaged d e h =
       let k : capacity ws ≡ f + n + (fileCapacity bs - (f + n)) = omega (arith, cells, a .enough) in
       let early : damaged f ws (f + n) 0 (capacity ws) ≡ d =
       ap (λ (j : ℕ). damaged f ws (f + n) 0 j) k
       ∙ (damaged-early f ws (f + n) 0 (f + n) (fileCapacity bs - (f + n)) (omega arith) ∙ e) in
       check-cells f ws (f + n) length-right top-right
-      ∙ (ap (verdictAt ws) early ∙ verdict-damaged ws d (omega (arith, cells, a .enough)))
+      ∙ (ap (verdictAt f ws (f + n)) early
+      ∙ verdict-damaged f ws (f + n) d (ruleIn f n ws d) (omega (arith, cells, a .enough)) refl)
 
   store-found : checkStore f (image f bs) (fileCells bs)
       ≡ foundIn f (fileCells bs) (cellsIn f (fileCells bs) (wordsOf (body bs)))
@@ -149,7 +151,7 @@ module _ (f : ℕ) (bs : List ℕ) (a : Framed f bs) where
           → checkStore f ws n ≡ foundIn f n xs
       go d e (inl h) =
           let x = sym (damaged-zeros xs m f (f + n) 0 (f + n)) ∙ e in
-          rw (checked-damaged d e h, x, lt-ltb d (f + n) h) refl
+          rw (checked-damaged d e h, x, lt-ltb d (f + n) h, cell-zeros xs m (brokenRule f (f + n) d) d) refl
       go d e (inr h) =
           let x = sym (damaged-zeros xs m f (f + n) 0 (f + n)) ∙ e in
           let s = sound (omega arith) in

@@ -13,7 +13,7 @@ use Rattle.file.specs.declared.Saved.{Saved}
 use Rattle.file.specs.declared.Saved.the-variants as saved
 
 -- loading: 0; 30 for a file that is too short, 31 for its edition, 32 for its distance, 33 for its capacity, 35 for a
--- slice of another length; 3 with the first damaged cell; 34 for a store that is not collected
+-- slice of another length; 3 with the first damaged cell and the rule that it breaks; 34 for a store that is not collected
 abbrev pub verdictOf : Loaded → Verdict
 verdictOf (loaded.Ready t) = only 0
 verdictOf loaded.ShortFile = only 30
@@ -21,7 +21,7 @@ verdictOf loaded.BadEdition = only 31
 verdictOf loaded.BadDistance = only 32
 verdictOf loaded.BadCapacity = only 33
 verdictOf loaded.WrongSlice = only 35
-verdictOf (loaded.Damaged c) = damagedAt c
+verdictOf (loaded.Damaged c q) = damagedAt c q
 verdictOf loaded.NotCollected = only 34
 
 -- `top` of the store, or 0
@@ -32,7 +32,7 @@ topOf loaded.BadEdition = 0
 topOf loaded.BadDistance = 0
 topOf loaded.BadCapacity = 0
 topOf loaded.WrongSlice = 0
-topOf (loaded.Damaged c) = 0
+topOf (loaded.Damaged c q) = 0
 topOf loaded.NotCollected = 0
 
 -- and the words that are left

@@ -12,7 +12,7 @@ ghost use Rattle.meaning.specs.Check.{damaged};
 ghost use Rattle.meaning.specs.File.{firstOf, fileEdition, fileCells, distanceFor, checkAs};
 ghost use Rattle.file.specs.Answers.{verdictOf, Gives};
 ghost use Rattle.file.specs.Body.{storeIn, Whole};
-ghost use Rattle.file.specs.Judged.{TrailerOf, foundIn};
+ghost use Rattle.file.specs.Judged.{TrailerOf, ruleIn, foundIn};
 
 // The bytes of a trailer.
 pub const TRAILER: usize = 16;
@@ -76,7 +76,21 @@ fn capacity_ok(capacity: usize, first: usize, n: usize) -> bool
     false
 }
 
-// The first damaged cell of the store, or the cell after its last. The rule is that of a lent store.
+// The rule that cell c of the store breaks, or 0.
+fn rule_at(body: &[u8], first: usize, n: usize, c: usize) -> u32
+    requires { ⌜ Whole first n (now body) × (c < first + n) ⌝ }
+    ensures { λ r. ⌜ r ≡ ruleIn first n (storeIn first n (now (body .entry))) c ⌝ }
+{
+    store::cells::broken_rule(
+        reading::first_word(body, first, n, c),
+        reading::second_word(body, first, n, c),
+        c,
+        first,
+        first + n,
+    )
+}
+
+// The first damaged cell of the store, or the cell after its last. The rules are those of a lent store.
 fn first_damaged(body: &[u8], first: usize, n: usize) -> usize
     requires { ⌜ Whole first n (now body) ⌝ }
     ensures { λ r. ⌜ r ≡ damaged first (storeIn first n (now (body .entry))) (first + n) 0 (first + n) ⌝ }
@@ -87,13 +101,7 @@ fn first_damaged(body: &[u8], first: usize, n: usize) -> usize
         if top <= c {
             break c;
         }
-        if !store::cells::cell_ok(
-            reading::first_word(body, first, n, c),
-            reading::second_word(body, first, n, c),
-            c,
-            first,
-            top,
-        ) {
+        if rule_at(body, first, n, c) != 0 {
             break c;
         }
         c += 1;
@@ -107,7 +115,8 @@ fn judge_store(body: &[u8], first: usize, n: usize) -> Loaded
 {
     let c = first_damaged(body, first, n);
     if c < first + n {
-        return Loaded::Damaged(c);
+        let rule = rule_at(body, first, n, c);
+        return Loaded::Damaged(c, rule);
     }
     if held::all_held(body, first, n) {
         return Loaded::Ready(first + n);
@@ -151,7 +160,7 @@ pub fn is_ready(found: Loaded) -> bool
         Loaded::BadDistance => false,
         Loaded::BadCapacity => false,
         Loaded::WrongSlice => false,
-        Loaded::Damaged(_) => false,
+        Loaded::Damaged(_, _) => false,
         Loaded::NotCollected => false,
     }
 }

@@ -16,7 +16,8 @@ mod judging;
 mod reading;
 mod writing;
 
-// What loading answers: `top` of the store, or why the file is refused. Damaged has the first damaged cell.
+// What loading answers: `top` of the store, or why the file is refused. Damaged has the first damaged cell
+// and the rule that it breaks.
 pub enum Loaded {
     Ready(usize),
     ShortFile,
@@ -24,7 +25,7 @@ pub enum Loaded {
     BadDistance,
     BadCapacity,
     WrongSlice,
-    Damaged(usize),
+    Damaged(usize, u32),
     NotCollected,
 }
 

@@ -1,24 +1,25 @@
--- The rows of SCOPE 7.1, P1 to P14, as one table with one test of a row. The rows are for a heap that begins at cell F.
+-- The rows of SCOPE 7.1, P1 to P16, as one table with one test of a row. The rows are for a heap that begins at cell F.
 -- Assumes nothing.
 use mathlib.Core.Bool.{Bool, true, false, _&&_}
 use mathlib.Core.List.{List, [], _∷_, _++_}
 use Prim.Native.Nat.{ℕ, _+_, _-_}
 use lib.Dec.{eqb, T}
+use Rattle.words.specs.Cell.{putCell}
 use Rattle.words.specs.Second.{bracketTo}
 use Rattle.bytes.specs.Little.{bytesOf}
 use Rattle.bytes.specs.Decimal.{decimal}
-use Rattle.meaning.specs.Verdicts.{Verdict, Done}
+use Rattle.meaning.specs.Verdicts.{Verdict, valued, only, damagedAt, Done}
 use Rattle.meaning.specs.Check.{check, collectIn}
 use Rattle.meaning.specs.Fresh.{fresh, emptyRegisters}
 use Rattle.meaning.specs.Batch.{Ran, runs}
 use Rattle.meaning.specs.Program.{program}
 
 -- a store and `top`, then: the calls, the answers, the store and `top` after them; or the store and `top` once
--- collected, with live; or the check's status and value. Or what the program reads, and what it writes.
+-- collected, with live; or the check's verdict. Or what the program reads, and what it writes.
 pub data Row : Type 0 where
   runsTo : List ℕ → ℕ → List ℕ → List ℕ → List ℕ → ℕ → Row
   collectsTo : List ℕ → ℕ → ℕ → List ℕ → ℕ → Row
-  checksTo : List ℕ → ℕ → ℕ → ℕ → Row
+  checksTo : List ℕ → ℕ → Verdict → Row
   writes : List ℕ → List ℕ → Row
 
 abbrev pub same : List ℕ → List ℕ → Bool
@@ -27,11 +28,11 @@ same [] (y ∷ ys) = false
 same (x ∷ xs) [] = false
 same (x ∷ xs) (y ∷ ys) = eqb x y && same xs ys
 
-unfoldable pub verdictTest : Verdict → ℕ → ℕ → Bool
-verdictTest v s n = eqb (v .status) s && eqb (v .value) n
+unfoldable pub verdictTest : Verdict → Verdict → Bool
+verdictTest v w = eqb (v .status) (w .status) && eqb (v .value) (w .value) && eqb (v .rule) (w .rule)
 
 unfoldable pub doneTest : Done → ℕ → List ℕ → ℕ → Bool
-doneTest r n ws top = verdictTest (r .verdict) 0 n && same (r .words) ws && eqb (r .top) top
+doneTest r n ws top = verdictTest (r .verdict) (valued 0 n) && same (r .words) ws && eqb (r .top) top
 
 unfoldable pub ranTest : Ran → List ℕ → List ℕ → ℕ → Bool
 ranTest r ans ws top = same (r .answers) ans && same (r .words) ws && eqb (r .top) top
@@ -39,7 +40,7 @@ ranTest r ans ws top = same (r .answers) ans && same (r .words) ws && eqb (r .to
 unfoldable pub rowTest : ℕ → Row → Bool
 rowTest F (runsTo ws top calls ans ws′ top′) = ranTest (runs F ws top calls) ans ws′ top′
 rowTest F (collectsTo ws top n ws′ top′) = doneTest (collectIn F ws top) n ws′ top′
-rowTest F (checksTo ws top s n) = verdictTest (check F ws top) s n
+rowTest F (checksTo ws top v) = verdictTest (check F ws top) v
 rowTest F (writes input output) = same (program F input) output
 
 abbrev pub every : (Row → Bool) → List Row → Bool
@@ -95,6 +96,10 @@ p11Store F =
 unfoldable pub two : ℕ → ℕ → List ℕ
 two F c = c ∷ bracketTo c ∷ (1 + c) ∷ bracketTo (2 + c) ∷ emptyRegisters (F - 2)
 
+-- one symbol that no register holds and a free cell, but for the words a and b of cell c, which break rule q
+unfoldable pub breaks : ℕ → ℕ → ℕ → ℕ → ℕ → Row
+breaks F c a b q = checksTo (putCell (emptyRegisters F ++ (65 ∷ 0 ∷ 0 ∷ 0 ∷ [])) c a b) (1 + F) (damagedAt c q)
+
 unfoldable pub rows : ℕ → List Row
 rows F =
     -- P1
@@ -113,9 +118,9 @@ rows F =
     runsTo (fresh F (1 + F)) F (2 ∷ 0 ∷ 268435455 ∷ 0 ∷ 2 ∷ 0 ∷ 268435456 ∷ 0 ∷ []) (0 ∷ 0 ∷ 13 ∷ 0 ∷ [])
     (lone F 268435455) (1 + F) ∷
     -- P6
-    checksTo (p6 F F (1 + F)) (3 + F) 0 0 ∷
-    checksTo (p6 F F (2 + F)) (3 + F) 3 (2 + F) ∷
-    checksTo (p6 F (1 + F) F) (3 + F) 3 (2 + F) ∷
+    checksTo (p6 F F (1 + F)) (3 + F) (only 0) ∷
+    checksTo (p6 F F (2 + F)) (3 + F) (damagedAt (2 + F) 5) ∷
+    checksTo (p6 F (1 + F) F) (3 + F) (damagedAt (2 + F) 5) ∷
     -- P7: HEAD 0 0
     runsTo (fresh F (1 + F)) F (5 ∷ 0 ∷ 0 ∷ 0 ∷ []) (14 ∷ 0 ∷ []) (fresh F (1 + F)) F ∷
     runsTo (lone F 7) (1 + F) (5 ∷ 0 ∷ 0 ∷ 0 ∷ []) (0 ∷ 0 ∷ []) (lone F 7) (1 + F) ∷
@@ -140,9 +145,28 @@ rows F =
     runsTo (fresh F (1 + F)) F (2 ∷ 0 ∷ 1 ∷ 0 ∷ 2 ∷ 0 ∷ 0 ∷ 0 ∷ 9 ∷ 0 ∷ 0 ∷ 0 ∷ []) (0 ∷ 0 ∷ 13 ∷ 0 ∷ 0 ∷ 1 ∷ [])
     (lone F 1) (1 + F) ∷
     -- P14: a wiped cell that register 0 holds, one that is dead below a symbol, and one that is free
-    checksTo (lone F 0) (1 + F) 3 F ∷
-    checksTo (emptyRegisters F ++ (0 ∷ 0 ∷ 65 ∷ 0 ∷ [])) (2 + F) 3 F ∷
-    checksTo (emptyRegisters F ++ (65 ∷ 0 ∷ 0 ∷ 0 ∷ [])) (1 + F) 0 0 ∷
+    checksTo (lone F 0) (1 + F) (damagedAt F 4) ∷
+    checksTo (emptyRegisters F ++ (0 ∷ 0 ∷ 65 ∷ 0 ∷ [])) (2 + F) (damagedAt F 4) ∷
+    checksTo (emptyRegisters F ++ (65 ∷ 0 ∷ 0 ∷ 0 ∷ [])) (1 + F) (only 0) ∷
+    -- P15: each rule in a register, in an occupied heap cell and in a free one; (F, B) is 3 though its left end is
+    -- above its right end
+    breaks F 0 F (bracketTo (1073741824 + F)) 1 ∷
+    breaks F 0 65 0 2 ∷
+    breaks F 0 F (bracketTo 0) 3 ∷
+    breaks F 0 (1 + F) (bracketTo F) 5 ∷
+    breaks F F 65 268435456 1 ∷
+    breaks F F F (bracketTo 0) 3 ∷
+    breaks F F 65 1 4 ∷
+    breaks F F F (bracketTo F) 5 ∷
+    breaks F (1 + F) 0 536870912 1 ∷
+    breaks F (1 + F) 65 0 6 ∷
+    -- P16: two rules at once: 1 with 2, 2 with 4, 1 with 3; 1 with 4, and with 5; 1 with 6
+    breaks F 0 65 1073741824 1 ∷
+    breaks F 0 0 0 2 ∷
+    breaks F 0 F (bracketTo 536870912) 1 ∷
+    breaks F F 0 268435456 1 ∷
+    breaks F F (1 + F) (bracketTo (1073741824 + F)) 1 ∷
+    breaks F (1 + F) 7 536870912 1 ∷
     -- of the rows of SCOPE 7.2: CLEAR of the last register, of one more, and with a third word of 1
     runsTo (fresh F F) F (0 ∷ (F - 1) ∷ 0 ∷ 0 ∷ 0 ∷ F ∷ 0 ∷ 0 ∷ 0 ∷ 0 ∷ 1 ∷ 0 ∷ []) (0 ∷ 0 ∷ 11 ∷ 0 ∷ 12 ∷ 0 ∷ [])
     (fresh F F) F ∷

@@ -3,21 +3,22 @@
 use mathlib.Core.List.{List}
 use Prim.Native.Nat.{ℕ, zero, suc}
 
--- the numbers that come back
+-- the numbers that come back; the rule is that of a damaged cell, and 0 where there is none
 pub record Verdict : Type 0 where
   pub status : ℕ
   pub value : ℕ
+  pub rule : ℕ
 
 -- a status with a value, or with value 0
 abbrev pub valued : ℕ → ℕ → Verdict
-valued s v = record { status = s; value = v }
+valued s v = record { status = s; value = v; rule = 0 }
 
 abbrev pub only : ℕ → Verdict
 only s = valued s 0
 
--- 3 with the damaged cell
-abbrev pub damagedAt : ℕ → Verdict
-damagedAt c = valued 3 c
+-- 3 with the damaged cell and the rule that it breaks
+abbrev pub damagedAt : ℕ → ℕ → Verdict
+damagedAt c q = record { status = 3; value = c; rule = q }
 
 -- a verdict with the store and `top` as they are left
 pub record Done : Type 0 where

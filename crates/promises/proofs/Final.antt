@@ -1,7 +1,7 @@
 -- The claims of specs/, each with its proof. Nothing else stands here.
 -- Assumes nothing.
-use Rattle.promises.specs.Table.{CheckAnswers, FreshAnswers, CollectAnswers, LookAnswers, BatchAnswers}
-use Rattle.promises.specs.Table.{CallAnswers}
+use Rattle.promises.specs.Table.{RulesInWords, NoneBroken, CheckAnswers, FreshAnswers, CollectAnswers}
+use Rattle.promises.specs.Table.{LookAnswers, BatchAnswers, CallAnswers}
 use Rattle.promises.specs.Collecting.{LiveCounts, CollectingKeeps}
 use Rattle.promises.specs.Room.{RoomInWords, RoomNotLess}
 use Rattle.promises.specs.Calls.{CallsDo, BatchesRun}
@@ -20,6 +20,7 @@ use Rattle.promises.specs.ProgramRows.{ProgramRows}
 use Rattle.promises.specs.Unique.{OneAnswer, OneCheck, OneFresh, OneCollected, OneLook, OneCollect, OneBatch}
 use Rattle.promises.specs.Unique.{OneCall, OnePrint, OneType, OneProgram, OneLoad, OneSave}
 use Rattle.promises.specs.OwnWords.{CodesInWords, FaultsInWords, FaultRows, OneFault}
+use Rattle.promises.proofs.table.Cells as cells
 use Rattle.promises.proofs.table.Tables as tables
 use Rattle.promises.proofs.collecting.Keeping as keeping
 use Rattle.promises.proofs.room.Seeking as seeking
@@ -44,6 +45,12 @@ use Rattle.promises.proofs.unique.Calls as calls-once
 use Rattle.promises.proofs.unique.Outcomes as once
 
 -- ---- demand 1
+
+pub rules-in-words : RulesInWords
+rules-in-words = cells.rules-in-words
+
+pub none-broken : NoneBroken
+none-broken = cells.none-broken
 
 pub check-answers : CheckAnswers
 check-answers = tables.check-answers

@@ -49,6 +49,7 @@ pub record Called (F : ℕ) (ws : List ℕ) (top o d a b n : ℕ) (r : Done) : T
   -- the first status that applies, of 10 to 16, else 0; the value and the registers' expressions by the effect
   pub status : r .verdict .status ≡ callStatus wrong (effect F ws top o d a b) (lacking F ws top o d a b n)
   pub value : r .verdict .value ≡ answer (r .verdict .status) (effect F ws top o d a b)
+  pub rule : r .verdict .rule ≡ 0
   pub registers : (i : ℕ) → i < F
       → meaning (r .words) i ≡ after (r .verdict .status) (effect F ws top o d a b) (meaning ws) i
   -- a call whose words and operands are right is refused for room exactly when F + live + need exceeds the capacity

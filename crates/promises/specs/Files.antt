@@ -12,13 +12,14 @@ use mathlib.Core.Logic.{_≢_}
 use mathlib.Core.List.{List, [], _∷_, _++_}
 use Prim.Native.Nat.{ℕ, _+_, _-_, _*_, _≤_, _<_}
 use lib.ListN.{length, getD, replicate}
+use Rattle.words.specs.Cell.{firstWord, secondWord}
 use Rattle.meaning.specs.Limits.{firstHeapCell, limit}
 use Rattle.meaning.specs.Sound.{at, capacity, CellRule, Sound}
 use Rattle.meaning.specs.Reach.{Reached, live}
 use Rattle.meaning.specs.Verdicts.{Verdict, only, damagedAt, Done, done, refused}
 use Rattle.meaning.specs.File.{firstOf, fileOf, fileDistance, fileCells, fileCapacity, fileEdition, body, loadIn, Saved}
 use Rattle.meaning.specs.File.{saveIn}
-use Rattle.promises.specs.Table.{OneOf, Not, Judged}
+use Rattle.promises.specs.Table.{OneOf, Not, rules, FirstOf, Judged}
 use Rattle.promises.specs.Collecting.{CollectedFrom}
 
 -- ---- the file of a store
@@ -91,9 +92,10 @@ pub data LoadedAs (f : ℕ) (bs ws : List ℕ) : Done → Type 0 where
       → LoadedAs f bs ws (refused ws 0 (only 33))
   wrongSlice : 16 ≤ length bs → 0 < f → DistanceRule f bs → CapacityRule f bs → length ws ≢ 2 * fileCapacity bs
       → LoadedAs f bs ws (refused ws 0 (only 35))
-  damaged : Passed f bs ws → (v : List ℕ) → StoreIn f bs v → (c : ℕ) → c < capacity v
-      → Not (CellRule f v (f + fileCells bs) c) → ((x : ℕ) → x < c → CellRule f v (f + fileCells bs) x)
-      → LoadedAs f bs ws (refused ws 0 (damagedAt c))
+  damaged : Passed f bs ws → (v : List ℕ) → StoreIn f bs v → (c q : ℕ) → c < capacity v
+      → Not (CellRule f v (f + fileCells bs) c)
+      → FirstOf (rules f (f + fileCells bs) c (firstWord v c) (secondWord v c)) q
+      → ((x : ℕ) → x < c → CellRule f v (f + fileCells bs) x) → LoadedAs f bs ws (refused ws 0 (damagedAt c q))
   notCollected : Passed f bs ws → (v : List ℕ) → StoreIn f bs v → Sound f v (f + fileCells bs)
       → Not (AllReached f v (f + fileCells bs)) → LoadedAs f bs ws (refused ws 0 (only 34))
   loaded : Passed f bs ws → (v : List ℕ) → StoreIn f bs v → Sound f v (f + fileCells bs)
@@ -102,6 +104,7 @@ pub data LoadedAs (f : ℕ) (bs ws : List ℕ) : Done → Type 0 where
 pub record LoadTable (bs ws : List ℕ) (r : Done) : Type 0 where
   pub number : OneOf (r .verdict .status) (0 ∷ 3 ∷ 30 ∷ 31 ∷ 32 ∷ 33 ∷ 34 ∷ 35 ∷ [])
   pub value : r .verdict .status ≢ 3 → r .verdict .value ≡ 0
+  pub rule : r .verdict .status ≢ 3 → r .verdict .rule ≡ 0
   pub kept : r .verdict .status ≢ 0 → (r .words ≡ ws) × (r .top ≡ 0)
   pub loads : LoadedAs (firstOf (fileEdition bs)) bs ws r
 
@@ -130,6 +133,7 @@ pub data SavedAs (e F : ℕ) (ws : List ℕ) (top n : ℕ) : Saved → Type 0 wh
 pub record SaveTable (e F : ℕ) (ws : List ℕ) (top n : ℕ) (r : Saved) : Type 0 where
   pub number : OneOf (r .verdict .status) (0 ∷ 1 ∷ 2 ∷ 3 ∷ 22 ∷ [])
   pub value : r .verdict .status ≢ 3 → r .verdict .value ≡ 0
+  pub rule : r .verdict .status ≢ 3 → r .verdict .rule ≡ 0
   -- a refusal: no length, and every byte of the space zero
   pub refused : r .verdict .status ≢ 0 → (r .size ≡ 0) × (r .space ≡ replicate n 0)
   pub saves : SavedAs e F ws top n r

@@ -73,6 +73,7 @@ pub data PrintedAs (F : ℕ) (ws : List ℕ) (top i n : ℕ) : Verdict → Type 
 pub record PrintTable (F : ℕ) (ws : List ℕ) (top i n : ℕ) (r : Printed) : Type 0 where
   pub number : OneOf (r .verdict .status) (0 ∷ 1 ∷ 2 ∷ 3 ∷ 20 ∷ 21 ∷ 22 ∷ [])
   pub value : r .verdict .status ≢ 3 → r .verdict .value ≡ 0
+  pub rule : r .verdict .status ≢ 3 → r .verdict .rule ≡ 0
   pub prints : PrintedAs F ws top i n (r .verdict)
   -- the whole text, and zeros after it
   pub whole : r .verdict .status ≡ 0

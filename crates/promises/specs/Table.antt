@@ -2,17 +2,21 @@
 -- in the table's order, and a refusal leaves everything as it was lent.
 -- Assumes nothing.
 use mathlib.Core.Path.{_≡_}
-use mathlib.Core.Logic.{_⊎_, _≢_}
+use mathlib.Core.Logic.{_⊎_, _≢_, _↔_}
+use mathlib.Core.Bool.{true}
 use mathlib.Core.List.{List, [], _∷_}
-use Prim.Native.Nat.{ℕ, suc, _+_, _-_, _*_, _/_, _≤_, _<_}
+use Prim.Native.Nat.{ℕ, zero, suc, _+_, _-_, _*_, _/_, _≤_, _<_}
 use lib.ListN.{length, getD}
+use Rattle.words.specs.Cell.{firstWord, secondWord}
+use Rattle.words.specs.Second.{decode, bracketTo}
+use Rattle.meaning.specs.Limits.{limit}
 use Rattle.meaning.specs.Expr.{nothing}
-use Rattle.meaning.specs.Sound.{empty, ends, at, capacity, Allowed, CellRule, Sound}
+use Rattle.meaning.specs.Sound.{empty, ends, at, capacity, IsCode, Allowed, CellRule, Sound}
 use Rattle.meaning.specs.Meaning.{meaning}
 use Rattle.meaning.specs.Reach.{live}
 use Rattle.meaning.specs.Collected.{collected}
 use Rattle.meaning.specs.Verdicts.{Verdict, only, damagedAt, Done}
-use Rattle.meaning.specs.Check.{check, collectIn}
+use Rattle.meaning.specs.Check.{brokenRule, check, collectIn}
 use Rattle.meaning.specs.Fresh.{fresh, freshIn}
 use Rattle.meaning.specs.Look.{look}
 use Rattle.meaning.specs.Call.{step}
@@ -30,18 +34,75 @@ Not A = A → ⊥
 abbrev pub TopRule : ℕ → List ℕ → ℕ → Type 0
 TopRule F ws top = (F ≤ top) × (top ≤ capacity ws)
 
--- ---- the check: 0 exactly for a sound store, 3 with the lowest cell that breaks its rule
+-- ---- the rules of a cell (SCOPE 1.6): what each says of the words a and b of cell c, whatever other rule they break
+
+-- 1: a mark or a chain flag is set
+abbrev pub StrayBit : ℕ → Type 0
+StrayBit b = (decode b .used ≡ true) ⊎ (decode b .lc ≡ true) ⊎ (decode b .rc ≡ true)
+
+-- 2: a register without the bracket bit
+abbrev pub NotBracket : ℕ → ℕ → ℕ → ℕ → Type 0
+NotBracket F top c b = (c < top) × (c < F) × (b < bracketTo 0)
+
+-- 3: the second word is that of an empty bracket, and the first is not
+abbrev pub BadEmpty : ℕ → ℕ → ℕ → ℕ → Type 0
+BadEmpty top c a b = (c < top) × (b ≡ bracketTo 0) × (a ≢ 0)
+
+-- 4: without the bracket bit, and no symbol
+abbrev pub BadSymbol : ℕ → ℕ → ℕ → ℕ → Type 0
+BadSymbol top c a b = (c < top) × (b < bracketTo 0) × Not (IsCode a × (b ≡ 0))
+
+-- 5: a bracket that is not empty, with ends out of order or range: a register's lie below `top`, those of a heap cell
+-- below itself
+abbrev pub EndsRight : ℕ → ℕ → ℕ → ℕ → ℕ → Type 0
+EndsRight F top c l r = (F ≤ l) × (l ≤ r) × (c < F → r < top) × (F ≤ c → r < c)
+
+abbrev pub BadEnds : ℕ → ℕ → ℕ → ℕ → ℕ → Type 0
+BadEnds F top c a b =
+    (c < top) × ((r : ℕ) × (b ≡ bracketTo r) × Not ((a ≡ 0) × (r ≡ 0)) × Not (EndsRight F top c a r))
+
+-- 6: a cell beyond `top` that is not two zero words
+abbrev pub BeyondTop : ℕ → ℕ → ℕ → ℕ → Type 0
+BeyondTop top c a b = (top ≤ c) × Not ((a ≡ 0) × (b ≡ 0))
+
+abbrev pub rules : ℕ → ℕ → ℕ → ℕ → ℕ → List (Type 0)
+rules F top c a b =
+    StrayBit b ∷ NotBracket F top c b ∷ BadEmpty top c a b ∷ BadSymbol top c a b ∷ BadEnds F top c a b ∷
+    BeyondTop top c a b ∷ []
+
+-- q is the number of the first of these that holds, counted from 1, or 0 where none does
+abbrev pub FirstOf : List (Type 0) → ℕ → Type 0
+FirstOf [] zero = Unit {0}
+FirstOf [] (suc q) = ⊥
+FirstOf (A ∷ As) zero = Not A × FirstOf As zero
+FirstOf (A ∷ As) (suc zero) = A
+FirstOf (A ∷ As) (suc (suc q)) = Not A × FirstOf As (suc q)
+
+-- the judgement gives a rule's number exactly where that rule is the first that the cell breaks
+abbrev pub RulesInWords : Type 0
+RulesInWords = (F top c a b q : ℕ) → (brokenRule F top c a b ≡ q) ↔ FirstOf (rules F top c a b) q
+
+-- and 0 exactly where the cell keeps the rule that makes a store sound
+abbrev pub NoneBroken : Type 0
+NoneBroken =
+    (F : ℕ) (ws : List ℕ) (top c : ℕ) → F ≤ top → top ≤ limit
+    → (brokenRule F top c (firstWord ws c) (secondWord ws c) ≡ 0) ↔ CellRule F ws top c
+
+-- ---- the check: 0 exactly for a sound store, 3 with the lowest cell that breaks its rule, and which rule it is
 
 pub data Judged (F : ℕ) (ws : List ℕ) (top : ℕ) : Verdict → Type 0 where
   badLength : Not (Allowed F (length ws)) → Judged F ws top (only 1)
   badTop : Allowed F (length ws) → Not (TopRule F ws top) → Judged F ws top (only 2)
-  badCell : (c : ℕ) → Allowed F (length ws) → TopRule F ws top → c < capacity ws → Not (CellRule F ws top c)
-      → ((x : ℕ) → x < c → CellRule F ws top x) → Judged F ws top (damagedAt c)
+  badCell : (c q : ℕ) → Allowed F (length ws) → TopRule F ws top → c < capacity ws → Not (CellRule F ws top c)
+      → FirstOf (rules F top c (firstWord ws c) (secondWord ws c)) q
+      → ((x : ℕ) → x < c → CellRule F ws top x) → Judged F ws top (damagedAt c q)
   isSound : Sound F ws top → Judged F ws top (only 0)
 
 pub record CheckTable (F : ℕ) (ws : List ℕ) (top : ℕ) (v : Verdict) : Type 0 where
   pub number : OneOf (v .status) (0 ∷ 1 ∷ 2 ∷ 3 ∷ [])
   pub value : v .status ≢ 3 → v .value ≡ 0
+  pub rule : v .status ≢ 3 → v .rule ≡ 0
+  pub broken : v .status ≡ 3 → OneOf (v .rule) (1 ∷ 2 ∷ 3 ∷ 4 ∷ 5 ∷ 6 ∷ [])
   pub sound : (v .status ≡ 0 → Sound F ws top) × (Sound F ws top → v .status ≡ 0)
   pub judged : Judged F ws top v
 
@@ -53,6 +114,7 @@ CheckAnswers = (F : ℕ) (ws : List ℕ) (top : ℕ) → CheckTable F ws top (ch
 pub record FreshTable (F : ℕ) (ws : List ℕ) (r : Done) : Type 0 where
   pub number : OneOf (r .verdict .status) (0 ∷ 1 ∷ [])
   pub value : r .verdict .value ≡ 0
+  pub rule : r .verdict .rule ≡ 0
   pub made : Allowed F (length ws) → (r .verdict .status ≡ 0) × (r .words ≡ fresh F (capacity ws)) × (r .top ≡ F)
   pub sound : Allowed F (length ws) → Sound F (r .words) (r .top) × ((i : ℕ) → i < F → meaning (r .words) i ≡ nothing)
   pub refused : Not (Allowed F (length ws)) → (r .verdict .status ≡ 1) × (r .words ≡ ws) × (r .top ≡ 0)
@@ -64,6 +126,7 @@ FreshAnswers = (F : ℕ) (ws : List ℕ) → FreshTable F ws (freshIn F ws)
 
 pub record CollectTable (F : ℕ) (ws : List ℕ) (top : ℕ) (r : Done) : Type 0 where
   pub number : OneOf (r .verdict .status) (0 ∷ 1 ∷ 2 ∷ 3 ∷ [])
+  pub rule : r .verdict .status ≢ 3 → r .verdict .rule ≡ 0
   pub collects : Sound F ws top
       → (r .verdict .status ≡ 0) × (r .verdict .value ≡ live F ws top)
       × (r .words ≡ collected F ws top) × (r .top ≡ F + live F ws top)
@@ -104,6 +167,7 @@ pub data Batched (F : ℕ) (ws : List ℕ) (top : ℕ) (calls out : List ℕ) : 
 pub record BatchTable (F : ℕ) (ws : List ℕ) (top : ℕ) (calls out : List ℕ) (r : Outcome) : Type 0 where
   pub number : OneOf (r .verdict .status) (0 ∷ 1 ∷ 2 ∷ 3 ∷ 4 ∷ 5 ∷ [])
   pub value : r .verdict .status ≢ 3 → r .verdict .value ≡ 0
+  pub rule : r .verdict .status ≢ 3 → r .verdict .rule ≡ 0
   pub kept : r .verdict .status ≢ 0 → (r .words ≡ ws) × (r .top ≡ top) × (r .answers ≡ out)
   pub batched : Batched F ws top calls out r
   -- a batch of no calls is 0 and changes no store word
@@ -118,6 +182,7 @@ BatchAnswers =
 pub record CallTable (F : ℕ) (ws : List ℕ) (top : ℕ) (r : Done) : Type 0 where
   pub number : OneOf (r .verdict .status) (0 ∷ 10 ∷ 11 ∷ 12 ∷ 13 ∷ 14 ∷ 15 ∷ 16 ∷ [])
   pub value : r .verdict .status ≢ 0 → r .verdict .value ≡ 0
+  pub rule : r .verdict .rule ≡ 0
   pub kept : OneOf (r .verdict .status) (10 ∷ 11 ∷ 12 ∷ 13 ∷ 14 ∷ 15 ∷ []) → (r .words ≡ ws) × (r .top ≡ top)
   pub expressions : r .verdict .status ≢ 0 → (i : ℕ) → i < F → meaning (r .words) i ≡ meaning ws i
   pub sound : Sound F (r .words) (r .top)

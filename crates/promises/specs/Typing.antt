@@ -94,6 +94,7 @@ pub record TypeTable (F : ℕ) (ws : List ℕ) (top d : ℕ) (bs : List ℕ) (r 
   pub number : OneOf (r .verdict .status) (0 ∷ 1 ∷ 2 ∷ 3 ∷ 13 ∷ 16 ∷ 20 ∷ 21 ∷ 23 ∷ [])
   -- 3 has a cell for its value, 13, 21 and 23 an offset
   pub value : OneOf (r .verdict .status) (0 ∷ 1 ∷ 2 ∷ 16 ∷ 20 ∷ []) → r .verdict .value ≡ 0
+  pub rule : r .verdict .status ≢ 3 → r .verdict .rule ≡ 0
   pub types : Sound F ws top → TypedIn F ws top d bs r
   pub unsound : Not (Sound F ws top)
       → Judged F ws top (r .verdict) × (r .verdict .status ≢ 0) × (r .words ≡ ws) × (r .top ≡ top)

@@ -3,9 +3,9 @@
 --   register-keeps, heap-keeps     what a cell adds is zero only where it keeps its rule
 --   free-keep, all-keep            the free cells by their words; the three passes together
 -- Assumes nothing.
-use mathlib.Core.Path.{_≡_, refl, sym, subst, _∙_}
+use mathlib.Core.Path.{_≡_, refl, sym, subst}
 use mathlib.Core.Bool.{Bool, true, false, not}
-use mathlib.Core.Logic.{_⊎_, inl, inr}
+use mathlib.Core.Logic.{_⊎_, inl, inr, _↔_}
 use mathlib.Core.List.{List}
 use Prim.Native.Nat.{ℕ, _+_, _*_, _≤_, _<_}
 use native.Mathlib.Omega.{arith}
@@ -13,12 +13,10 @@ use native.Mathlib.Decide.{ℕ-discrete}
 use lib.Bits.{bitOr, or-add-and, and-le-l, and-le-r}
 use lib.ListN.{length, getD}
 use mir.Val.{boolByte}
-use borrow.Author.Tests.{lt-ltb, le-ltb}
 use Rattle.words.specs.Cell.{firstWord, secondWord}
-use Rattle.meaning.specs.Sound.{capacity}
-use Rattle.meaning.specs.Check.{bracketTest, termTest, cellTest}
+use Rattle.meaning.specs.Sound.{capacity, IsBracket, IsTerm, CellRule}
 use Rattle.meaning.proofs.Lists.{lt-or-ge}
-use Rattle.store.specs.Passing.{Keeps, Passed}
+use Rattle.store.specs.Passing.{Passed}
 
 -- ---- a pass over numbers from `low` on, up to c: where nothing is gathered, P holds of each
 
@@ -49,34 +47,40 @@ passed true e = refl
 passed false e = absurd (omega arith)
 
 module _ (F : ℕ) (ws : List ℕ) (top : ℕ) where
-  pub register-keeps : (c : ℕ) {x y : ℕ} {r : Bool} → c < F → x ≡ firstWord ws c → y ≡ secondWord ws c
-      → r ≡ bracketTest F top x y → boolByte (not r) ≡ 0 → Keeps F ws top c
-  unfolding cellTest
-  register-keeps c {r = r} l p q e z = rw (lt-ltb c F l, ← p, ← q) (sym e ∙ passed r z)
+  pub register-keeps : (c : ℕ) {x y : ℕ} {r : Bool} → F ≤ top → c < F → x ≡ firstWord ws c → y ≡ secondWord ws c
+      → (r ≡ true) ↔ IsBracket F top x y → boolByte (not r) ≡ 0 → CellRule F ws top c
+  register-keeps c {r = r} low l p q e z =
+      record {
+        register = λ m. rw (← p, ← q) (e .0 (passed r z));
+        occupied = λ m. absurd (omega arith);
+        free = λ m. absurd (omega arith);
+      }
 
   pub heap-keeps : (c : ℕ) {x y : ℕ} {r : Bool} → F ≤ c → c < top → x ≡ firstWord ws c → y ≡ secondWord ws c
-      → r ≡ termTest F c x y → boolByte (not r) ≡ 0 → Keeps F ws top c
-  unfolding cellTest
-  heap-keeps c {r = r} l m p q e z = rw (le-ltb c F l, lt-ltb c top m, ← p, ← q) (sym e ∙ passed r z)
+      → (r ≡ true) ↔ IsTerm F c x y → boolByte (not r) ≡ 0 → CellRule F ws top c
+  heap-keeps c {r = r} l m p q e z =
+      record {
+        register = λ h. absurd (omega arith);
+        occupied = λ h k. rw (← p, ← q) (e .0 (passed r z));
+        free = λ h. absurd (omega arith);
+      }
 
   -- ---- all cells: the free ones by their words, and the passes one after the other
 
   pub free-keep : F ≤ top → ((x : ℕ) → 2 * top ≤ x → x < length ws → getD ws x 0 ≡ 0)
-      → (c : ℕ) → top ≤ c → c < capacity ws → Keeps F ws top c
-  unfolding cellTest
+      → (c : ℕ) → top ≤ c → c < capacity ws → CellRule F ws top c
   free-keep l h c m k =
-      rw (
-        le-ltb c F (omega arith),
-        le-ltb c top m,
-        h (2 * c) (omega arith) (omega arith),
-        h (2 * c + 1) (omega arith) (omega arith),
-      ) refl
+      record {
+        register = λ n. absurd (omega arith);
+        occupied = λ n g. absurd (omega arith);
+        free = λ n. (h (2 * c) (omega arith) (omega arith), h (2 * c + 1) (omega arith) (omega arith));
+      }
 
   pub all-keep : {r s t : Bool} → r ≡ true → s ≡ true → Passed F ws top 0 F r → Passed F ws top F top s
       → Passed F ws top top (capacity ws) t → Passed F ws top 0 (capacity ws) t
   all-keep e f h k n g c l m = go (lt-or-ge c F) (lt-or-ge c top)
     where
-      go : (c < F) ⊎ (F ≤ c) → (c < top) ⊎ (top ≤ c) → Keeps F ws top c
+      go : (c < F) ⊎ (F ≤ c) → (c < top) ⊎ (top ≤ c) → CellRule F ws top c
       go (inl x) y = h e c l x
       go (inr x) (inl y) = k f c x y
       go (inr x) (inr y) = n g c y m

@@ -9,26 +9,26 @@ use Rattle.store.specs.Answers.{refusalOf}
 use Rattle.store.specs.declared.Unsound.{Unsound}
 use Rattle.store.specs.declared.Unsound.the-variants as unsound
 
--- by the status less one, with the value
-abbrev numbered : ℕ → ℕ → Unsound
-numbered zero v = unsound.BadLength
-numbered (suc zero) v = unsound.BadTop
-numbered (suc (suc s)) v = unsound.Damaged v
+-- by the status less one, with the value and the rule
+abbrev numbered : ℕ → ℕ → ℕ → Unsound
+numbered zero v q = unsound.BadLength
+numbered (suc zero) v q = unsound.BadTop
+numbered (suc (suc s)) v q = unsound.Damaged v q
 
 abbrev pub unsoundOf : Verdict → Unsound
-unsoundOf v = numbered (v .status - 1) (v .value)
+unsoundOf v = numbered (v .status - 1) (v .value) (v .rule)
 
 pub unsoundOf-back : (u : Unsound) → unsoundOf (refusalOf u) ≡ u
 unsoundOf-back unsound.BadLength = refl
 unsoundOf-back unsound.BadTop = refl
-unsoundOf-back (unsound.Damaged c) = refl
+unsoundOf-back (unsound.Damaged c q) = refl
 
 -- what is said of 1, 2 and 3 is said of the refusal's status
 pub refusal-by : {A : Type 0} (f : ℕ → A) (y : A) → f 1 ≡ y → f 2 ≡ y → f 3 ≡ y → (u : Unsound)
     → f (refusalOf u .status) ≡ y
 refusal-by f y p q r unsound.BadLength = p
 refusal-by f y p q r unsound.BadTop = q
-refusal-by f y p q r (unsound.Damaged c) = r
+refusal-by f y p q r (unsound.Damaged c n) = r
 
 pub refusal-positive : (u : Unsound) → eqb (refusalOf u .status) 0 ≡ false
 refusal-positive = refusal-by (λ (s : ℕ). eqb s 0) false refl refl refl

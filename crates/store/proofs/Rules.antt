@@ -1,16 +1,24 @@
 -- A cell's rules as src/cells.rt tests them, with no branch: `bracket-test`, and `term-test` by it. Assumes nothing.
-use mathlib.Core.Path.{_≡_, refl, sym}
-use mathlib.Core.Bool.{Bool, true, false, cond, _&&_, _||_, and-false, or-false}
+use mathlib.Core.Path.{_≡_, refl, sym, subst}
+use mathlib.Core.Logic.{_⊎_, inl, inr, _↔_}
+use mathlib.Core.Bool.{Bool, true, false, _&&_, _||_, or-true}
 use Prim.Native.Nat.{ℕ, _-_, _^_, _≤_, _<_}
 use native.Mathlib.Omega.{arith}
 use lib.Dec.{ltb, leb, eqb}
 use lib.Bits.{bitXor}
-use borrow.Author.Tests.{le-ltb, le-leb, lt-leb, ltb-true, ltb-false, eqb-true, eqb-false}
+use borrow.Author.Tests.{leb-true, le-leb, ltb-true, lt-ltb, eqb-true}
 use Rattle.words.specs.Second.{bracketTo}
 use Rattle.words.proofs.Laws.{bit-flag}
 use Rattle.words.proofs.Masks.{xor-bit}
 use Rattle.meaning.specs.Limits.{codeTest}
-use Rattle.meaning.specs.Check.{bracketTest, termTest}
+use Rattle.meaning.specs.Sound.{IsBracket, isEmpty, isFull, IsTerm, isSymbol, isBracket}
+use Rattle.meaning.proofs.Lists.{lt-or-ge}
+use Rattle.meaning.proofs.Counting.{both-true}
+
+-- one of two tests that hold together
+either : (t u : Bool) → (t || u) ≡ true → (t ≡ true) ⊎ (u ≡ true)
+either true u e = inl refl
+either false u e = inr e
 
 -- the bracket bit turned over: what is left is a bracket's right end, and of any other word more than an address
 module _ (b : ℕ) (w : b < 2 ^ 32) where
@@ -20,53 +28,46 @@ module _ (b : ℕ) (w : b < 2 ^ 32) where
   no-end : b < 2 ^ 31 → 2 ^ 31 ≤ bitXor b (bracketTo 0)
   no-end h = omega (arith, xor-bit 31 b, bit-flag 31 b)
 
--- three tests at once, and one after the other
-in-turn : (F a r lim : ℕ) → (leb F a && leb a r && ltb r lim) ≡ cond (ltb a F) false (cond (ltb r a) false (ltb r lim))
-in-turn F a r lim = go (ltb a F) (ltb r a) refl refl
+abbrev bracketOk : ℕ → ℕ → ℕ → ℕ → Bool
+bracketOk F lim a b =
+    eqb b (bracketTo 0) && eqb a 0
+    || leb F a && leb a (bitXor b (bracketTo 0)) && ltb (bitXor b (bracketTo 0)) lim
+
+pub bracket-test : (F lim a b : ℕ) → b < 2 ^ 32 → lim < 2 ^ 31 → (bracketOk F lim a b ≡ true) ↔ IsBracket F lim a b
+bracket-test F lim a b w fits = (λ e. go (either _ _ e), λ k. back w k)
   where
-    go : (t u : Bool) → ltb a F ≡ t → ltb r a ≡ u
-        → (leb F a && leb a r && ltb r lim) ≡ cond t false (cond u false (ltb r lim))
-    go true u e f = rw (lt-leb F a (ltb-true a F e)) refl
-    go false true e f = rw (le-leb F a (ltb-false a F e), lt-leb a r (ltb-true r a f)) refl
-    go false false e f = rw (le-leb F a (ltb-false a F e), le-leb a r (ltb-false r a f)) refl
+    go : ((eqb b (bracketTo 0) && eqb a 0) ≡ true)
+        ⊎ ((leb F a && leb a (bitXor b (bracketTo 0)) && ltb (bitXor b (bracketTo 0)) lim) ≡ true) → IsBracket F lim a b
+    go (inl e) =
+        let y = both-true (eqb b (bracketTo 0)) (eqb a 0) e in
+        rw (eqb-true b (bracketTo 0) (y .0), eqb-true a 0 (y .1)) isEmpty
+    go (inr e) =
+        let x = both-true (leb F a && leb a (bitXor b (bracketTo 0))) (ltb (bitXor b (bracketTo 0)) lim) e in
+        let y = both-true (leb F a) (leb a (bitXor b (bracketTo 0))) (x .0) in
+        full (lt-or-ge b (2 ^ 31)) (leb-true _ _ (y .0)) (leb-true _ _ (y .1)) (ltb-true _ _ (x .1))
+      where
+        full : (b < 2 ^ 31) ⊎ (2 ^ 31 ≤ b) → F ≤ a → a ≤ bitXor b (bracketTo 0) → bitXor b (bracketTo 0) < lim
+            → IsBracket F lim a b
+        full (inl h) f g l = absurd (omega (arith, no-end b w h))
+        full (inr h) f g l =
+            let z : bracketTo (bitXor b (bracketTo 0)) ≡ b = omega (arith, end-of b w h) in
+            subst (λ (v : ℕ). IsBracket F lim a v) z (isFull f g l)
 
-module _ (F lim a b : ℕ) (w : b < 2 ^ 32) (fits : lim < 2 ^ 31) where
-  abbrev right : ℕ
-  right = bitXor b (bracketTo 0)
+    back : {x y : ℕ} → y < 2 ^ 32 → IsBracket F lim x y → bracketOk F lim x y ≡ true
+    back v isEmpty = refl
+    back v (isFull {l} {r} f g h) =
+        let e : bitXor (bracketTo r) (bracketTo 0) ≡ r = omega (arith, end-of (bracketTo r) v (omega arith)) in
+        rw (e, le-leb F l f, le-leb l r g, lt-ltb r lim h) (or-true (eqb (bracketTo r) (bracketTo 0) && eqb l 0))
 
-  pub bracket-test : (eqb b (bracketTo 0) && eqb a 0 || leb F a && leb a right && ltb right lim) ≡ bracketTest F lim a b
-  unfolding bracketTest
-  bracket-test = go (eqb b (bracketTo 0)) (ltb b (bracketTo 0)) refl refl
-    where
-      -- where the right end is 0, so is the left
-      empty : (t : Bool) → eqb a 0 ≡ t → right ≡ 0 → (t || leb F a && leb a right && ltb right lim) ≡ t
-      empty true e z = refl
-      empty false e z = rw (lt-leb a right (omega (arith, eqb-false a 0 e)), and-false (leb F a)) refl
-
-      go : (t u : Bool) → eqb b (bracketTo 0) ≡ t → ltb b (bracketTo 0) ≡ u
-          → (t && eqb a 0 || leb F a && leb a right && ltb right lim)
-          ≡ cond t (eqb a 0) (cond u false (cond (ltb a F) false
-          (cond (ltb (b - bracketTo 0) a) false (ltb (b - bracketTo 0) lim))))
-      go true u e f =
-          let q : b ≡ bracketTo 0 = eqb-true b (bracketTo 0) e in
-          empty (eqb a 0) refl (omega (arith, end-of b w (omega arith)))
-      go false true e f =
-          rw (le-ltb right lim (omega (arith, no-end b w (ltb-true b (bracketTo 0) f))))
-          (and-false (leb F a && leb a right))
-      go false false e f = rw (sym (end-of b w (ltb-false b (bracketTo 0) f))) (in-turn F a right lim)
-
--- a second word of 0 is no bracket's
-zero-bracket : (F lim a : ℕ) → bracketTest F lim a 0 ≡ false
-unfolding bracketTest
-zero-bracket F lim a = refl
-
-pub term-test : (F c a b : ℕ) → (eqb b 0 && codeTest a || bracketTest F c a b) ≡ termTest F c a b
-unfolding termTest
-term-test F c a b = go (eqb b 0) refl
+-- r is the test of a bracket
+pub term-test : (F c a b : ℕ) (r : Bool) → (r ≡ true) ↔ IsBracket F c a b
+    → ((eqb b 0 && codeTest a || r) ≡ true) ↔ IsTerm F c a b
+term-test F c a b r q = (λ e. go (either _ _ e), λ k. back k (λ h. q .1 h))
   where
-    go : (t : Bool) → eqb b 0 ≡ t
-        → (t && codeTest a || bracketTest F c a b) ≡ cond t (codeTest a) (bracketTest F c a b)
-    go true e =
-        let q : bracketTest F c a b ≡ false = rw (eqb-true b 0 e) (zero-bracket F c a) in
-        rw q (or-false (codeTest a))
-    go false e = refl
+    go : ((eqb b 0 && codeTest a) ≡ true) ⊎ (r ≡ true) → IsTerm F c a b
+    go (inl e) = let y = both-true (eqb b 0) (codeTest a) e in rw (eqb-true b 0 (y .0)) (isSymbol (y .1))
+    go (inr e) = isBracket (q .0 e)
+
+    back : {x y : ℕ} → IsTerm F c x y → (IsBracket F c x y → r ≡ true) → (eqb y 0 && codeTest x || r) ≡ true
+    back (isSymbol h) f = rw h refl
+    back (isBracket {a = x} {b = y} h) f = rw (f h) (or-true (eqb y 0 && codeTest x))

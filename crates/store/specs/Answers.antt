@@ -18,11 +18,11 @@ use Rattle.store.specs.declared.Made.{Made}
 use Rattle.store.specs.declared.Made.the-variants as made
 use Rattle.store.specs.declared.Span as span
 
--- an unsound store: 1 for the length; 2 for `top`; 3 with the first damaged cell
+-- an unsound store: 1 for the length; 2 for `top`; 3 with the first damaged cell and the rule that it breaks
 abbrev pub refusalOf : Unsound → Verdict
 refusalOf unsound.BadLength = only 1
 refusalOf unsound.BadTop = only 2
-refusalOf (unsound.Damaged c) = damagedAt c
+refusalOf (unsound.Damaged c q) = damagedAt c q
 
 -- the check: 0, or why the store is unsound
 abbrev pub verdictOf : Checked → Verdict

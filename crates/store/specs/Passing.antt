@@ -4,13 +4,9 @@ use mathlib.Core.Path.{_≡_}
 use mathlib.Core.Bool.{Bool, true}
 use mathlib.Core.List.{List}
 use Prim.Native.Nat.{ℕ, _≤_, _<_}
-use Rattle.words.specs.Cell.{firstWord, secondWord}
-use Rattle.meaning.specs.Check.{cellTest}
+use Rattle.meaning.specs.Sound.{CellRule}
 
--- cell c keeps its rule
-abbrev pub Keeps : ℕ → List ℕ → ℕ → ℕ → Type 0
-Keeps F ws top c = cellTest F top c (firstWord ws c) (secondWord ws c) ≡ true
-
--- so do the cells from `low` up to `high` where the answer r is true; where it is not, it does not say which fails
+-- the cells from `low` up to `high` keep their rules where the answer r is true; where it is not, it does not say which
+-- fails
 abbrev pub Passed : ℕ → List ℕ → ℕ → ℕ → ℕ → Bool → Type 0
-Passed F ws top low high r = r ≡ true → (c : ℕ) → low ≤ c → c < high → Keeps F ws top c
+Passed F ws top low high r = r ≡ true → (c : ℕ) → low ≤ c → c < high → CellRule F ws top c

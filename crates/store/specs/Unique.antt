@@ -13,7 +13,7 @@ use Rattle.store.specs.declared.Checked.{Checked}
 use Rattle.store.specs.declared.Made.{Made}
 use Rattle.store.specs.declared.Span as span
 
--- no two answers have one number and value
+-- no two answers have the same numbers
 abbrev pub VerdictsDiffer : Type 0
 VerdictsDiffer = (r r′ : Checked) → verdictOf r ≡ verdictOf r′ → r ≡ r′
 

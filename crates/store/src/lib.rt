@@ -14,12 +14,12 @@ ghost use Rattle.store.specs.Holds.{Bracketed, Termed, RunIs, termIs};
 pub mod cells;
 mod passes;
 
-// Why a store is unsound: its length, its `top`, or its first damaged cell. Every answer that may refuse a store holds
-// this as the check found it.
+// Why a store is unsound: its length, its `top`, or its first damaged cell, with the rule that this breaks. Every answer
+// that may refuse a store holds this as the check found it.
 pub enum Unsound {
     BadLength,
     BadTop,
-    Damaged(usize),
+    Damaged(usize, u32),
 }
 
 // What the check finds.
@@ -50,7 +50,7 @@ fn top_ok(top: usize, cells: usize) -> bool
 }
 
 // The length, then `top`, then the cells. Passes that are never left find a sound store sound. In any other a scan from
-// the lowest address up leaves at the first damaged cell.
+// the lowest address up leaves at the first damaged cell, with its rule.
 pub fn check(ws: &[u32], top: usize) -> Checked
     ensures { λ r. ⌜ Checks (now (ws .entry)) top r ⌝ }
 {
@@ -69,14 +69,15 @@ pub fn check(ws: &[u32], top: usize) -> Checked
         if cells <= c {
             break Checked::Sound;
         }
-        if !cells::cell_ok(
+        let rule = cells::broken_rule(
             words::first_word(ws, c),
             words::second_word(ws, c),
             c,
             meaning::FIRST_HEAP_CELL,
             top,
-        ) {
-            break Checked::Refused(Unsound::Damaged(c));
+        );
+        if rule != 0 {
+            break Checked::Refused(Unsound::Damaged(c, rule));
         }
         c += 1;
     }

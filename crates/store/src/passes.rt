@@ -9,7 +9,7 @@ ghost use Rattle.store.specs.Passing.{Passed};
 
 // Whether every register is a bracket whose ends lie below `top`.
 fn registers_ok(ws: &[u32], top: usize) -> bool
-    requires { ⌜ (2 * firstHeapCell ≤ length (now ws)) × (top < 2 ^ 31) ⌝ }
+    requires { ⌜ (2 * firstHeapCell ≤ length (now ws)) × (firstHeapCell ≤ top) × (top < 2 ^ 31) ⌝ }
     ensures { λ r. ⌜ Passed firstHeapCell (now (ws .entry)) top 0 firstHeapCell r ⌝ }
 {
     let mut damage: u32 = 0;

@@ -2,16 +2,16 @@
 use mathlib.Core.Path.{_≡_}
 use mathlib.Core.List.{List}
 use Prim.Native.Nat.{ℕ}
-use Rattle.meaning.specs.Verdicts.{Verdict, valued}
+use Rattle.meaning.specs.Verdicts.{Verdict}
 use Rattle.store.specs.declared.Made.{Made}
 use Rattle.store.specs.Answers.{madeIn}
 use Rattle.calls.specs.declared.Ran.{Ran}
 use Rattle.calls.specs.Answers.{ranIn}
 use Rattle.vectors.specs.declared.answers.Answer.{Answer}
 
--- an answer's status and value
+-- an answer's status, value and rule
 abbrev pub verdictIs : Answer → Verdict
-verdictIs r = valued (r .status) (r .value)
+verdictIs r = record { status = r .status; value = r .value; rule = r .rule }
 
 -- a fresh store's answer, whatever words are left
 abbrev pub IsMade : Answer → Made → Type 0

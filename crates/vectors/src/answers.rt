@@ -1,4 +1,4 @@
-// SCOPE's numbers for the answers (5.1), in code: status, value and `top`. Each function promises those of the
+// SCOPE's numbers for the answers (5.1), in code: status, value, rule and `top`. Each function promises those of the
 // definition that gives them.
 use calls::Ran;
 use store::Checked;
@@ -8,10 +8,11 @@ ghost use mathlib.Core.Path.{_≡_};
 ghost use Rattle.store.specs.Answers.{refusalOf, verdictOf};
 ghost use Rattle.vectors.specs.Answers.{verdictIs, IsMade, IsRan};
 
-// A status, the value that goes with it, and `top` afterwards.
+// A status, the value that goes with it, the rule of a damaged cell, and `top` afterwards.
 pub struct Answer {
     pub status: u64,
     pub value: u64,
+    pub rule: u64,
     pub top: usize,
 }
 
@@ -23,16 +24,19 @@ fn refused(why: Unsound, top: usize) -> Answer
         Unsound::BadLength => Answer {
             status: 1,
             value: 0,
+            rule: 0,
             top,
         },
         Unsound::BadTop => Answer {
             status: 2,
             value: 0,
+            rule: 0,
             top,
         },
-        Unsound::Damaged(cell) => Answer {
+        Unsound::Damaged(cell, rule) => Answer {
             status: 3,
             value: cell as u64,
+            rule: rule as u64,
             top,
         },
     }
@@ -46,6 +50,7 @@ pub fn checked(found: Checked, top: usize) -> Answer
         Checked::Sound => Answer {
             status: 0,
             value: 0,
+            rule: 0,
             top,
         },
         Checked::Refused(why) => refused(why, top),
@@ -60,11 +65,13 @@ pub fn made(m: Made) -> Answer
         Made::Ready(top) => Answer {
             status: 0,
             value: 0,
+            rule: 0,
             top,
         },
         Made::BadLength => Answer {
             status: 1,
             value: 0,
+            rule: 0,
             top: 0,
         },
     }
@@ -78,17 +85,20 @@ pub fn ran(b: Ran, top: usize) -> Answer
         Ran::Ended(last) => Answer {
             status: 0,
             value: 0,
+            rule: 0,
             top: last,
         },
         Ran::Refused(why) => refused(why, top),
         Ran::BadCalls => Answer {
             status: 4,
             value: 0,
+            rule: 0,
             top,
         },
         Ran::ShortAnswers => Answer {
             status: 5,
             value: 0,
+            rule: 0,
             top,
         },
     }

@@ -1,4 +1,4 @@
-// The rule of one cell, in a store that has three symbols on its heap and one free cell.
+// The rules of one cell, in a store that has three symbols on its heap and one free cell.
 use crate::SMALL;
 use crate::show;
 use meaning::CODE_LIMIT;
@@ -70,11 +70,14 @@ fn symbols() {
     row(FIRST_HEAP_CELL + 3, 1, 0);
     row(FIRST_HEAP_CELL + 3, 0, 1);
     row(FIRST_HEAP_CELL + 3, 0, EMPTY);
+    row(FIRST_HEAP_CELL + 3, 0, 268435456);
 }
 
-// The first register and the last.
+// The first register and the last; a used bit goes before what else is wrong.
 fn registers() {
     row(0, 0, 0);
+    row(0, 65, 0);
+    row(0, 65, 1073741824);
     row(0, 0, EMPTY);
     row(FIRST_HEAP_CELL - 1, FIRST, EMPTY + FIRST + 2);
     row(FIRST_HEAP_CELL - 1, FIRST, EMPTY + FIRST + 3);

@@ -38,9 +38,10 @@ pub fn verdict(name: &[u8], a: Answer) {
     number(a.value);
 }
 
-// What the check finds, to the end of a row.
+// What the check finds, with the rule of a damaged cell, to the end of a row.
 pub fn check(name: &[u8], ws: &[u32], top: usize) {
     let found = answers::checked(store::check(ws, top), top);
     verdict(name, found);
+    number(found.rule);
     end();
 }

@@ -1,6 +1,6 @@
 -- A cell's second word as a record of its five fields, and the two ways between them (SCOPE 1.2; Abramov and
 -- Romanenko 1988, 3.1). Assumes nothing.
-use mathlib.Core.Bool.{Bool, true, false, not, _&&_}
+use mathlib.Core.Bool.{Bool, true, false, not, _&&_, _||_}
 use Prim.Native.Nat.{ℕ, _+_, _*_, _/_, _%_, _^_}
 use lib.Dec.{eqb}
 
@@ -40,6 +40,10 @@ withRc b s = record { br = s .br; used = s .used; lc = s .lc; rc = b; ri = s .ri
 -- a word between calls: no mark and no chain
 abbrev pub plain : Bool → ℕ → Second
 plain b n = record { br = b; used = false; lc = false; rc = false; ri = n }
+
+-- a mark or a chain flag is set, as it never is between calls
+abbrev pub stray : Second → Bool
+stray s = s .used || s .lc || s .rc
 
 -- a bracket with contents, by its flag and its right end; and by its second word
 abbrev pub full : Bool → ℕ → Bool

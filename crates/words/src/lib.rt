@@ -1,15 +1,17 @@
 // A cell's two words. This is the only crate that knows which bit says what: the second word is taken apart and put
 // together here, by masks and shifts, and the cells of a lent slice are read, written and zeroed here. The mark, bit
-// 30, is neither set nor read: it is 0 between calls, and the collector needs none.
+// 30, is never set: it is 0 between calls, and the collector needs none.
 ghost use mathlib.Core.Path.{_≡_};
 ghost use mathlib.Core.Bool.{true, false};
 ghost use mathlib.Core.List.{_++_};
 ghost use Prim.Native.Nat.{_+_, _-_, _*_, _≤_, _<_, _^_};
 ghost use lib.ListN.{length, take, replicate};
 ghost use Rattle.words.specs.Cell.{firstWord, secondWord, putCell};
-ghost use Rattle.words.specs.Second.{decode, withRi, withLc, withRc, plain, fullWord, bracketTo};
+ghost use Rattle.words.specs.Second.{decode, withRi, withLc, withRc, plain, stray, fullWord, bracketTo};
 
 const BRACKET: u32 = 1 << 31;
+
+const USED: u32 = 1 << 30;
 
 const LEFT_CHAIN: u32 = 1 << 29;
 
@@ -30,6 +32,13 @@ pub fn has_left_chain(w: u32) -> bool
     ensures { λ r. ⌜ r ≡ decode w .lc ⌝ }
 {
     w & LEFT_CHAIN != 0
+}
+
+// Whether w has a mark or a chain flag.
+pub fn is_stray(w: u32) -> bool
+    ensures { λ r. ⌜ r ≡ stray (decode w) ⌝ }
+{
+    (w & USED != 0) | (w & LEFT_CHAIN != 0) | (w & RIGHT_CHAIN != 0)
 }
 
 pub fn right_end(w: u32) -> u32

@@ -63,22 +63,25 @@ fn saving<'a>(
 ) -> Contender<'a> {
     let mut space = vec![b'?'; n];
     Box::new(move |words, top, _| {
-        let Saved { status, value, top, .. } = save(words, top, &mut space);
+        let Saved { status, rule, value, top, .. } = save(words, top, &mut space);
         black_box(&space);
-        Reply { status, value, top }
+        Reply { status, rule, value, top }
     })
 }
 
+/// A way of saving a store into a space.
+type Saves<'a> = &'a mut dyn FnMut(&mut [u32], usize, &mut [u8]) -> Saved;
+
 /// Saves by the library.
 fn library_saves(words: &mut [u32], top: usize, space: &mut [u8]) -> Saved {
-    let raw::Saved { status, value, top, length } = raw::save(words, top, space);
-    Saved { status, value, top, length }
+    let raw::Saved { status, rule, value, top, length } = raw::save(words, top, space);
+    Saved { status, rule, value, top, length }
 }
 
 /// Loads by the library.
 fn library_loads(words: &mut [u32], file: &[u8]) -> Reply {
-    let raw::Reply { status, value, top } = raw::load(words, file);
-    Reply { status, value, top }
+    let raw::Reply { status, rule, value, top } = raw::load(words, file);
+    Reply { status, rule, value, top }
 }
 
 /// A row for a store that is saved into just so many bytes as its file has.
@@ -86,12 +89,12 @@ fn save(name: &str, store: &Lent) {
     let (words, top) = collected(store.clone());
     let file = files::file(&words, top);
     let (mut usual, mut better) = (Usual::default(), Better::default());
-    let after = |save: &mut dyn FnMut(&mut [u32], usize, &mut [u8]) -> Saved| {
+    let after = |save: Saves| {
         let (mut words, mut space) = (store.0.clone(), vec![b'?'; file.len()]);
         let saved = save(&mut words, store.1, &mut space);
         (saved, words, space)
     };
-    let saved = Saved { status: 0, value: 0, top, length: file.len() };
+    let saved = Saved { status: 0, rule: 0, value: 0, top, length: file.len() };
     let expected = (saved, words, file.clone());
     assert!(after(&mut library_saves) == expected, "the library saves another file");
     assert!(after(&mut |words, top, space| usual.save(words, top, space)) == expected);
@@ -102,7 +105,7 @@ fn save(name: &str, store: &Lent) {
         let n = copied.len();
         copied.copy_from_slice(&words[..n]);
         black_box(&copied);
-        Reply { status: 0, value: 0, top }
+        Reply { status: 0, rule: 0, value: 0, top }
     });
     let contest = [
         saving(file.len(), library_saves),
@@ -132,7 +135,7 @@ fn load(name: &str, file: &[u8], status: u32, value: u32) {
         Box::new(|words, _, _| library_loads(words, file)),
         Box::new(|words, top, _| {
             words[..body.len()].copy_from_slice(&body);
-            Reply { status: 0, value: 0, top }
+            Reply { status: 0, rule: 0, value: 0, top }
         }),
         Box::new(move |words, _, _| usual.load(words, file)),
         Box::new(move |words, _, _| better.load(words, file)),

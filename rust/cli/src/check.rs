@@ -1,9 +1,9 @@
-//! `check`: whether a dump is a sound store, and if not, which cell is damaged.
+//! `check`: whether a dump is a sound store, and if not, which cell is damaged and by which rule.
 
 use std::ffi::OsString;
 use std::io::Write;
 
-use zelmotar::{raw, Store, FIRST_HEAP_CELL, MAX_CELLS, REGISTERS};
+use zelmotar::{Refusal, Rule, Store, FIRST_HEAP_CELL, MAX_CELLS, REGISTERS};
 
 use crate::args::{Args, Takes};
 use crate::cells::{fault, reached};
@@ -45,31 +45,31 @@ pub fn summary(store: &Store) -> String {
 
 /// The sentence that says what the library finds wrong with a store, if it does.
 pub fn damage(store: &Store) -> Option<String> {
-    let reply = raw::check(store.words(), store.top());
-    match reply.status {
-        0 => None,
-        1 => Some(format!(
+    let sentence = match store.check().err()? {
+        Refusal::BadLength => format!(
             "No store has {} words: their number is even, {} to {}.",
             store.words().len(),
             2 * REGISTERS,
             2 * MAX_CELLS
-        )),
-        2 => Some(format!(
+        ),
+        Refusal::BadTop => format!(
             "top is {}, and must be {FIRST_HEAP_CELL} to {}, the number of cells.",
             store.top(),
             store.capacity()
-        )),
-        _ => Some(damaged_cell(store, reply.value as usize)),
-    }
+        ),
+        Refusal::Damaged { cell, rule, .. } => damaged_cell(store, cell as usize, rule),
+        other => format!("{other}."),
+    };
+    Some(sentence)
 }
 
-/// The sentence about a damaged cell, with its words.
-fn damaged_cell(store: &Store, c: usize) -> String {
+/// The sentence about a damaged cell, with the number of its rule and its words.
+fn damaged_cell(store: &Store, c: usize, rule: Rule) -> String {
     let (first, second) = (store.words()[2 * c], store.words()[2 * c + 1]);
     let what = if c < REGISTERS { "register" } else { "heap cell" };
-    let why = fault(c, first, second, store.top()).unwrap_or("it breaks its rule".to_string());
+    let (number, why) = (rule.number(), fault(rule, c, first, second, store.top()));
     format!(
-        "Cell {c}, a {what}, is damaged: its words are {first} and {second} \
+        "Cell {c}, a {what}, is damaged (rule {number}): its words are {first} and {second} \
          ({first:#010x} {second:#010x}), and {why}."
     )
 }

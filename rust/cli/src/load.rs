@@ -151,15 +151,20 @@ mod tests {
     fn a_wrong_cell_is_named() {
         assert_eq!(
             says(&with(5, 0x8000_0012)),
-            "refused with 3: a cell breaks its rule: cell 18, a heap cell, is damaged: its words \
-             are 17 and 2147483666 (0x00000011 0x80000012), and its right end, 18, is not below \
-             the cell itself."
+            "refused with 3: a cell breaks its rule: cell 18, a heap cell, is damaged (rule 5): its \
+             words are 17 and 2147483666 (0x00000011 0x80000012), and its right end, 18, is not \
+             below the cell itself."
         );
         assert_eq!(
             says(&with(7, 0x8000_0013)),
-            "refused with 3: a cell breaks its rule: cell 0, a register, is damaged: its words \
-             are 16 and 2147483667 (0x00000010 0x80000013), and its right end, 19, is not below \
-             top, 19."
+            "refused with 3: a cell breaks its rule: cell 0, a register, is damaged (rule 5): its \
+             words are 16 and 2147483667 (0x00000010 0x80000013), and its right end, 19, is not \
+             below top, 19."
+        );
+        assert_eq!(
+            says(&with(1, 1)),
+            "refused with 3: a cell breaks its rule: cell 16, a heap cell, is damaged (rule 4): its \
+             words are 65 and 1 (0x00000041 0x00000001), and a second word is 0, or has bit 31."
         );
         // The bracket becomes a symbol, and nothing holds what it held.
         assert_eq!(

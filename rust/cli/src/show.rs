@@ -3,10 +3,10 @@
 use std::ffi::OsString;
 use std::io::Write;
 
-use zelmotar::{raw, Store, FIRST_HEAP_CELL, REGISTERS};
+use zelmotar::{Refusal, Store, FIRST_HEAP_CELL, REGISTERS};
 
 use crate::args::{Args, Takes};
-use crate::cells::{fault, kind_at, reached, Kind};
+use crate::cells::{self, kind_at, reached, Kind};
 use crate::check::{damage, summary};
 use crate::outcome::{Ended, Outcome, Stop};
 use crate::{dump, expression, run};
@@ -62,18 +62,18 @@ pub fn cells(store: &Store, out: &mut dyn Write) -> Result<(), Stop> {
 }
 
 /// The table of a store that is not sound: all cells but those of two zeros that may be so, as their
-/// words have it, and those marked that break their rule. There is none where the number of words is that of no
-/// store, which may be very large.
+/// words have it, and those marked that break a rule, with its number. There is none where the number of words
+/// is that of no store, which may be very large.
 fn damaged(store: &Store, out: &mut dyn Write) -> Result<(), Stop> {
-    let status = raw::check(store.words(), store.top()).status;
-    if status == 1 {
+    if store.check() == Err(Refusal::BadLength) {
         return Ok(());
     }
     head(out)?;
+    let broken = cells::damaged(store);
     for (c, words) in store.words().chunks_exact(2).enumerate() {
-        let is_damaged = status == 3 && fault(c, words[0], words[1], store.top()).is_some();
-        let mark = if is_damaged { "  damaged" } else { "" };
-        if is_damaged || words != [0, 0] {
+        let rule = broken.get(&c);
+        let mark = rule.map_or(String::new(), |rule| format!("  damaged, rule {}", rule.number()));
+        if rule.is_some() || words != [0, 0] {
             row(store, c, &format!("{}{mark}", holds(store, c)), out)?;
         }
     }

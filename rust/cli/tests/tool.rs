@@ -5,6 +5,8 @@ use std::io::Write;
 use std::path::{Path, PathBuf};
 use std::process::{Command, Output, Stdio};
 
+use zelmotar::Rule;
+
 /// A file of the repository.
 fn tracked(path: &str) -> PathBuf {
     Path::new(env!("CARGO_MANIFEST_DIR")).join("../..").join(path)
@@ -192,12 +194,12 @@ fn two_million_calls_are_refused_as_the_program_refuses_them() {
 fn a_damaged_cell_is_named_with_its_words() {
     let sound = fs::read_to_string(tracked("examples/p2.dump")).unwrap();
     let damaged = made("damaged.dump", sound.replace("18 0x80000014", "18 0x80000015"));
-    let sentence = "Cell 21, a heap cell, is damaged: its words are 18 and 2147483669 \
+    let sentence = "Cell 21, a heap cell, is damaged (rule 5): its words are 18 and 2147483669 \
                     (0x00000012 0x80000015), and its right end, 21, is not below the cell itself.\n";
     ends(&tool(&[&"check", &damaged]), 3, sentence);
     ends(&tool(&[&"show", &damaged]), 3, sentence);
-    ends(&tool(&[&"show", &damaged]), 3, "bracket, cells 18 to 21  damaged\n");
-    ends(&tool(&[&"draw", &damaged]), 3, "Cell 21");
+    ends(&tool(&[&"show", &damaged]), 3, "bracket, cells 18 to 21  damaged, rule 5\n");
+    ends(&tool(&[&"draw", &damaged]), 3, sentence);
     ends(&tool(&[&"print", &damaged, &"0"]), 3, sentence);
     ends(&tool(&[&"print", &damaged, &"16"]), 3, sentence);
     ends(&tool(&[&"type", &damaged, &"16", &"x"]), 3, sentence);
@@ -225,16 +227,54 @@ fn a_damaged_cell_is_named_with_its_words() {
 fn a_wiped_cell_is_damaged() {
     let sound = fs::read_to_string(tracked("examples/p2.dump")).unwrap();
     let wiped = made("wiped.dump", sound.replace("67 0\n", "0 0\n"));
-    let sentence = "Cell 19, a heap cell, is damaged: its words are 0 and 0 (0x00000000 0x00000000), and only a \
-                    cell from top on is two zero words: a symbol's code is 1 at least.\n";
+    let sentence = "Cell 19, a heap cell, is damaged (rule 4): its words are 0 and 0 (0x00000000 0x00000000), and \
+                    only a cell from top on is two zero words: a symbol's code is 1 at least.\n";
     ends(&tool(&[&"check", &wiped]), 3, sentence);
     let shown = tool(&[&"show", &wiped]);
-    ends(&shown, 3, "  19  0x00000000  0x00000000   neither symbol nor bracket  damaged\n");
+    ends(&shown, 3, "  19  0x00000000  0x00000000   neither symbol nor bracket  damaged, rule 4\n");
     ends(&shown, 3, "  18  0x00000042  0x00000000   symbol 66\n");
     assert!(!String::from_utf8_lossy(&shown.stdout).contains("\n  23  "), "cell 23 is free");
     let register = made("register.dump", sound.replacen("0 0x80000000", "0 0", 1));
     ends(&tool(&[&"check", &register]), 3, "and a register is a bracket.\n");
     ends(&tool(&[&"show", &register]), 3, "   1  0x00000000  0x00000000   neither symbol");
+}
+
+#[test]
+fn each_rule_is_said_with_its_number() {
+    let sound = fs::read_to_string(tracked("examples/p2.dump")).unwrap();
+    for (rule, from, to, cell) in [
+        (1, "\n67 0\n", "\n67 0x40000000\n", "Cell 19, a heap cell"),
+        (2, "\n0 0x80000000", "\n65 0", "Cell 1, a register"),
+        (3, "\n0 0x80000000", "\n16 0x80000000", "Cell 1, a register"),
+        (4, "\n67 0\n", "\n67 1\n", "Cell 19, a heap cell"),
+        (5, "\n18 0x80000014", "\n21 0x80000014", "Cell 21, a heap cell"),
+        (6, "\n0 0 ", "\n65 0 ", "Cell 23, a heap cell"),
+    ] {
+        assert!(sound.contains(from), "{from}");
+        let damaged = made(&format!("rule{rule}.dump"), sound.replacen(from, to, 1));
+        let sentence = format!("{cell}, is damaged (rule {rule}): its words are ");
+        for command in ["check", "show", "draw"] {
+            ends(&tool(&[&command, &damaged]), 3, &sentence);
+        }
+        ends(&tool(&[&"show", &damaged]), 3, &format!("  damaged, rule {rule}\n"));
+        ends(&tool(&[&"print", &damaged, &"0"]), 3, &sentence);
+        ends(&tool(&[&"type", &damaged, &"0", &"1"]), 3, &sentence);
+        ends(&tool(&[&"save", &damaged, &"-"]), 3, &sentence);
+    }
+    // Two cells, of which the first is said, and both are marked.
+    let both = sound.replacen("\n67 0\n", "\n67 1\n", 1).replacen("\n0 0 ", "\n65 0 ", 1);
+    let shown = tool(&[&"show", &made("rules.dump", both)]);
+    ends(&shown, 3, "  19  0x00000043  0x00000001   neither symbol nor bracket  damaged, rule 4\n");
+    ends(&shown, 3, "  23  0x00000041  0x00000000   symbol 65  damaged, rule 6\n");
+    ends(&shown, 3, "\n\nCell 19, a heap cell, is damaged (rule 4): ");
+}
+
+#[test]
+fn the_help_lists_the_rules() {
+    let help = tool(&[&"--help"]);
+    for rule in Rule::ALL {
+        ends(&help, 0, &format!("\n  rule {}: {rule}\n", rule.number()));
+    }
 }
 
 #[test]
@@ -430,7 +470,7 @@ fn a_saved_store_that_is_refused_is_said_with_its_status() {
         (saved[1..].to_vec(), "-: refused with 32: the file's distance is wrong: it is 192, "),
         (changed(180, 7), "it is 192, and for 7 heap cells must be 200\n"),
         (changed(184, 21), "-: refused with 33: the file's capacity is not allowed: it is 21, "),
-        (changed(36, 20), "-: refused with 3: a cell breaks its rule: cell 20, a heap cell, is "),
+        (changed(36, 20), "cell breaks its rule: cell 20, a heap cell, is damaged (rule 5): its "),
         (changed(48, 21), "-: refused with 34: the file's store is not collected: no register "),
     ] {
         let output = fed(&file, &[&"load", &"-"]);

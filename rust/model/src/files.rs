@@ -21,6 +21,8 @@ pub const TRAILER: usize = 16;
 pub struct Saved {
     /// 0, or the number of the refusal.
     pub status: u32,
+    /// The rule that the cell breaks where the status is 3, else 0.
+    pub rule: u32,
     /// The number named beside the status.
     pub value: u32,
     /// The end of the occupied cells afterwards.
@@ -59,16 +61,16 @@ pub fn file(words: &[u32], top: usize) -> Vec<u8> {
 /// leaves it collected.
 pub fn save(words: &mut [u32], top: usize, space: &mut [u8]) -> Saved {
     space.fill(0);
-    let Reply { status, value, top } = plain::collect(words, top);
+    let Reply { status, rule, value, top } = plain::collect(words, top);
     if status != 0 {
-        return Saved { status, value, top, length: 0 };
+        return Saved { status, rule, value, top, length: 0 };
     }
     let file = file(words, top);
     match space.get_mut(..file.len()) {
-        None => Saved { status: 22, value: 0, top, length: 0 },
+        None => Saved { status: 22, rule: 0, value: 0, top, length: 0 },
         Some(start) => {
             start.copy_from_slice(&file);
-            Saved { status: 0, value: 0, top, length: file.len() }
+            Saved { status: 0, rule: 0, value: 0, top, length: file.len() }
         }
     }
 }
@@ -111,15 +113,16 @@ pub fn unjudged(lent: usize, file: &[u8]) -> Result<(Vec<u32>, usize), u32> {
 ///
 /// # Errors
 ///
-/// 30 to 35 or 3, and the value beside it.
-pub fn read(lent: usize, file: &[u8]) -> Result<(Vec<u32>, usize), (u32, u32)> {
-    let (store, top) = unjudged(lent, file).map_err(|status| (status, 0))?;
-    let Reply { status, value, .. } = plain::check(&store, top);
-    if status != 0 {
-        return Err((status, value));
+/// 30 to 35 or 3, as it is answered.
+pub fn read(lent: usize, file: &[u8]) -> Result<(Vec<u32>, usize), Reply> {
+    let refused = |status| Reply { status, rule: 0, value: 0, top: 0 };
+    let (store, top) = unjudged(lent, file).map_err(refused)?;
+    let checked = plain::check(&store, top);
+    if checked.status != 0 {
+        return Err(Reply { top: 0, ..checked });
     }
     if FIRST_HEAP_CELL + plain::live(&store, top) != top {
-        return Err((34, 0));
+        return Err(refused(34));
     }
     Ok((store, top))
 }
@@ -130,8 +133,8 @@ pub fn load(words: &mut [u32], file: &[u8]) -> Reply {
     match read(words.len(), file) {
         Ok((store, top)) => {
             words.copy_from_slice(&store);
-            Reply { status: 0, value: 0, top }
+            Reply { status: 0, rule: 0, value: 0, top }
         }
-        Err((status, value)) => Reply { status, value, top: 0 },
+        Err(refused) => refused,
     }
 }

@@ -12,8 +12,9 @@
 //! - [`random`]: repeatable random numbers.
 //! - [`make`]: random stores, damage, call lists, text spaces, texts and files.
 //!
-//! The tests of this package hold [`plain`], [`trees`] and [`ordinary`] against each other, and
-//! [`files`] against what is said of a file, and need no library.
+//! The tests of this package hold [`plain`], [`trees`] and [`ordinary`] against each other,
+//! [`files`] against what is said of a file, and the rules of cells against cells that are made to
+//! break them, and need no library.
 
 #![warn(missing_docs)]
 #![forbid(unsafe_code)]

@@ -1,4 +1,5 @@
-//! Random stores, damage, call lists, text spaces, texts and, in [`files`], files.
+//! Random stores, damage, call lists, text spaces, texts and, in [`files`], files. Cells that break a certain
+//! rule are in [`rules`].
 //!
 //! Stores are made cell by cell and not by calls, so that they have overlapping runs, dead cells
 //! between live ones and brackets that no call would lay. Small capacities are the most frequent:
@@ -9,6 +10,7 @@
 //! them, or just not.
 
 pub mod files;
+pub mod rules;
 
 use crate::plain::{
     self, put, Cell, BRACKET, FIRST_HEAP_CELL, MAX_CELLS, MAX_CODE, MAX_DEPTH, MIN_CODE,
@@ -187,6 +189,7 @@ pub fn damage(random: &mut Random, words: &mut Vec<u32>, top: &mut usize) {
             words[2 * c..2 * c + 4].rotate_left(2);
         }
         6 => wipe(random, words, *top),
+        7 => rules::break_any(random, words, *top, &rules::Place::ALL),
         _ => (0..=random.below(3)).for_each(|_| spoil_word(random, words, *top)),
     }
 }

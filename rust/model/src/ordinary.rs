@@ -142,26 +142,26 @@ fn fits(n: usize) -> bool {
 /// A fresh store, or refusal 1. Nothing is checked or marked, so it is the same for all.
 pub fn fresh(words: &mut [u32]) -> Reply {
     if !fits(words.len()) {
-        return Reply { status: 1, value: 0, top: 0 };
+        return Reply { status: 1, rule: 0, value: 0, top: 0 };
     }
     let (registers, rest) = words.split_at_mut(2 * FIRST_HEAP_CELL);
     registers.chunks_exact_mut(2).for_each(|cell| cell.copy_from_slice(&EMPTY));
     rest.fill(0);
-    Reply { status: 0, value: 0, top: FIRST_HEAP_CELL }
+    Reply { status: 0, rule: 0, value: 0, top: FIRST_HEAP_CELL }
 }
 
 impl<C: Checks, M: Marks> Ordinary<C, M> {
     /// The check.
     pub fn check(&self, words: &[u32], top: usize) -> Reply {
         let n = words.len();
-        let (status, value) = if !fits(n) {
-            (1, 0)
+        let (status, rule, value) = if !fits(n) {
+            (1, 0, 0)
         } else if top < FIRST_HEAP_CELL || top > n / 2 {
-            (2, 0)
+            (2, 0, 0)
         } else {
-            self.checks.damaged(words, top).map_or((0, 0), |c| (3, c as u32))
+            self.checks.broken(words, top).map_or((0, 0, 0), |(c, rule)| (3, rule, c))
         };
-        Reply { status, value, top }
+        Reply { status, rule, value, top }
     }
 
     /// A look at a register: the part of the words that holds its cells, as offsets.
@@ -174,7 +174,7 @@ impl<C: Checks, M: Marks> Ordinary<C, M> {
 
     /// Prints a register.
     pub fn print(&self, words: &[u32], top: usize, register: usize, space: &mut [u8]) -> Text {
-        let Reply { status, value, .. } = self.check(words, top);
+        let Reply { status, rule, value, .. } = self.check(words, top);
         let written = match (status, register < FIRST_HEAP_CELL) {
             (0, true) => texts::write(words, register, space),
             (0, false) => Err(20),
@@ -182,7 +182,7 @@ impl<C: Checks, M: Marks> Ordinary<C, M> {
         };
         let length = *written.as_ref().unwrap_or(&0);
         space[length..].fill(0);
-        Text { status: written.err().unwrap_or(0), value: value as usize, length }
+        Text { status: written.err().unwrap_or(0), rule, value: value as usize, length }
     }
 
     /// Types a text into a register.
@@ -193,14 +193,14 @@ impl<C: Checks, M: Marks> Ordinary<C, M> {
         register: usize,
         text: &[u8],
     ) -> Typed {
-        let Reply { status, value, .. } = self.check(words, top);
+        let Reply { status, rule, value, .. } = self.check(words, top);
         let refused = match (status, register < FIRST_HEAP_CELL) {
             (0, true) => self.tree.read(text).err(),
             (0, false) => Some((20, 0)),
             _ => Some((status, value as usize)),
         };
         if let Some((status, value)) = refused {
-            return Typed { status, value, top };
+            return Typed { status, rule, value, top };
         }
         let mut top = top;
         let status = match self.room(words, &mut top, self.tree.count(), register, false) {
@@ -211,7 +211,7 @@ impl<C: Checks, M: Marks> Ordinary<C, M> {
                 0
             }
         };
-        Typed { status, value: 0, top }
+        Typed { status, rule, value: 0, top }
     }
 
     /// Packs the marked cells low and gives the new `top`.
@@ -234,12 +234,12 @@ impl<C: Checks, M: Marks> Ordinary<C, M> {
             return checked;
         }
         let top = self.compact(words, top);
-        Reply { status: 0, value: (top - FIRST_HEAP_CELL) as u32, top }
+        Reply { status: 0, rule: 0, value: (top - FIRST_HEAP_CELL) as u32, top }
     }
 
     /// Saves the store into a space.
     pub fn save(&mut self, words: &mut [u32], top: usize, space: &mut [u8]) -> Saved {
-        let Reply { status, value, top } = self.collect(words, top);
+        let Reply { status, rule, value, top } = self.collect(words, top);
         let written = match status {
             0 => files::write(words, top, space),
             _ => Err(status),
@@ -247,29 +247,29 @@ impl<C: Checks, M: Marks> Ordinary<C, M> {
         let length = *written.as_ref().unwrap_or(&0);
         space[length..].fill(0);
         let value = if status == 0 { 0 } else { value };
-        Saved { status: written.err().unwrap_or(0), value, top, length }
+        Saved { status: written.err().unwrap_or(0), rule, value, top, length }
     }
 
     /// Loads a file. Its cells are judged in a table of their own, since the words must stay as they
     /// are where it is refused.
     pub fn load(&mut self, words: &mut [u32], file: &[u8]) -> Reply {
-        let refused = |status, value| Reply { status, value, top: 0 };
+        let refused = |status, rule, value| Reply { status, rule, value, top: 0 };
         let top = match files::judge(file, words.len()) {
             Ok(top) => top,
-            Err(status) => return refused(status, 0),
+            Err(status) => return refused(status, 0, 0),
         };
         self.cells.resize(2 * top, 0);
         files::read(&mut self.cells, file);
-        if let Some(c) = self.checks.damaged(&self.cells, top) {
-            return refused(3, c as u32);
+        if let Some((c, rule)) = self.checks.broken(&self.cells, top) {
+            return refused(3, rule, c);
         }
         if FIRST_HEAP_CELL + self.marks.mark(&self.cells, top) != top {
-            return refused(34, 0);
+            return refused(34, 0, 0);
         }
         let (occupied, free) = words.split_at_mut(2 * top);
         occupied.copy_from_slice(&self.cells);
         free.fill(0);
-        Reply { status: 0, value: 0, top }
+        Reply { status: 0, rule: 0, value: 0, top }
     }
 
     /// Makes room for `need` cells, collecting if it must. Unless `d` is `kept` it is emptied first, and set

@@ -25,6 +25,8 @@ pub const MAX_DEPTH: usize = 64;
 pub struct Reply {
     /// 0, or the number of the refusal.
     pub status: u32,
+    /// The rule that the cell breaks where the status is 3, else 0.
+    pub rule: u32,
     /// The number named beside the status.
     pub value: u32,
     /// The end of the occupied cells afterwards.
@@ -36,6 +38,8 @@ pub struct Reply {
 pub struct Text {
     /// 0, or the number of the refusal.
     pub status: u32,
+    /// The rule that the cell breaks where the status is 3, else 0.
+    pub rule: u32,
     /// The number named beside the status.
     pub value: usize,
     /// The bytes of the text; 0 where it is refused.
@@ -47,6 +51,8 @@ pub struct Text {
 pub struct Typed {
     /// 0, or the number of the refusal.
     pub status: u32,
+    /// The rule that the cell breaks where the status is 3, else 0.
+    pub rule: u32,
     /// The number named beside the status: a cell, an offset in the text, or 0.
     pub value: usize,
     /// The end of the occupied cells afterwards.
@@ -110,19 +116,31 @@ fn ends(words: &[u32], c: usize) -> Option<(usize, usize)> {
     }
 }
 
-/// Whether cell `c` keeps its rule in a store whose length and `top` are in range.
-fn keeps_its_rule(words: &[u32], top: usize, c: usize) -> bool {
+/// The rule that cell `c` breaks in a store whose length and `top` are in range, the first of the list that
+/// applies; 0 where it breaks none.
+pub fn broken_rule(words: &[u32], top: usize, c: usize) -> u32 {
     let (first, second) = (words[2 * c], words[2 * c + 1]);
-    if c >= top {
-        return first == 0 && second == 0;
-    }
-    let limit = if c < FIRST_HEAP_CELL { top } else { c };
-    match Cell::read(first, second) {
-        None => false,
-        Some(Cell::Symbol(_)) => c >= FIRST_HEAP_CELL,
-        Some(Cell::Empty) => true,
-        Some(Cell::Bracket(l, r)) => FIRST_HEAP_CELL <= l && l <= r && r < limit,
-    }
+    let bit = |i: u32| second >> i & 1 == 1;
+    let (l, r) = (first as usize, (second & MAX_CODE) as usize);
+    let (register, below) = (c < FIRST_HEAP_CELL, c < top);
+    let limit = if register { top } else { c };
+    let symbol = second == 0 && is_code(first);
+    let run = FIRST_HEAP_CELL <= l && l <= r && r < limit;
+    let applies = [
+        // 1: a stray used or chain bit.
+        bit(30) || bit(29) || bit(28),
+        // 2: a register that is no bracket.
+        below && register && !bit(31),
+        // 3: a bad empty form.
+        below && second == BRACKET && first != 0,
+        // 4: a bad symbol form.
+        below && !register && !bit(31) && !symbol,
+        // 5: ends out of order or range.
+        below && bit(31) && r != 0 && !run,
+        // 6: words beyond `top`.
+        !below && (first != 0 || second != 0),
+    ];
+    (1..).zip(applies).find(|&(_, applies)| applies).map_or(0, |(rule, _)| rule)
 }
 
 /// Whether a slice of `n` words may hold a store.
@@ -132,30 +150,30 @@ fn fits(n: usize) -> bool {
 
 /// The check: 0, or refusals 1 to 3. `top` comes back as it came.
 pub fn check(words: &[u32], top: usize) -> Reply {
-    let reply = |status, value| Reply { status, value, top };
+    let reply = |status, rule, value| Reply { status, rule, value, top };
     if !fits(words.len()) {
-        return reply(1, 0);
+        return reply(1, 0, 0);
     }
     let capacity = words.len() / 2;
     if !(FIRST_HEAP_CELL..=capacity).contains(&top) {
-        return reply(2, 0);
+        return reply(2, 0, 0);
     }
-    match (0..capacity).find(|&c| !keeps_its_rule(words, top, c)) {
-        Some(c) => reply(3, c as u32),
-        None => reply(0, 0),
+    match (0..capacity).find(|&c| broken_rule(words, top, c) != 0) {
+        Some(c) => reply(3, broken_rule(words, top, c), c as u32),
+        None => reply(0, 0, 0),
     }
 }
 
 /// A fresh store, or refusal 1 with `top` 0.
 pub fn fresh(words: &mut [u32]) -> Reply {
     if !fits(words.len()) {
-        return Reply { status: 1, value: 0, top: 0 };
+        return Reply { status: 1, rule: 0, value: 0, top: 0 };
     }
     words.fill(0);
     for register in 0..FIRST_HEAP_CELL {
         put(words, register, Cell::Empty);
     }
-    Reply { status: 0, value: 0, top: FIRST_HEAP_CELL }
+    Reply { status: 0, rule: 0, value: 0, top: FIRST_HEAP_CELL }
 }
 
 /// The part of the words that holds a register's cells, as offsets; (0, 0) where there is none.
@@ -242,19 +260,19 @@ fn write(bytes: Bytes, space: &mut [u8]) -> Result<usize, u32> {
 /// Printing a register: the text and zeros after it, or a refusal and nothing but zeros.
 pub fn print(words: &[u32], top: usize, register: usize, space: &mut [u8]) -> Text {
     space.fill(0);
-    let Reply { status, value, .. } = check(words, top);
+    let Reply { status, rule, value, .. } = check(words, top);
     if status != 0 {
-        return Text { status, value: value as usize, length: 0 };
+        return Text { status, rule, value: value as usize, length: 0 };
     }
     let written = match register < FIRST_HEAP_CELL {
         true => write(text(words, register), space),
         false => Err(20),
     };
     match written {
-        Ok(length) => Text { status: 0, value: 0, length },
+        Ok(length) => Text { status: 0, rule: 0, value: 0, length },
         Err(status) => {
             space.fill(0);
-            Text { status, value: 0, length: 0 }
+            Text { status, rule: 0, value: 0, length: 0 }
         }
     }
 }
@@ -318,7 +336,7 @@ pub fn collect(words: &mut [u32], top: usize) -> Reply {
         return checked;
     }
     let top = compact(words, top);
-    Reply { status: 0, value: (top - FIRST_HEAP_CELL) as u32, top }
+    Reply { status: 0, rule: 0, value: (top - FIRST_HEAP_CELL) as u32, top }
 }
 
 /// What an operand word is to an operation.
@@ -612,26 +630,26 @@ fn raised(cell: Cell, by: usize) -> Cell {
 /// Typing a register in: the text's cells from `top` upward and the register on them, or a refusal. All
 /// but 16, which leaves the store collected, change nothing.
 pub fn type_in(words: &mut [u32], top: usize, register: usize, text: &[u8]) -> Typed {
-    let Reply { status, value, .. } = check(words, top);
+    let Reply { status, rule, value, .. } = check(words, top);
     if status != 0 {
-        return Typed { status, value: value as usize, top };
+        return Typed { status, rule, value: value as usize, top };
     }
     if register >= FIRST_HEAP_CELL {
-        return Typed { status: 20, value: 0, top };
+        return Typed { status: 20, rule: 0, value: 0, top };
     }
     let (cells, around) = match read(text) {
         Ok(read) => read,
-        Err((status, value)) => return Typed { status, value, top },
+        Err((status, value)) => return Typed { status, rule: 0, value, top },
     };
     let mut top = top;
     if !room(words, &mut top, cells.len(), register, false) {
-        return Typed { status: 16, value: 0, top };
+        return Typed { status: 16, rule: 0, value: 0, top };
     }
     for (c, &cell) in (top..).zip(&cells) {
         put(words, c, raised(cell, top));
     }
     put(words, register, raised(around, top));
-    Typed { status: 0, value: 0, top: top + cells.len() }
+    Typed { status: 0, rule: 0, value: 0, top: top + cells.len() }
 }
 
 /// A batch: each call's status and value go to `answers`, and zeros after them.
@@ -640,7 +658,7 @@ pub fn run(words: &mut [u32], top: usize, calls: &[u32], answers: &mut [u32]) ->
     if checked.status != 0 {
         return checked;
     }
-    let reply = |status, top| Reply { status, value: 0, top };
+    let reply = |status, top| Reply { status, rule: 0, value: 0, top };
     if calls.len() > MAX_CALL_WORDS || calls.len() % 4 != 0 {
         return reply(4, top);
     }

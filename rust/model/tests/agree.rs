@@ -230,7 +230,11 @@ fn plain_prints_what_trees_say() {
             };
             let length = expected.len();
             expected.resize(space.len(), 0);
-            assert_eq!(got, plain::Text { status, value: 0, length }, "{register} {words:?}");
+            assert_eq!(
+                got,
+                plain::Text { status, rule: 0, value: 0, length },
+                "{register} {words:?}"
+            );
             assert_eq!(space, expected, "{register} {words:?}");
             met[status as usize] += 1;
         }
@@ -282,7 +286,7 @@ fn a_text_is_that_of_the_rules() {
     assert_eq!(Trees::denoted_by(&words, 21).printed(1, 12), Err(22));
     words[2 * 18] = 1 << 28;
     let refused = plain::print(&words, 21, 16, &mut [7; 3]);
-    assert_eq!(refused, plain::Text { status: 3, value: 18, length: 0 });
+    assert_eq!(refused, plain::Text { status: 3, rule: 4, value: 18, length: 0 });
 }
 
 /// The two words of a bracket on the cells from `l` up to but not including `end`.
@@ -321,23 +325,23 @@ fn laid_by_definition(
 fn typed_by_definition(words: &mut Vec<u32>, top: usize, register: usize, text: &[u8]) -> Typed {
     let mut pool = Pool::default();
     if register > 15 {
-        return Typed { status: 20, value: 0, top };
+        return Typed { status: 20, rule: 0, value: 0, top };
     }
     let expression = match pool.read(text) {
-        Err((status, value)) => return Typed { status, value, top },
+        Err((status, value)) => return Typed { status, rule: 0, value, top },
         Ok(expression) => expression,
     };
     let need = pool.all_terms(&expression);
     match with_room_by_definition(words, top, need, register, &[]) {
         Err((left, top)) => {
             *words = left;
-            Typed { status: 16, value: 0, top }
+            Typed { status: 16, rule: 0, value: 0, top }
         }
         Ok((found, mut top)) => {
             *words = found;
             let cell = laid_by_definition(&pool, &expression, words, &mut top);
             words[2 * register..2 * register + 2].copy_from_slice(&cell);
-            Typed { status: 0, value: 0, top }
+            Typed { status: 0, rule: 0, value: 0, top }
         }
     }
 }

@@ -1,7 +1,10 @@
 //! Files, held against what is said of them word for word.
 
+use std::collections::BTreeMap;
+
 use zelmotar_model::files::{self, Saved};
 use zelmotar_model::make::files::{collected, Kind};
+use zelmotar_model::make::rules::Place;
 use zelmotar_model::make::{self, Runs};
 use zelmotar_model::ordinary::{Better, Checks, Marks, Ordinary, Usual, WithBits};
 use zelmotar_model::plain::{self, Cell, Reply, FIRST_HEAP_CELL};
@@ -38,25 +41,40 @@ fn saved(mut words: Vec<u32>, top: usize, n: usize) -> (Saved, Vec<u32>, Vec<u8>
     (saved, words, space)
 }
 
-/// Asserts that a file is refused by so many words, and that these stay as they are.
+/// Asserts that a file is answered so by so many words, and that these stay as they are.
 #[track_caller]
-fn assert_refused(lent: usize, file: &[u8], status: u32, value: u32) {
+fn assert_answers(lent: usize, file: &[u8], reply: Reply) {
     let mut words = vec![0x0bad_cafe; lent];
-    assert_eq!(files::load(&mut words, file), Reply { status, value, top: 0 });
+    assert_eq!(files::load(&mut words, file), reply);
     assert_eq!(words, vec![0x0bad_cafe; lent]);
+}
+
+/// Asserts that a file is refused by so many words, for no cell of it.
+#[track_caller]
+fn assert_refused(lent: usize, file: &[u8], status: u32) {
+    assert_answers(lent, file, Reply { status, rule: 0, value: 0, top: 0 });
+}
+
+/// Asserts that a file is refused by so many words, for a cell and its rule.
+#[track_caller]
+fn assert_damaged(lent: usize, file: &[u8], cell: u32, rule: u32) {
+    assert_answers(lent, file, Reply { status: 3, rule, value: cell, top: 0 });
 }
 
 #[test]
 fn an_empty_store_takes_144_bytes() {
     let (saved, left, space) = saved(words(20, &[]), 16, 150);
-    assert_eq!(saved, Saved { status: 0, value: 0, top: 16, length: 144 });
+    assert_eq!(saved, Saved { status: 0, rule: 0, value: 0, top: 16, length: 144 });
     assert_eq!(left, words(20, &[]));
     assert_eq!(space[..8], [0, 0, 0, 0, 0, 0, 0, 128]);
     assert_eq!(space[..128], space[..8].repeat(16));
     assert_eq!(space[128..144], [144, 0, 0, 0, 0, 0, 0, 0, 20, 0, 0, 0, 1, 0, 0, 0]);
     assert_eq!(space[144..], [0; 6]);
     let mut lent = vec![7; 40];
-    assert_eq!(files::load(&mut lent, &space[..144]), Reply { status: 0, value: 0, top: 16 });
+    assert_eq!(
+        files::load(&mut lent, &space[..144]),
+        Reply { status: 0, rule: 0, value: 0, top: 16 }
+    );
     assert_eq!(lent, words(20, &[]));
 }
 
@@ -82,7 +100,7 @@ fn p3_file() -> Vec<u8> {
 
 #[test]
 fn a_file_is_that_of_the_collected_store() {
-    let done = Saved { status: 0, value: 0, top: 22, length: 192 };
+    let done = Saved { status: 0, rule: 0, value: 0, top: 22, length: 192 };
     let longer = [p3_file(), vec![0; 3]].concat();
     assert_eq!(saved(p2(), 23, 192), (done, p3(), p3_file()));
     assert_eq!(saved(p2(), 23, 195), (done, p3(), longer));
@@ -90,24 +108,25 @@ fn a_file_is_that_of_the_collected_store() {
     for before in [vec![], vec![7; 9]] {
         let mut lent = vec![7; 48];
         let file = [before, p3_file()].concat();
-        assert_eq!(files::load(&mut lent, &file), Reply { status: 0, value: 0, top: 22 });
+        assert_eq!(files::load(&mut lent, &file), Reply { status: 0, rule: 0, value: 0, top: 22 });
         assert_eq!(lent, p3());
     }
 }
 
 #[test]
 fn what_is_not_saved() {
-    let refused = |status, value, top| Saved { status, value, top, length: 0 };
+    let refused = |status, top| Saved { status, rule: 0, value: 0, top, length: 0 };
     let odd = vec![7; 33];
-    assert_eq!(saved(odd.clone(), 16, 200), (refused(1, 0, 16), odd, vec![0; 200]));
-    assert_eq!(saved(p2(), 25, 200), (refused(2, 0, 25), p2(), vec![0; 200]));
-    // Cell 22 is no symbol then, and is damaged whatever the space is.
+    assert_eq!(saved(odd.clone(), 16, 200), (refused(1, 16), odd, vec![0; 200]));
+    assert_eq!(saved(p2(), 25, 200), (refused(2, 25), p2(), vec![0; 200]));
+    // The left end of cell 22 is above the right one then, and it is damaged whatever the space is.
     let mut damaged = p2();
     damaged[44] = 22;
-    assert_eq!(saved(damaged.clone(), 23, 5), (refused(3, 22, 23), damaged, vec![0; 5]));
+    let told = Saved { status: 3, rule: 5, value: 22, top: 23, length: 0 };
+    assert_eq!(saved(damaged.clone(), 23, 5), (told, damaged, vec![0; 5]));
     // The store is collected before the space is judged.
-    assert_eq!(saved(p2(), 23, 191), (refused(22, 0, 22), p3(), vec![0; 191]));
-    assert_eq!(saved(p2(), 23, 0), (refused(22, 0, 22), p3(), vec![]));
+    assert_eq!(saved(p2(), 23, 191), (refused(22, 22), p3(), vec![0; 191]));
+    assert_eq!(saved(p2(), 23, 0), (refused(22, 22), p3(), vec![]));
 }
 
 #[test]
@@ -119,75 +138,75 @@ fn each_refusal_of_a_load() {
         file(&[], &[], trailer)
     };
     let good = with(0, 144);
-    assert_refused(40, &[], 30, 0);
-    assert_refused(40, &good[129..], 30, 0);
+    assert_refused(40, &[], 30);
+    assert_refused(40, &good[129..], 30);
     for edition in [0, 2, 1 << 24, (1 << 31) + 1] {
-        assert_refused(40, &with(3, edition), 31, 0);
+        assert_refused(40, &with(3, edition), 31);
     }
     for distance in [0, 16, 143, 145, 152, (1 << 31) + 144] {
-        assert_refused(40, &with(0, distance), 32, 0);
+        assert_refused(40, &with(0, distance), 32);
     }
     for heap_cells in [1, 1 << 29, 1 << 30, 1 << 31, 7 << 29, u32::MAX] {
-        assert_refused(40, &with(1, heap_cells), 32, 0);
+        assert_refused(40, &with(1, heap_cells), 32);
     }
     // Right as far as it goes, but the first byte of the first heap cell is missing.
-    assert_refused(40, &good[1..], 32, 0);
-    assert_refused(40, &good[128..], 32, 0);
+    assert_refused(40, &good[1..], 32);
+    assert_refused(40, &good[128..], 32);
     // Eight times 2^29 is nothing in 32 bits: the trailer alone, and less than it.
     for (distance, heap_cells) in [(16, (1 << 29) - 16), (8, (1 << 29) - 17), (0, u32::MAX - 17)] {
-        assert_refused(40, &file(&[], &[], [distance, heap_cells, 20, 1]), 32, 0);
+        assert_refused(40, &file(&[], &[], [distance, heap_cells, 20, 1]), 32);
     }
     // The distance of the most heap cells that have one in 32 bits.
     let most = (1 << 29) - 19;
-    assert_refused(40, &file(&[], &[], [u32::MAX - 7, most, 20, 1]), 32, 0);
+    assert_refused(40, &file(&[], &[], [u32::MAX - 7, most, 20, 1]), 32);
     for capacity in [0, 15, 4097, (1 << 31) + 20, u32::MAX] {
-        assert_refused(40, &with(2, capacity), 33, 0);
+        assert_refused(40, &with(2, capacity), 33);
     }
     // One cell more than there is room for.
-    assert_refused(34, &file(&[7, 0, 8, 0], &[16, EMPTY + 17], [160, 2, 17, 1]), 33, 0);
+    assert_refused(34, &file(&[7, 0, 8, 0], &[16, EMPTY + 17], [160, 2, 17, 1]), 33);
     let full = file(&[7, 0].repeat(4081), &[16, EMPTY + 4096], [32_792, 4081, 4096, 1]);
-    assert_refused(8_192, &full, 33, 0);
+    assert_refused(8_192, &full, 33);
     for lent in [0, 20, 39, 41, 42, 80] {
-        assert_refused(lent, &good, 35, 0);
+        assert_refused(lent, &good, 35);
     }
     // Registers first, then heap cells from below.
     let damaged = [7, 0, 16, EMPTY + 17, 1 << 28, 0];
-    assert_refused(40, &file(&damaged, &[16, EMPTY + 18], [168, 3, 20, 1]), 3, 17);
-    assert_refused(40, &file(&damaged, &[16, EMPTY + 19], [168, 3, 20, 1]), 3, 0);
-    assert_refused(40, &file(&damaged, &[16, EMPTY + 18, 7, 0], [168, 3, 20, 1]), 3, 1);
+    assert_damaged(40, &file(&damaged, &[16, EMPTY + 18], [168, 3, 20, 1]), 17, 5);
+    assert_damaged(40, &file(&damaged, &[16, EMPTY + 19], [168, 3, 20, 1]), 0, 5);
+    assert_damaged(40, &file(&damaged, &[16, EMPTY + 18, 7, 0], [168, 3, 20, 1]), 1, 2);
     // A dead symbol, last and first.
-    assert_refused(40, &file(&[7, 0, 8, 0], &[16, EMPTY + 16], [160, 2, 20, 1]), 34, 0);
-    assert_refused(40, &file(&[7, 0, 8, 0], &[17, EMPTY + 17], [160, 2, 20, 1]), 34, 0);
+    assert_refused(40, &file(&[7, 0, 8, 0], &[16, EMPTY + 16], [160, 2, 20, 1]), 34);
+    assert_refused(40, &file(&[7, 0, 8, 0], &[17, EMPTY + 17], [160, 2, 20, 1]), 34);
     // A dead cell of zeros, which is no symbol.
-    assert_refused(40, &file(&[7, 0, 0, 0], &[16, EMPTY + 16], [160, 2, 20, 1]), 3, 17);
-    assert_refused(40, &file(&[0, 0], &[], [152, 1, 20, 1]), 3, 16);
+    assert_damaged(40, &file(&[7, 0, 0, 0], &[16, EMPTY + 16], [160, 2, 20, 1]), 17, 4);
+    assert_damaged(40, &file(&[0, 0], &[], [152, 1, 20, 1]), 16, 4);
     // Held by a dead bracket alone.
-    assert_refused(40, &file(&[7, 0, 16, EMPTY + 16], &[], [160, 2, 20, 1]), 34, 0);
+    assert_refused(40, &file(&[7, 0, 16, EMPTY + 16], &[], [160, 2, 20, 1]), 34);
 }
 
 #[test]
 fn the_first_refusal_of_a_load_is_told() {
     // No edition either.
-    assert_refused(40, &[0; 15], 30, 0);
+    assert_refused(40, &[0; 15], 30);
     // The distance is wrong too.
-    assert_refused(40, &file(&[], &[], [143, 0, 20, 2]), 31, 0);
+    assert_refused(40, &file(&[], &[], [143, 0, 20, 2]), 31);
     // The capacity is not allowed either.
-    assert_refused(40, &file(&[], &[], [143, 0, 15, 1]), 32, 0);
+    assert_refused(40, &file(&[], &[], [143, 0, 15, 1]), 32);
     // Nor have the words its length.
-    assert_refused(40, &file(&[], &[], [144, 0, 15, 1]), 33, 0);
+    assert_refused(40, &file(&[], &[], [144, 0, 15, 1]), 33);
     // A cell is damaged too.
-    assert_refused(40, &file(&[], &[7, 0], [144, 0, 21, 1]), 35, 0);
+    assert_refused(40, &file(&[], &[7, 0], [144, 0, 21, 1]), 35);
     // Cell 16 is dead too, and 17 damaged.
-    assert_refused(40, &file(&[7, 0, 8, EMPTY], &[], [160, 2, 20, 1]), 3, 17);
-    assert_refused(40, &file(&[7, 0, 8, 0], &[], [160, 2, 20, 1]), 34, 0);
+    assert_damaged(40, &file(&[7, 0, 8, EMPTY], &[], [160, 2, 20, 1]), 17, 3);
+    assert_refused(40, &file(&[7, 0, 8, 0], &[], [160, 2, 20, 1]), 34);
     // All at once, one mended after the other.
     let heap = [7, 0, 8, EMPTY];
-    assert_refused(40, &file(&heap, &[], [159, 2, 4097, 0])[129 + 16..], 30, 0);
-    assert_refused(40, &file(&heap, &[], [159, 2, 4097, 0]), 31, 0);
-    assert_refused(40, &file(&heap, &[], [159, 2, 4097, 1]), 32, 0);
-    assert_refused(40, &file(&heap, &[], [160, 2, 4097, 1]), 33, 0);
-    assert_refused(40, &file(&heap, &[], [160, 2, 24, 1]), 35, 0);
-    assert_refused(48, &file(&heap, &[], [160, 2, 24, 1]), 3, 17);
+    assert_refused(40, &file(&heap, &[], [159, 2, 4097, 0])[129 + 16..], 30);
+    assert_refused(40, &file(&heap, &[], [159, 2, 4097, 0]), 31);
+    assert_refused(40, &file(&heap, &[], [159, 2, 4097, 1]), 32);
+    assert_refused(40, &file(&heap, &[], [160, 2, 4097, 1]), 33);
+    assert_refused(40, &file(&heap, &[], [160, 2, 24, 1]), 35);
+    assert_damaged(48, &file(&heap, &[], [160, 2, 24, 1]), 17, 3);
 }
 
 /// Whether every heap cell lies between the ends of a register or of a heap cell.
@@ -212,10 +231,12 @@ fn a_file_is_refused_for_dead_cells_exactly_if_a_cell_is_held_by_none() {
         let reply = files::load(&mut loaded, &file);
         match all_held(&store, top) {
             true => {
-                assert_eq!(reply, Reply { status: 0, value: 0, top });
+                assert_eq!(reply, Reply { status: 0, rule: 0, value: 0, top });
                 assert_eq!(loaded, store);
             }
-            false => assert_eq!(reply, Reply { status: 34, value: 0, top: 0 }, "{store:?}"),
+            false => {
+                assert_eq!(reply, Reply { status: 34, rule: 0, value: 0, top: 0 }, "{store:?}")
+            }
         }
         met[usize::from(reply.status == 34)] += 1;
     }
@@ -248,7 +269,7 @@ fn what_is_saved_is_loaded_again() {
         assert!(space[length..].iter().all(|&byte| byte == 0));
         let mut loaded: Vec<u32> = expected.iter().map(|_| random.word()).collect();
         let reply = files::load(&mut loaded, &space[..length]);
-        assert_eq!(reply, Reply { status: 0, value: 0, top: told.top });
+        assert_eq!(reply, Reply { status: 0, rule: 0, value: 0, top: told.top });
         assert_eq!(loaded, expected);
         assert_eq!(saved(loaded, reply.top, n), (told, expected, space));
         met[if live + 16 < top { 1 } else { 2 }] += 1;
@@ -331,4 +352,27 @@ fn random_files_are_of_every_kind() {
         };
         assert!(often.iter().all(|&status| met[status] > 15), "{kind:?}: {met:?}");
     }
+}
+
+#[test]
+fn damaged_files_break_every_rule_in_every_place() {
+    let mut random = Random::of("rules of files");
+    let mut met = BTreeMap::new();
+    for _ in 0..20_000 {
+        let capacity = make::capacity(&mut random);
+        let file = make::files::file(&mut random, capacity, Kind::Damaged);
+        let lent = 2 * make::files::trailer_word(&file, 2).expect("it has a trailer") as usize;
+        let (_, top) = files::unjudged(lent, &file).expect("its trailer is right");
+        let reply = files::load(&mut vec![7; lent], &file);
+        if reply.status == 3 {
+            let place = Place::of(reply.value as usize, top);
+            *met.entry((place, reply.rule)).or_insert(0) += 1;
+        } else {
+            assert_eq!(reply.rule, 0);
+        }
+    }
+    let places = [Place::Register, Place::Occupied];
+    let all = places.iter().flat_map(|&place| place.rules().iter().map(move |&rule| (place, rule)));
+    assert!(met.keys().copied().eq(all), "{met:?}");
+    assert!(met.values().all(|&count| count > 200), "{met:?}");
 }

@@ -9,7 +9,7 @@
 
 use core::panic::PanicInfo;
 
-use zelmotar::{Answer, Call, Refusal, Store, Term};
+use zelmotar::{Answer, Call, Refusal, Rule, Store, Term};
 
 #[panic_handler]
 fn panic(_: &PanicInfo) -> ! {
@@ -50,6 +50,12 @@ fn steps() -> i32 {
     }
     if store.type_str(2, "(65) x") != Err(Refusal::NotText { offset: 5 }) {
         return 13;
+    }
+    let (words, top) = store.into_parts();
+    words[1] = 0;
+    match Store::from_parts(words, top).check() {
+        Err(Refusal::Damaged { cell: 0, rule: Rule::NotBracket, .. }) => {}
+        _ => return 14,
     }
     0
 }

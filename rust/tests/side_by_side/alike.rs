@@ -168,6 +168,7 @@ fn compare(stores: &[Lent; 2], turns: &[Turn]) -> Result<Ran, String> {
         told.partition(|(turn, _)| matches!(turn.act, Act::Call(_)));
     Ok(Ran {
         status: 0,
+        rule: 0,
         value: 0,
         statuses: calls.iter().map(|(_, answer)| answer.0).collect(),
         freed: false,

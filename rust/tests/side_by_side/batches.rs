@@ -5,7 +5,7 @@ use zelmotar_model::plain::{put, Cell, FIRST_HEAP_CELL};
 use zelmotar_model::random::Random;
 
 use crate::case::Case;
-use crate::tally::{Tally, BATCH_STATUSES, CALL_STATUSES};
+use crate::tally::{Tally, BATCH_STATUSES, CALL_STATUSES, RULES};
 
 /// A case on a store, with `count` calls and an answer space of some length.
 fn case(random: &mut Random, (words, top): (Vec<u32>, usize), count: usize) -> Case {
@@ -54,6 +54,7 @@ fn damaged_stores_and_lists() {
     }
     tally.print("damaged stores");
     tally.assert_met(&BATCH_STATUSES, &CALL_STATUSES, &[0, 1, 2, 3, 20, 23]);
+    tally.assert_broken(&RULES, &[]);
 }
 
 #[test]

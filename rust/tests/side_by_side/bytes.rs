@@ -16,9 +16,10 @@ use zelmotar_model::make::{self, Runs};
 use zelmotar_model::plain;
 use zelmotar_model::random::Random;
 
-use crate::case::{answers_for, Case, Ran};
+use crate::case::{answers_for, Case, Ran, Told};
 use crate::tally::{
-    Tally, BATCH_STATUSES, CALL_STATUSES, LOAD_STATUSES, SAVE_STATUSES, TYPE_STATUSES,
+    Tally, BATCH_STATUSES, CALL_STATUSES, FILE_RULES, LOAD_STATUSES, RULES, SAVE_STATUSES,
+    TYPE_STATUSES,
 };
 
 const HEAD: usize = 12;
@@ -123,11 +124,11 @@ fn splice(random: &mut Random, bytes: &mut Vec<u8>, other: &[u8]) {
     }
 }
 
-/// What is new about a case: its status and value, the set of its calls' statuses, and whether a
-/// collection freed cells.
-fn shown(ran: &Ran) -> (u32, u32, u32, bool) {
+/// What is new about a case: its status, rule and value, the set of its calls' statuses, and
+/// whether a collection freed cells.
+fn shown(ran: &Ran) -> (Told, u32, bool) {
     let set = ran.statuses.iter().fold(0, |set, status| set | 1 << status);
-    (ran.status, ran.value, set, ran.freed)
+    ((ran.status, ran.rule, ran.value), set, ran.freed)
 }
 
 /// Whether to go on, by count or by time.
@@ -168,6 +169,7 @@ fn changed_byte_strings() {
     tally.print("byte strings");
     tally.assert_met(&BATCH_STATUSES, &CALL_STATUSES, &TYPE_STATUSES);
     tally.assert_met_in_files(&SAVE_STATUSES, &LOAD_STATUSES);
+    tally.assert_broken(&RULES, &FILE_RULES);
 }
 
 #[test]

@@ -24,10 +24,14 @@ pub struct Case {
     pub register: usize,
 }
 
+/// What is answered of a store or of a file: the status, the rule and the value.
+pub type Told = (u32, u32, u32);
+
 /// What a batch was answered, by library and model alike.
 #[derive(Debug)]
 pub struct Ran {
     pub status: u32,
+    pub rule: u32,
     pub value: u32,
     /// The status of each call; none if the batch is refused.
     pub statuses: Vec<u32>,
@@ -35,15 +39,16 @@ pub struct Ran {
     pub freed: bool,
     /// The status and the value of each text that is typed in.
     pub texts: Vec<(u32, usize)>,
-    /// The status and the value of the store when it is saved.
-    pub saved: Option<(u32, u32)>,
-    /// The status and the value of the file when it is loaded.
-    pub loaded: Option<(u32, u32)>,
+    /// What is answered when the store is saved.
+    pub saved: Option<Told>,
+    /// What is answered when the file is loaded.
+    pub loaded: Option<Told>,
 }
 
 /// The reply of the model in the library's type.
 fn as_library(reply: plain::Reply) -> raw::Reply {
-    raw::Reply { status: reply.status, value: reply.value, top: reply.top }
+    let plain::Reply { status, rule, value, top } = reply;
+    raw::Reply { status, rule, value, top }
 }
 
 /// Says where two replies differ.
@@ -89,9 +94,9 @@ pub fn compare_print(
 ) -> Result<plain::Text, String> {
     let (mut ours, mut our_space) = (Guarded::around(words), Guarded::around(space));
     let mut their_space = space.to_vec();
-    let raw::Text { status, value, length } =
+    let raw::Text { status, rule, value, length } =
         raw::print(ours.lent(), top, register, our_space.lent());
-    let library = plain::Text { status, value, length };
+    let library = plain::Text { status, rule, value, length };
     let model = plain::print(words, top, register, &mut their_space);
     if library != model {
         return Err(format!("print: the library answers {library:?}, the model {model:?}"));
@@ -119,9 +124,9 @@ pub fn compare_type(
 ) -> Result<plain::Typed, String> {
     let (mut ours, mut our_text) = (Guarded::around(words), Guarded::around(text));
     let mut theirs = words.to_vec();
-    let raw::Typed { status, value, top: new_top } =
+    let raw::Typed { status, rule, value, top: new_top } =
         raw::type_in(ours.lent(), top, register, our_text.lent());
-    let library = plain::Typed { status, value, top: new_top };
+    let library = plain::Typed { status, rule, value, top: new_top };
     let model = plain::type_in(&mut theirs, top, register, text);
     if library != model {
         return Err(format!("type: the library answers {library:?}, the model {model:?}"));
@@ -142,9 +147,9 @@ pub fn compare_save(
 ) -> Result<(files::Saved, Vec<u32>, Vec<u8>), String> {
     let (mut ours, mut our_space) = (Guarded::around(words), Guarded::around(space));
     let (mut theirs, mut their_space) = (words.to_vec(), space.to_vec());
-    let raw::Saved { status, value, top: new_top, length } =
+    let raw::Saved { status, rule, value, top: new_top, length } =
         raw::save(ours.lent(), top, our_space.lent());
-    let library = files::Saved { status, value, top: new_top, length };
+    let library = files::Saved { status, rule, value, top: new_top, length };
     let model = files::save(&mut theirs, top, &mut their_space);
     if library != model {
         return Err(format!("save: the library answers {library:?}, the model {model:?}"));
@@ -185,8 +190,8 @@ impl Case {
         let (loaded, _) = compare_load(&self.words, &space)?;
         Ok(Ran {
             texts: vec![(typed.status, typed.value)],
-            saved: Some((saved.status, saved.value)),
-            loaded: Some((loaded.status, loaded.value)),
+            saved: Some((saved.status, saved.rule, saved.value)),
+            loaded: Some((loaded.status, loaded.rule, loaded.value)),
             ..self.compare_run()?
         })
     }
@@ -266,6 +271,7 @@ impl Case {
         let count = if reply.status == 0 { self.calls.len() / 4 } else { 0 };
         Ran {
             status: reply.status,
+            rule: reply.rule,
             value: reply.value,
             statuses: answers.chunks(2).take(count).map(|answer| answer[0]).collect(),
             freed: reply.top < self.top,

@@ -1,9 +1,9 @@
-//! The safe wrapper: its calls, its answers, its stores, a list that stops at a refusal, texts printed and
-//! typed in, and files.
+//! The safe wrapper: its calls, its answers, its stores, the rules of damaged cells, a list that stops at a
+//! refusal, texts printed and typed in, and files.
 
 use zelmotar::{
-    file_bytes, raw, status_text, Answer, Call, Fault, Refusal, Stopped, Store, Trailer, EDITION,
-    MAX_CALLS, MAX_CELLS, MAX_CODE, MAX_DEPTH, STATUSES,
+    file_bytes, raw, status_text, Answer, Call, Fault, Refusal, Rule, Stopped, Store, Trailer,
+    EDITION, MAX_CALLS, MAX_CELLS, MAX_CODE, MAX_DEPTH, STATUSES,
 };
 use zelmotar_model::files;
 use zelmotar_model::make::files::{file, Kind};
@@ -132,6 +132,27 @@ fn every_status_has_its_own_number_name_and_text() {
 }
 
 #[test]
+fn every_rule_by_number_name_and_sentence() {
+    let rows = [
+        (Rule::StrayBit, "STRAY_BIT", "its used bit or a chain bit is set"),
+        (Rule::NotBracket, "NOT_BRACKET", "it is a register and not a bracket"),
+        (Rule::BadEmpty, "BAD_EMPTY", "it is an empty bracket whose first word is not 0"),
+        (Rule::BadSymbol, "BAD_SYMBOL", "it is neither a bracket nor a symbol"),
+        (Rule::BadEnds, "BAD_ENDS", "its ends are out of order or out of range"),
+        (Rule::BeyondTop, "BEYOND_TOP", "it is beyond top and not two zero words"),
+    ];
+    assert_eq!(rows.map(|(rule, ..)| rule), Rule::ALL);
+    for (number, (rule, name, sentence)) in (1..).zip(rows) {
+        assert_eq!((rule.number(), rule.name()), (number, name));
+        assert_eq!(Rule::from_number(number), Some(rule));
+        assert_eq!(rule.to_string(), sentence);
+    }
+    for number in [0, 7, 256 + 1, u32::MAX] {
+        assert_eq!(Rule::from_number(number), None);
+    }
+}
+
+#[test]
 fn every_answer_by_name() {
     let mut store = fresh(18);
     let rows = [
@@ -177,9 +198,10 @@ fn every_refusal_by_name() {
     for (number, refusal) in [1, 2, 3, 4, 5, 20, 21, 22].into_iter().zip(refusals) {
         let refusal = refusal.expect_err("each is refused");
         assert_eq!(refusal.number(), number);
-        assert_eq!(refusal.cell(), if number == 3 { Some(0) } else { None });
+        let told = if number == 3 { (Some(0), Some(Rule::NotBracket)) } else { (None, None) };
+        assert_eq!((refusal.cell(), refusal.rule()), told);
         assert_eq!(refusal.offset(), None);
-        let cell = if number == 3 { ": cell 0" } else { "" };
+        let cell = if number == 3 { ": cell 0: it is a register and not a bracket" } else { "" };
         assert_eq!(refusal.to_string(), status_text(number).to_owned() + cell);
     }
     assert_eq!(
@@ -215,7 +237,7 @@ fn a_refused_request_changes_nothing() {
     let mut store = Store::from_parts(words, 20);
     let before = store.clone();
     let damaged = store.check().expect_err("cell 19 is no symbol");
-    assert_eq!(damaged.cell(), Some(19));
+    assert_eq!((damaged.cell(), damaged.rule()), (Some(19), Some(Rule::BadSymbol)));
     assert_eq!(store.collect(), Err(damaged));
     assert_eq!(store.run(&[Call::Live]), Err(damaged));
     assert_eq!(store.run_all(&[Call::Live]), Err(Stopped::Store(damaged)));
@@ -224,6 +246,60 @@ fn a_refused_request_changes_nothing() {
     assert_eq!(store.look(0).len(), 0);
     let top = Store::from_parts(store.into_parts().0, usize::MAX);
     assert_eq!(top.check(), Err(Refusal::BadTop));
+}
+
+/// What every request says of a store with one damaged cell, or of its file where that has the cell.
+fn refusals(store: &Store, c: usize) -> Vec<Refusal> {
+    let (mut space, other) = ([b'?'; 200], || store.clone());
+    let stopped = |stopped| match stopped {
+        Stopped::Store(refusal) => refusal,
+        Stopped::Call { .. } => panic!("{stopped}"),
+    };
+    let mut outcomes = vec![
+        store.check(),
+        other().collect().map(drop),
+        other().run(&[Call::Live]).map(drop),
+        other().run_all(&[Call::Live]).map(drop).map_err(stopped),
+        other().call(Call::Live).map(drop),
+        other().run_words(&[], &mut []),
+        store.print(0, &mut space).map(drop),
+        store.print_string(0, 200).map(drop),
+        other().type_in(0, b"1"),
+        other().type_str(0, "1"),
+        other().save(&mut space).map(drop),
+        other().to_file().map(drop),
+    ];
+    if c < store.top() {
+        let file = files::file(store.words(), store.top());
+        outcomes.push(Store::load(vec![7; store.words().len()], &file).map(drop));
+        outcomes.push(Store::from_file(&file).map(drop));
+    }
+    outcomes.into_iter().map(|outcome| outcome.expect_err("a cell is damaged")).collect()
+}
+
+#[test]
+fn every_request_says_the_rule() {
+    const EMPTY: u32 = 1 << 31;
+    let rows = [
+        (0, [0, EMPTY + (1 << 29)], Rule::StrayBit),
+        (1, [16, 16], Rule::NotBracket),
+        (2, [3, EMPTY], Rule::BadEmpty),
+        (17, [1 << 28, 0], Rule::BadSymbol),
+        (17, [16, EMPTY + 17], Rule::BadEnds),
+        (19, [0, 1], Rule::BeyondTop),
+    ];
+    for (c, cell, rule) in rows {
+        let (mut words, _) = fresh(20).into_parts();
+        words[32..36].copy_from_slice(&[65, 0, 66, 0]);
+        words[2 * c..2 * c + 2].copy_from_slice(&cell);
+        for refusal in refusals(&Store::from_parts(words, 18), c) {
+            assert_eq!((refusal.number(), refusal.offset()), (3, None));
+            assert_eq!((refusal.cell(), refusal.rule()), (Some(c as u32), Some(rule)));
+            let sentence = format!("a cell breaks its rule: cell {c}: {rule}");
+            assert_eq!(refusal.to_string(), sentence);
+            assert_eq!(Stopped::from(refusal).to_string(), sentence);
+        }
+    }
 }
 
 /// Runs calls one by one up to the first that is refused.
@@ -387,13 +463,13 @@ fn every_refusal_of_a_text_by_name() {
         assert_eq!(store.type_in(register, text.as_bytes()), Err(refusal), "{text}");
         assert_eq!(store, before, "{text}");
         assert_eq!(refusal.number(), number);
-        let (cell, offset) = (refusal.cell(), refusal.offset());
+        let (cell, rule, offset) = (refusal.cell(), refusal.rule(), refusal.offset());
         assert_eq!(
-            (cell.is_some(), offset.is_some()),
-            (number == 3, [13, 21, 23].contains(&number))
+            (cell.is_some(), rule.is_some(), offset.is_some()),
+            (number == 3, number == 3, [13, 21, 23].contains(&number))
         );
-        let place = match (cell, offset) {
-            (Some(cell), _) => format!(": cell {cell}"),
+        let place = match (cell.zip(rule), offset) {
+            (Some((cell, rule)), _) => format!(": cell {cell}: {rule}"),
             (_, Some(offset)) => format!(": byte {offset}"),
             _ => String::new(),
         };
@@ -459,7 +535,7 @@ fn readings() -> Store {
 #[test]
 fn a_file_is_a_part_of_the_space_that_is_lent() {
     let mut store = readings();
-    let mut space = vec![b'?'; 200];
+    let mut space = [b'?'; 200];
     let top = store.top();
     assert_eq!(store.save(&mut space[..183]), Err(Refusal::ShortSpace));
     // The store is collected all the same, and says so.
@@ -505,8 +581,13 @@ fn every_refusal_of_a_file_by_name() {
         assert_eq!(Store::load(&mut words, &file), Err(refusal));
         assert_eq!(words, [7; 48]);
         assert_eq!((refusal.number(), refusal.offset()), (number, None));
-        let (cell, place) = if number == 3 { (Some(16), ": cell 16") } else { (None, "") };
-        assert_eq!(refusal.cell(), cell);
+        let (cell, rule, place) = match number {
+            3 => {
+                (Some(16), Some(Rule::BadSymbol), ": cell 16: it is neither a bracket nor a symbol")
+            }
+            _ => (None, None, ""),
+        };
+        assert_eq!((refusal.cell(), refusal.rule()), (cell, rule));
         assert_eq!(refusal.to_string(), status_text(number).to_owned() + place);
     }
     for n in [0, 24, 47, 49, 96] {
@@ -554,6 +635,7 @@ fn files_of_every_kind_have_the_words_that_they_ask_for() {
             Err(refusal) => {
                 assert_eq!(refusal.number(), reply.status);
                 assert_eq!(refusal.cell().unwrap_or(0), reply.value);
+                assert_eq!(refusal.rule().map_or(0, Rule::number), reply.rule);
             }
         }
         met[reply.status as usize] += 1;

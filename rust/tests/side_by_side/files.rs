@@ -34,6 +34,9 @@ const AT_REGISTER: &str = "3 at a register";
 const AT_HEAP_CELL: &str = "3 at a heap cell";
 const AT_WIPED_CELL: &str = "3 at a heap cell of zeros";
 const HELD_BY_NONE: &str = "3, and some heap cell is held by none";
+/// 3 by each rule that a cell of a file can break, from the first on.
+const BY_RULE: [&str; 5] =
+    ["3 by rule 1", "3 by rule 2", "3 by rule 3", "3 by rule 4", "3 by rule 5"];
 const ONE_DEAD: &str = "34 for one cell";
 const FIRST_DEAD: &str = "34 for one cell, the first";
 const LAST_DEAD: &str = "34 for one cell, the last";
@@ -174,7 +177,7 @@ impl Load {
         let body = &self.file[self.file.len() - distance..];
         let (mut ours, mut space) = (Guarded::around(words), Guarded::around(&vec![7; distance]));
         let told = raw::save(ours.lent(), top, space.lent());
-        let expected = raw::Saved { status: 0, value: 0, top, length: distance };
+        let expected = raw::Saved { status: 0, rule: 0, value: 0, top, length: distance };
         if told != expected || space.opened("file of what is loaded")? != body {
             return Err(format!("what is loaded is saved as another file: {told:?}"));
         }
@@ -231,6 +234,7 @@ impl Load {
                 let c = reply.value as usize;
                 let (in_heap, wiped) = (c >= FIRST_HEAP_CELL, words[2 * c..2 * c + 2] == [0, 0]);
                 came.push(if in_heap { AT_HEAP_CELL } else { AT_REGISTER });
+                came.push(BY_RULE[reply.rule as usize - 1]);
                 came.extend((in_heap && wiped).then_some(AT_WIPED_CELL));
                 came.extend(held_by_none(&words, top).next().map(|_| HELD_BY_NONE));
             }
@@ -341,6 +345,7 @@ fn files_of_every_kind() {
     }
     tally.assert_came(&[AT_REGISTER, AT_HEAP_CELL, AT_WIPED_CELL], 1_000);
     tally.assert_came(&[HELD_BY_NONE, FULL, IGNORED], 1_000);
+    tally.assert_came(&BY_RULE, 500);
     tally.assert_came(&[ONE_DEAD, FIRST_DEAD, LAST_DEAD], 200);
 }
 
@@ -393,6 +398,7 @@ fn every_bit_of_small_files() {
     tally.print("every bit of small files");
     tally.assert_met(Kind::Flipped.name(), &[0, 3, 31, 32, 33], 100);
     tally.assert_met(Kind::Flipped.name(), &[34, 35], 10);
+    tally.assert_came(&BY_RULE, 50);
 }
 
 #[test]

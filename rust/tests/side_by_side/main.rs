@@ -1,5 +1,5 @@
-//! The linked library beside the model: every status, value, word, `top`, answer word and byte of a text
-//! or a file.
+//! The linked library beside the model: every status, rule, value, word, `top`, answer word and byte of a
+//! text or a file.
 //!
 //! Random numbers are repeatable; `ZELMOTAR_SEED` sets another seed than the usual one. A case that
 //! differs is made smaller by dropping calls, then printed. In order:
@@ -12,6 +12,7 @@
 //! - [`types`]: random texts, typed into stores that have about as much room as they need.
 //! - [`files`]: random stores saved as files, and files of every kind loaded.
 //! - [`zeros`]: code 0, in calls, texts, cells and files.
+//! - [`rules`]: the rule that a damaged cell breaks, as every function tells it.
 //! - [`room`]: calls and texts on nearly full stores, where what a register holds makes room or does not.
 //! - [`meaning`]: call for call, and text for text, against expressions with no addresses.
 //! - [`alike`]: stores that differ in dead cells, collections and cuts between batches only.
@@ -32,6 +33,7 @@ mod meaning;
 mod pages;
 mod prints;
 mod room;
+mod rules;
 mod shrink;
 mod tally;
 mod terms;

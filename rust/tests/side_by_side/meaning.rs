@@ -51,7 +51,7 @@ pub fn compare(words: &[u32], top: usize, acts: &[Act]) -> Result<Ran, String> {
         }
     }
     let (saved, loaded) = (None, None);
-    Ok(Ran { status: 0, value: 0, statuses, freed: false, texts, saved, loaded })
+    Ok(Ran { status: 0, rule: 0, value: 0, statuses, freed: false, texts, saved, loaded })
 }
 
 #[test]

@@ -1,4 +1,4 @@
-//! How often each status occurred.
+//! How often each status occurred, and how often each rule was broken.
 
 use std::collections::BTreeMap;
 use std::io::{stderr, Write};
@@ -25,7 +25,13 @@ pub const SAVE_STATUSES: [u32; 5] = [0, 1, 2, 3, 22];
 /// Every number that a load can be answered with.
 pub const LOAD_STATUSES: [u32; 8] = [0, 3, 30, 31, 32, 33, 34, 35];
 
-/// Each status with its count.
+/// Every rule that a cell can break.
+pub const RULES: [u32; 6] = [1, 2, 3, 4, 5, 6];
+
+/// Every rule that a cell of a file can break, as none of them is beyond `top`.
+pub const FILE_RULES: [u32; 5] = [1, 2, 3, 4, 5];
+
+/// Each number with its count.
 fn listed(counts: &BTreeMap<u32, usize>) -> String {
     counts.iter().map(|(status, count)| format!(" {status}:{count}")).collect()
 }
@@ -180,7 +186,33 @@ impl Files {
     }
 }
 
-/// Counts of cases, and of batches, calls, texts typed in, stores saved and files loaded by status.
+/// Counts of damaged cells by where they stand and by the rule that they break.
+#[derive(Default)]
+pub struct Rules(BTreeMap<&'static str, BTreeMap<u32, usize>>);
+
+impl Rules {
+    /// Counts one cell.
+    pub fn add(&mut self, place: &'static str, rule: u32) {
+        *self.0.entry(place).or_default().entry(rule).or_default() += 1;
+    }
+
+    /// Prints the counts.
+    pub fn print(&self, name: &str) {
+        let count = self.0.values().flat_map(BTreeMap::values).sum::<usize>();
+        let places = self.0.iter().map(|(place, rules)| format!("; {place}{}", listed(rules)));
+        say(name, &format!("{count} cells{}", places.collect::<String>()));
+    }
+
+    /// Asserts that cells of a place broke each of the given rules so many times, and no other.
+    pub fn assert_met(&self, place: &str, rules: &[u32], least: usize) {
+        let met = self.0.get(place).unwrap_or(&BTreeMap::new()).clone();
+        assert!(met.keys().eq(rules), "{place}: {met:?}");
+        assert!(met.values().all(|&count| count >= least), "{place}: {met:?}");
+    }
+}
+
+/// Counts of cases, and of batches, calls, texts typed in, stores saved and files loaded by status; and of the
+/// rules that are broken, in stores and in files.
 #[derive(Default)]
 pub struct Tally {
     cases: usize,
@@ -189,6 +221,8 @@ pub struct Tally {
     texts: BTreeMap<u32, usize>,
     saves: BTreeMap<u32, usize>,
     loads: BTreeMap<u32, usize>,
+    rules: BTreeMap<u32, usize>,
+    file_rules: BTreeMap<u32, usize>,
 }
 
 impl Tally {
@@ -203,8 +237,14 @@ impl Tally {
             *self.texts.entry(status).or_default() += 1;
         }
         for (counts, answer) in [(&mut self.saves, ran.saved), (&mut self.loads, ran.loaded)] {
-            if let Some((status, _)) = answer {
+            if let Some((status, ..)) = answer {
                 *counts.entry(status).or_default() += 1;
+            }
+        }
+        let in_file = ran.loaded.map_or(0, |(_, rule, _)| rule);
+        for (counts, rule) in [(&mut self.rules, ran.rule), (&mut self.file_rules, in_file)] {
+            if rule != 0 {
+                *counts.entry(rule).or_default() += 1;
             }
         }
     }
@@ -217,6 +257,8 @@ impl Tally {
             ("texts", &self.texts),
             ("saves", &self.saves),
             ("loads", &self.loads),
+            ("rules", &self.rules),
+            ("rules in files", &self.file_rules),
         ];
         let met = counted.iter().filter(|(_, counts)| !counts.is_empty());
         let met = met.map(|(name, counts)| format!("; {name}{}", listed(counts)));
@@ -243,6 +285,16 @@ impl Tally {
         }
         for status in loads {
             assert!(self.loads.contains_key(status), "no load was answered {status}");
+        }
+    }
+
+    /// Asserts that each of the given rules was broken, in a store or in a file.
+    pub fn assert_broken(&self, stores: &[u32], files: &[u32]) {
+        for rule in stores {
+            assert!(self.rules.contains_key(rule), "no store broke rule {rule}");
+        }
+        for rule in files {
+            assert!(self.file_rules.contains_key(rule), "no file broke rule {rule}");
         }
     }
 }

@@ -1,10 +1,10 @@
-//! Rows that are worked out by hand: P1 to P14, T1 to T27, in [`files`] those of files, and the rows that are
+//! Rows that are worked out by hand: P1 to P16, T1 to T27, in [`files`] those of files, and the rows that are
 //! only run.
 
 mod files;
 
 use zelmotar::raw::{self, Reply, Text, Typed};
-use zelmotar::{Answer, Call, Fault, Refusal, Store};
+use zelmotar::{Answer, Call, Fault, Refusal, Rule, Store};
 
 /// The second word of an empty bracket.
 const EMPTY: u32 = 2_147_483_648;
@@ -25,6 +25,12 @@ fn words(capacity: usize, cells: &[(usize, [u32; 2])]) -> Vec<u32> {
 
 fn refused(fault: Fault) -> Answer {
     Answer::Refused(fault)
+}
+
+/// What the check finds, a damaged cell with its rule.
+fn checked(words: Vec<u32>, top: usize) -> Result<(), (u32, Rule)> {
+    let damaged = |refusal: Refusal| (refusal.cell().zip(refusal.rule())).expect("it is damaged");
+    Store::from_parts(words, top).check().map_err(damaged)
 }
 
 #[test]
@@ -125,13 +131,11 @@ fn p5_the_largest_code() {
 
 #[test]
 fn p6_ends_of_a_bracket_in_cell_18() {
-    let with_ends = |l, r| {
-        Store::from_parts(words(24, &[(16, [1, 0]), (17, [2, 0]), (18, [l, EMPTY + r])]), 19)
-            .check()
-    };
+    let with_ends =
+        |l, r| checked(words(24, &[(16, [1, 0]), (17, [2, 0]), (18, [l, EMPTY + r])]), 19);
     assert_eq!(with_ends(16, 17), Ok(()));
-    assert_eq!(with_ends(16, 18).map_err(Refusal::cell), Err(Some(18)));
-    assert_eq!(with_ends(17, 16).map_err(Refusal::cell), Err(Some(18)));
+    assert_eq!(with_ends(16, 18), Err((18, Rule::BadEnds)));
+    assert_eq!(with_ends(17, 16), Err((18, Rule::BadEnds)));
 }
 
 #[test]
@@ -249,11 +253,52 @@ fn p13_the_least_code() {
 
 #[test]
 fn p14_a_wiped_cell_is_damaged_and_a_free_one_is_not() {
-    let checked = |words, top| Store::from_parts(words, top).check().map_err(Refusal::cell);
-    assert_eq!(checked(lone(0), 17), Err(Some(16)));
-    assert_eq!(checked(symbols(18, &[0, 65], &[]), 18), Err(Some(16)));
-    assert_eq!(checked(symbols(18, &[65], &[]), 18), Err(Some(17)));
+    assert_eq!(checked(lone(0), 17), Err((16, Rule::BadSymbol)));
+    assert_eq!(checked(symbols(18, &[0, 65], &[]), 18), Err((16, Rule::BadSymbol)));
+    assert_eq!(checked(symbols(18, &[65], &[]), 18), Err((17, Rule::BadSymbol)));
     assert_eq!(checked(symbols(18, &[65], &[]), 17), Ok(()));
+}
+
+/// Asserts the rules of some cells, each put into a store of 18 cells with `top` 17, empty registers and the
+/// symbol 65 in cell 16.
+#[track_caller]
+fn assert_rules(rows: &[(usize, [u32; 2], u32)]) {
+    for &(c, cell, rule) in rows {
+        let words = words(18, &[(16, [65, 0]), (c, cell)]);
+        let damaged = Reply { status: 3, rule, value: c as u32, top: 17 };
+        assert_eq!(raw::check(&words, 17), damaged, "cell {c} {cell:?}");
+    }
+}
+
+#[test]
+fn p15_a_cell_for_each_rule() {
+    let (used, left, right) = (1 << 30, 1 << 29, 1 << 28);
+    assert_eq!(raw::check(&words(18, &[(16, [65, 0])]), 17).status, 0);
+    assert_rules(&[
+        (0, [16, EMPTY + used + 16], 1),
+        (0, [65, 0], 2),
+        (0, [16, EMPTY], 3),
+        (0, [17, EMPTY + 16], 5),
+        (16, [65, right], 1),
+        (16, [16, EMPTY], 3),
+        (16, [65, 1], 4),
+        (16, [16, EMPTY + 16], 5),
+        (17, [0, left], 1),
+        (17, [65, 0], 6),
+    ]);
+}
+
+#[test]
+fn p16_the_first_of_two_rules() {
+    let (used, left, right) = (1 << 30, 1 << 29, 1 << 28);
+    assert_rules(&[
+        (0, [65, used], 1),
+        (0, [0, 0], 2),
+        (0, [16, EMPTY + left], 1),
+        (16, [0, right], 1),
+        (16, [17, EMPTY + used + 16], 1),
+        (17, [7, left], 1),
+    ]);
 }
 
 /// What printing a register into so many bytes answers, and the bytes that it leaves.
@@ -268,12 +313,17 @@ fn printed(words: &[u32], top: usize, register: usize, n: usize) -> (Text, Vec<u
 /// A text that is done, and what is left of its space.
 fn done(text: &str, zeros: usize) -> (Text, Vec<u8>) {
     let space = [text.as_bytes(), &vec![0; zeros]].concat();
-    (Text { status: 0, value: 0, length: text.len() }, space)
+    (Text { status: 0, rule: 0, value: 0, length: text.len() }, space)
 }
 
 /// A refusal, and its space.
-fn no_text(status: u32, value: usize, zeros: usize) -> (Text, Vec<u8>) {
-    (Text { status, value, length: 0 }, vec![0; zeros])
+fn no_text(status: u32, zeros: usize) -> (Text, Vec<u8>) {
+    (Text { status, rule: 0, value: 0, length: 0 }, vec![0; zeros])
+}
+
+/// The refusal of a damaged cell, and its space.
+fn damaged_text(cell: usize, rule: u32, zeros: usize) -> (Text, Vec<u8>) {
+    (Text { status: 3, rule, value: cell, length: 0 }, vec![0; zeros])
 }
 
 /// `65 (66 67) ()` in register 1, and nothing in the others. Its `top` is 21.
@@ -311,7 +361,7 @@ fn t1_a_text_that_fits_and_one_that_does_not() {
     let text = "65 (66 67) ()";
     assert_eq!(printed(&three_terms(), 21, 1, 13), done(text, 0));
     assert_eq!(printed(&three_terms(), 21, 1, 15), done(text, 2));
-    assert_eq!(printed(&three_terms(), 21, 1, 12), no_text(22, 0, 12));
+    assert_eq!(printed(&three_terms(), 21, 1, 12), no_text(22, 12));
 }
 
 #[test]
@@ -336,7 +386,7 @@ fn t4_codes() {
         for code in [power - 1, power, power + 1] {
             let text = code.to_string();
             assert_eq!(printed(&lone(code), 17, 0, text.len()), done(&text, 0));
-            assert_eq!(printed(&lone(code), 17, 0, text.len() - 1), no_text(22, 0, text.len() - 1));
+            assert_eq!(printed(&lone(code), 17, 0, text.len() - 1), no_text(22, text.len() - 1));
         }
     }
 }
@@ -347,21 +397,21 @@ fn t5_to_t7_as_many_brackets_as_may_be_open_and_one_more() {
     let text = "(".repeat(64) + &")".repeat(64);
     assert_eq!(printed(&words, top, 0, 128), done(&text, 0));
     let (words, top) = nest(65);
-    assert_eq!(printed(&words, top, 0, 200), no_text(21, 0, 200));
-    assert_eq!(printed(&words, top, 0, 64), no_text(21, 0, 64));
-    assert_eq!(printed(&words, top, 0, 63), no_text(22, 0, 63));
+    assert_eq!(printed(&words, top, 0, 200), no_text(21, 200));
+    assert_eq!(printed(&words, top, 0, 64), no_text(21, 64));
+    assert_eq!(printed(&words, top, 0, 63), no_text(22, 63));
 }
 
 #[test]
 fn t8_the_last_register_and_one_that_is_none() {
     assert_eq!(printed(&three_terms(), 21, 15, 1), done("", 1));
-    assert_eq!(printed(&three_terms(), 21, 16, 1), no_text(20, 0, 1));
+    assert_eq!(printed(&three_terms(), 21, 16, 1), no_text(20, 1));
 }
 
 #[test]
 fn t9_damage_is_judged_before_the_register() {
     let words = words(20, &[(16, [1, 0]), (17, [2, 0]), (18, [16, EMPTY + 18])]);
-    assert_eq!(printed(&words, 19, 16, 1), no_text(3, 18, 1));
+    assert_eq!(printed(&words, 19, 16, 1), damaged_text(18, 5, 1));
 }
 
 /// What typing a text answers, and the words that it leaves.
@@ -378,14 +428,14 @@ fn typed_fresh(capacity: usize, text: &str) -> (Typed, Vec<u32>) {
 
 /// A text that is done, `top` and the words after it.
 fn set(top: usize, words: Vec<u32>) -> (Typed, Vec<u32>) {
-    (Typed { status: 0, value: 0, top }, words)
+    (Typed { status: 0, rule: 0, value: 0, top }, words)
 }
 
 /// Asserts that a text is refused where it stands, in a fresh store without a heap, and that nothing changes.
 #[track_caller]
 fn assert_refused(text: &str, status: u32, offset: usize) {
     let before = words(16, &[]);
-    let expected = (Typed { status, value: offset, top: 16 }, before.clone());
+    let expected = (Typed { status, rule: 0, value: offset, top: 16 }, before.clone());
     assert_eq!(typed(&before, 16, 0, text), expected, "{text}");
 }
 
@@ -393,7 +443,7 @@ fn assert_refused(text: &str, status: u32, offset: usize) {
 fn t10_a_text_that_fits_and_no_room_for_it_again() {
     let text = "65 (66 67) ()";
     assert_eq!(typed(&words(21, &[]), 16, 1, text), set(21, three_terms()));
-    let full = Typed { status: 16, value: 0, top: 21 };
+    let full = Typed { status: 16, rule: 0, value: 0, top: 21 };
     assert_eq!(typed(&three_terms(), 21, 0, text), (full, three_terms()));
 }
 
@@ -436,7 +486,7 @@ fn t13_no_bytes() {
 #[test]
 fn t14_room() {
     let dead = words(17, &[(16, [7, 0])]);
-    let full = Typed { status: 16, value: 0, top: 16 };
+    let full = Typed { status: 16, rule: 0, value: 0, top: 16 };
     assert_eq!(typed(&dead, 17, 0, "1 1"), (full, words(17, &[])));
     assert_eq!(typed(&dead, 17, 0, "9"), set(17, lone(9)));
     assert_eq!(typed_fresh(16, "1"), (full, words(16, &[])));
@@ -477,20 +527,20 @@ fn t19_brackets_over_the_limit() {
 fn t20_the_last_register_and_one_that_is_none() {
     let expected = words(17, &[(15, [16, EMPTY + 16]), (16, [7, 0])]);
     assert_eq!(typed(&words(17, &[]), 16, 15, "7"), set(17, expected));
-    let none = Typed { status: 20, value: 0, top: 16 };
+    let none = Typed { status: 20, rule: 0, value: 0, top: 16 };
     assert_eq!(typed(&words(17, &[]), 16, 16, "x"), (none, words(17, &[])));
 }
 
 #[test]
 fn t21_damage_is_judged_first() {
     let words = words(20, &[(16, [1, 0]), (17, [2, 0]), (18, [16, EMPTY + 18])]);
-    let damaged = Typed { status: 3, value: 18, top: 19 };
+    let damaged = Typed { status: 3, rule: 5, value: 18, top: 19 };
     assert_eq!(typed(&words, 19, 16, "x"), (damaged, words));
 }
 
 #[test]
 fn t22_to_t24_room_for_a_text() {
-    let full = |top| Typed { status: 16, value: 0, top };
+    let full = |top| Typed { status: 16, rule: 0, value: 0, top };
     assert_eq!(typed(&lone(65), 17, 0, "66"), set(17, lone(66)));
     assert_eq!(typed(&lone(65), 17, 0, "66 66"), (full(17), lone(65)));
     assert_eq!(typed(&lone(65), 17, 1, "66"), (full(17), lone(65)));
@@ -516,7 +566,7 @@ fn t25_a_zero_that_begins_a_term() {
     }
     // Nothing is collected for it.
     let dead = words(17, &[(16, [7, 0])]);
-    assert_eq!(typed(&dead, 17, 0, "0"), (Typed { status: 13, value: 0, top: 17 }, dead));
+    assert_eq!(typed(&dead, 17, 0, "0"), (Typed { status: 13, rule: 0, value: 0, top: 17 }, dead));
 }
 
 #[test]
@@ -528,8 +578,8 @@ fn t26_a_zero_that_begins_none() {
 
 #[test]
 fn t27_a_wiped_cell() {
-    assert_eq!(printed(&lone(0), 17, 0, 2), no_text(3, 16, 2));
-    let damaged = Typed { status: 3, value: 16, top: 17 };
+    assert_eq!(printed(&lone(0), 17, 0, 2), damaged_text(16, 4, 2));
+    let damaged = Typed { status: 3, rule: 4, value: 16, top: 17 };
     assert_eq!(typed(&lone(0), 17, 0, "1"), (damaged, lone(0)));
 }
 
@@ -540,7 +590,7 @@ fn run_only_store_lengths() {
         let reply = raw::fresh(&mut words);
         assert_eq!(
             reply,
-            Reply { status, value: 0, top: if status == 0 { 16 } else { 0 } },
+            Reply { status, rule: 0, value: 0, top: if status == 0 { 16 } else { 0 } },
             "{length}"
         );
         assert_eq!(raw::check(&words, 16).status, status, "{length}");
@@ -556,7 +606,7 @@ fn run_only_tops() {
         [(15, 2, &[][..]), (21, 2, &[]), (16, 0, &[]), (20, 0, &[65, 66, 67, 68])]
     {
         let mut words = symbols(20, codes, &[]);
-        let expected = Reply { status, value: 0, top };
+        let expected = Reply { status, rule: 0, value: 0, top };
         assert_eq!(raw::check(&words, top), expected);
         assert_eq!(raw::run(&mut words, top, &[], &mut []), expected);
     }
@@ -569,7 +619,7 @@ fn run_only_call_lists() {
         let mut answers = vec![9; 3_000];
         let mut words = words(16, &[]);
         let reply = raw::run(&mut words, 16, &calls, &mut answers);
-        assert_eq!(reply, Reply { status, value: 0, top: 16 }, "{length}");
+        assert_eq!(reply, Reply { status, rule: 0, value: 0, top: 16 }, "{length}");
         let left = if status == 0 { 0 } else { 9 };
         assert!(answers.iter().all(|&word| word == left), "{length}");
     }

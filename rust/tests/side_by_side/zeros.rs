@@ -39,8 +39,9 @@ fn wiped_cells_are_damaged() {
         let answers = (0..6).map(|_| random.word()).collect();
         // The case compares every function, so all of them refuse as the batch, the text and the save do.
         let ran = Case { words, top, calls, answers, register: random.below(16) }.hold();
-        assert_eq!((ran.status, ran.value), (3, c as u32));
-        assert_eq!((ran.texts, ran.saved), (vec![(3, c)], Some((3, c as u32))));
+        let told = (3, 4, c as u32);
+        assert_eq!((ran.status, ran.rule, ran.value), told);
+        assert_eq!((ran.texts, ran.saved), (vec![(3, c)], Some(told)));
     }
 }
 
@@ -54,8 +55,8 @@ fn free_cells_are_zeros() {
             // The same words with a higher `top`: the first free cell would be a symbol of code 0.
             let higher = random.within(top + 1..=words.len() / 2);
             let (sound, wiped) = (plain::check(&words, top), plain::check(&words, higher));
-            assert_eq!(sound, Reply { status: 0, value: 0, top });
-            assert_eq!(wiped, Reply { status: 3, value: top as u32, top: higher });
+            assert_eq!(sound, Reply { status: 0, rule: 0, value: 0, top });
+            assert_eq!(wiped, Reply { status: 3, rule: 4, value: top as u32, top: higher });
             let case = |top| Case {
                 words: words.clone(),
                 top,
@@ -134,7 +135,7 @@ fn wiped_cells_in_files() {
         let c = lowest_wiped(&words, top);
         let junk = vec![7; words.len()];
         let (reply, left) = compare_load(&junk, &files::file(&words, top)).expect("they agree");
-        assert_eq!((reply, left), (Reply { status: 3, value: c as u32, top: 0 }, junk));
+        assert_eq!((reply, left), (Reply { status: 3, rule: 4, value: c as u32, top: 0 }, junk));
         met += 1;
     }
     assert!(met > 5_000, "{met}");

@@ -1,21 +1,21 @@
 -- `capi::refuse` meets its contract. Assumes nothing.
-use mathlib.Core.Path.{ap, _∙_, subst, sym}
+use mathlib.Core.Path.{ap, subst, sym}
 use Prim.Native.Nat.{_≤_}
+use native.Mathlib.Omega.{arith}
 use Rattle.meaning.specs.Limits.{limit}
 use Rattle.meaning.specs.Verdicts.{Verdict}
+use Rattle.meaning.proofs.sound.Cells.{limit-fits}
 use Rattle.capi.specs.Answers.{reply}
 use borrow.Author.Needs.{needs}
 use Rattle.capi.proofs.refuse.Statement.{statement}
 use Rattle.capi.proofs.refuse.Tie as tie
 
-reply-with-requires : tie.Need-reply-with-requires
-reply-with-requires c κs =
-    subst (λ (v : Verdict). v .value ≤ limit) (sym (c .refusal .ensures)) (c .before .pre)
+-- the value fits a word
+cast-t4 : tie.Need-cast-t4
+cast-t4 c = omega (arith, limit-fits, ap (λ (v : Verdict). v .value) (c .before .refusal .ensures))
 
 returns : tie.Need-returns
-returns c =
-    let top = c .before .before .args .top in
-    c .reply-with .ensures ∙ ap (λ (v : Verdict). reply (v .status) (v .value) top) (c .before .refusal .ensures)
+returns c = ap (λ (v : Verdict). reply v (c .before .before .args .top)) (c .before .refusal .ensures)
 
 pub refuse-spec : {M : Type 1} → statement M
-refuse-spec = tie.close (tie.spec (λ c κs. search needs) reply-with-requires returns)
+refuse-spec = tie.close (tie.spec (λ c κs. search needs) cast-t4 returns)

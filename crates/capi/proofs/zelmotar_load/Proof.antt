@@ -4,10 +4,11 @@ use borrow.Author.Needs.{needs}
 use Rattle.capi.proofs.zelmotar_load.Statement.{statement}
 use Rattle.capi.proofs.zelmotar_load.Tie as tie
 
-reply-with-requires-7 : tie.Need-reply-with-requires-7
-reply-with-requires-7 c κs =
-    let load = c .before .before .before .before .before .load in
-    load-fits _ _ (rw (c .before .cell .given .1) at (load .ensures))
+refuse-requires : tie.Need-refuse-requires
+refuse-requires c κs =
+    let cell = c .before in
+    let load = cell .before .before .before .before .load in
+    load-fits _ _ (rw (cell .cell .given .1) at (load .ensures))
 
 returns : tie.Need-returns
 returns c =
@@ -41,13 +42,14 @@ returns-6 c =
 
 returns-7 : tie.Need-returns-7
 returns-7 c =
-    let load = c .before .before .before .before .before .before .load in
-    rw (c .reply-with7 .ensures) (rw (c .before .before .cell .given .1) at (load .ensures))
+    let cell = c .before .before in
+    let load = cell .before .before .before .before .load in
+    rw (c .refuse .ensures) (rw (cell .cell .given .1) at (load .ensures))
 
 returns-8 : tie.Need-returns-8
 returns-8 c =
     let load = c .before .before .before .before .before .load in
-    rw (c .reply-with8 .ensures) (rw (c .before .enum-told6 .given .1) at (load .ensures))
+    rw (c .reply-with7 .ensures) (rw (c .before .enum-told6 .given .1) at (load .ensures))
 
 pub zelmotar-load-spec : {M : Type 1} → statement M
 zelmotar-load-spec =
@@ -55,7 +57,7 @@ zelmotar-load-spec =
     (tie.spec
     (λ c κs. search needs) (λ c. search needs) (λ c κs. search needs) (λ c. search needs) (λ c κs. search needs)
     (λ c. search needs) (λ c κs. search needs) (λ c. search needs) (λ c κs. search needs) (λ c. search needs)
-    (λ c κs. search needs) (λ c. search needs) (λ c κs. search needs) (λ c. search needs) reply-with-requires-7
+    (λ c κs. search needs) (λ c. search needs) (λ c κs. search needs) (λ c. search needs) refuse-requires
     (λ c. search needs) (λ c κs. search needs) (λ c. search needs) returns (λ c. search needs) returns-2
     (λ c. search needs) returns-3 (λ c. search needs) returns-4 (λ c. search needs) returns-5 (λ c. search needs)
     returns-6 (λ c. search needs) returns-7 (λ c. search needs) returns-8)

@@ -59,6 +59,7 @@ pub record PlanMeets (F : ℕ) (ws : List ℕ) (top : ℕ) (x : Effect) (plan : 
   pub len : length (r .words) ≡ length ws
   pub status : r .verdict .status ≡ orElse (x .unfit) (cond (planLacks F plan ws top) 16 0)
   pub value : r .verdict .value ≡ answer (r .verdict .status) x
+  pub rule : r .verdict .rule ≡ 0
   pub registers : (i : ℕ) → i < F → meaning (r .words) i ≡ after (r .verdict .status) x (meaning ws) i
   pub tops : r .top ≡ topAfter (r .verdict .status) (planTop F plan ws top) (collectedTop F ws top) top
   pub left : WordsAfter (r .verdict .status) ws (collected F ws top) (r .words)
@@ -143,6 +144,7 @@ module _ (F : ℕ) (ws : List ℕ) (top : ℕ) (p : 0 < F) (s : Sound F ws top) 
         len = m .len ∙ l;
         status = u ∙ rw (z, k) refl;
         value = m .value;
+        rule = m .rule;
         registers = m .registers;
         tops = rw u (m .tops ∙ sym y);
         left = rw u tt;
@@ -160,6 +162,7 @@ module _ (F : ℕ) (ws : List ℕ) (top : ℕ) (p : 0 < F) (s : Sound F ws top) 
         len = m .len;
         status = t ∙ rw z refl;
         value = m .value;
+        rule = m .rule;
         registers = m .registers;
         tops = rw (t, y) (m .tops ∙ add-zero top);
         left = rw (t, y) (rw t at (m .left));
@@ -183,6 +186,7 @@ module _ (F : ℕ) (ws : List ℕ) (top : ℕ) (p : 0 < F) (s : Sound F ws top) 
         len = length-collected F ws top p s;
         status = rw (m .0, l) refl;
         value = refl;
+        rule = refl;
         registers = meaning-kept F ws top p s;
         tops = refl;
         left = refl;

@@ -1,6 +1,5 @@
 -- The check answers 0 exactly for a sound store, and 3 with the first damaged cell. In order:
 --   length-yes, yes-length       the test and the rule of the length, each from the other;  top-yes, yes-top  of `top`
---   bracket-yes, yes-bracket     for a bracket's words;  term-yes, yes-term  for a term's;  two-zeros  a free cell's
 --   damaged-low                  the first damaged cell is none before the first that is tested
 --   damaged-before, damaged-at   the cells before it are in order, and it is not;  damaged-none  where all are, none is
 --   cell-yes, yes-cell           a cell's test and its rule, each from the other
@@ -26,8 +25,9 @@ use Rattle.meaning.specs.Limits.{codeTest, limit}
 use Rattle.meaning.specs.Sound.{at, IsBracket, isEmpty, isFull, IsTerm, isSymbol, isBracket, capacity, Allowed}
 use Rattle.meaning.specs.Sound.{CellRule, Sound}
 use Rattle.meaning.specs.Verdicts.{Verdict, only, damagedAt, onZero}
-use Rattle.meaning.specs.Check.{topTest, bracketTest, termTest, cellTest, damaged, lengthTest, verdictAt, check}
-use Rattle.meaning.proofs.Lists.{lt-or-ge}
+use Rattle.meaning.specs.Check.{topTest, brokenRule, cellTest, damaged, lengthTest, verdictAt, check}
+use Rattle.meaning.proofs.sound.Cells.{limit-fits}
+use Rattle.meaning.proofs.check.Rules.{none-kept, kept-rule, cell-kept, kept-cell}
 
 -- ---- the length and `top`
 
@@ -57,67 +57,7 @@ pub yes-top : (F cells top : ℕ) → F ≤ top → top ≤ cells → topTest F 
 unfolding topTest
 yes-top F cells top l m = rw (le-ltb top F l, le-leb top cells m) refl
 
--- ---- one cell
-
-pub bracket-yes : (F lim a b : ℕ) → bracketTest F lim a b ≡ true → IsBracket F lim a b
-unfolding bracketTest
-bracket-yes F lim a b q =
-    go (eqb b (bracketTo 0)) (ltb b (bracketTo 0)) (ltb a F) (ltb (b - bracketTo 0) a) refl refl refl refl q
-  where
-    go : (t u v w : Bool) → eqb b (bracketTo 0) ≡ t → ltb b (bracketTo 0) ≡ u → ltb a F ≡ v
-        → ltb (b - bracketTo 0) a ≡ w
-        → cond t (eqb a 0) (cond u false (cond v false (cond w false (ltb (b - bracketTo 0) lim)))) ≡ true
-        → IsBracket F lim a b
-    go true u v w e f g h r = rw (eqb-true a 0 r, eqb-true b (bracketTo 0) e) isEmpty
-    go false true v w e f g h r = absurd (false≢true r)
-    go false false true w e f g h r = absurd (false≢true r)
-    go false false false true e f g h r = absurd (false≢true r)
-    go false false false false e f g h r =
-        let z : bracketTo (b - bracketTo 0) ≡ b = omega (arith, ltb-false b (bracketTo 0) f) in
-        subst (λ (c : ℕ). IsBracket F lim a c) z
-        (isFull (ltb-false a F g) (ltb-false (b - bracketTo 0) a h) (ltb-true (b - bracketTo 0) lim r))
-
-pub yes-bracket : (F lim : ℕ) {a b : ℕ} → IsBracket F lim a b → bracketTest F lim a b ≡ true
-unfolding bracketTest
-yes-bracket F lim isEmpty = refl
-yes-bracket F lim (isFull {l} {r} x y z) = go (eqb (bracketTo r) (bracketTo 0)) refl
-  where
-    less : bracketTo r - bracketTo 0 ≡ r
-    less = omega arith
-
-    go : (t : Bool) → eqb (bracketTo r) (bracketTo 0) ≡ t
-        → cond t (eqb l 0) (cond (ltb (bracketTo r) (bracketTo 0)) false
-        (cond (ltb l F) false (cond (ltb (bracketTo r - bracketTo 0) l) false (ltb (bracketTo r - bracketTo 0) lim))))
-        ≡ true
-    go true e = eq-eqb l 0 (omega (arith, eqb-true (bracketTo r) (bracketTo 0) e))
-    go false e =
-        rw (less, le-ltb (bracketTo r) (bracketTo 0) (omega arith), le-ltb l F x, le-ltb r l y, lt-ltb r lim z) refl
-
-pub term-yes : (F c a b : ℕ) → termTest F c a b ≡ true → IsTerm F c a b
-unfolding termTest
-term-yes F c a b q = go (eqb b 0) refl q
-  where
-    go : (t : Bool) → eqb b 0 ≡ t → cond t (codeTest a) (bracketTest F c a b) ≡ true → IsTerm F c a b
-    go true e r = rw (eqb-true b 0 e) (isSymbol r)
-    go false e r = isBracket (bracket-yes F c a b r)
-
-bracket-bit : (F lim : ℕ) {a b : ℕ} → IsBracket F lim a b → bracketTo 0 ≤ b
-bracket-bit F lim isEmpty = omega arith
-bracket-bit F lim (isFull x y z) = omega arith
-
-pub yes-term : (F c : ℕ) {a b : ℕ} → IsTerm F c a b → termTest F c a b ≡ true
-unfolding termTest
-yes-term F c (isSymbol h) = h
-yes-term F c (isBracket {a} {b} h) = rw (ne-eqb b 0 (λ e. omega (arith, bracket-bit F c h))) (yes-bracket F c h)
-
 -- ---- all cells
-
-pub two-zeros : (a b : ℕ) → cond (eqb a 0) (eqb b 0) false ≡ true → (a ≡ 0) × (b ≡ 0)
-two-zeros a b q = go (eqb a 0) refl q
-  where
-    go : (t : Bool) → eqb a 0 ≡ t → cond t (eqb b 0) false ≡ true → (a ≡ 0) × (b ≡ 0)
-    go true e r = (eqb-true a 0 e, eqb-true b 0 r)
-    go false e r = absurd (false≢true r)
 
 module _ (F : ℕ) (ws : List ℕ) (top : ℕ) where
   abbrev test : ℕ → Bool
@@ -168,20 +108,12 @@ module _ (F : ℕ) (ws : List ℕ) (top : ℕ) where
   -- a cell's test and its rule
   pub cell-yes : F ≤ top → (c : ℕ) → test c ≡ true → CellRule F ws top c
   unfolding cellTest
-  cell-yes low c q = record {
-    register = λ l. bracket-yes F top (firstWord ws c) (secondWord ws c) (rw (lt-ltb c F l) at q);
-    occupied = λ l m. term-yes F c (firstWord ws c) (secondWord ws c) (rw (le-ltb c F l, lt-ltb c top m) at q);
-    free = λ l. two-zeros (firstWord ws c) (secondWord ws c) (rw (le-ltb c F (omega arith), le-ltb c top l) at q);
-  }
+  cell-yes low c q = kept-cell F ws top c low (none-kept F top c (firstWord ws c) (secondWord ws c) (eqb-true _ 0 q))
 
-  pub yes-cell : (c : ℕ) → CellRule F ws top c → test c ≡ true
+  pub yes-cell : top ≤ 268435456 → (c : ℕ) → CellRule F ws top c → test c ≡ true
   unfolding cellTest
-  yes-cell c r = go (lt-or-ge c F) (lt-or-ge c top)
-    where
-      go : (c < F) ⊎ (F ≤ c) → (c < top) ⊎ (top ≤ c) → cellTest F top c (firstWord ws c) (secondWord ws c) ≡ true
-      go (inl l) m = rw (lt-ltb c F l) (yes-bracket F top (r .register l))
-      go (inr l) (inl m) = rw (le-ltb c F l, lt-ltb c top m) (yes-term F c (r .occupied l m))
-      go (inr l) (inr m) = rw (le-ltb c F l, le-ltb c top m, r .free m .0, r .free m .1) refl
+  yes-cell m c r =
+      eq-eqb (brokenRule F top c (firstWord ws c) (secondWord ws c)) 0 (kept-rule F top c m (cell-kept F ws top c r))
 
   -- the tests, all passed, are soundness
   pub tests-sound : lengthTest F (length ws) ≡ true → topTest F (capacity ws) top ≡ true
@@ -197,7 +129,7 @@ module _ (F : ℕ) (ws : List ℕ) (top : ℕ) where
 
   -- and back
   pub sound-test : Sound F ws top → (c : ℕ) → c < capacity ws → test c ≡ true
-  sound-test s c h = yes-cell c (s .cells c h)
+  sound-test s c h = yes-cell (omega (arith, s .high, s .allowed .small, limit-fits)) c (s .cells c h)
 
   -- a sound store passes
   pub sound-check : Sound F ws top → check F ws top ≡ only 0
@@ -218,7 +150,8 @@ module _ (F : ℕ) (ws : List ℕ) (top : ℕ) where
     top-bad : lengthTest F (length ws) ≡ true → topTest F (capacity ws) top ≡ false → CheckCases (only 2)
     cell-bad : (c : ℕ) → lengthTest F (length ws) ≡ true → topTest F (capacity ws) top ≡ true → c < capacity ws
         → test c ≡ false
-        → ((x : ℕ) → x < c → test x ≡ true) → CheckCases (damagedAt c)
+        → ((x : ℕ) → x < c → test x ≡ true)
+        → CheckCases (damagedAt c (brokenRule F top c (firstWord ws c) (secondWord ws c)))
     sound : Sound F ws top → CheckCases (only 0)
 
   pub check-cases : CheckCases (check F ws top)
@@ -228,8 +161,8 @@ module _ (F : ℕ) (ws : List ℕ) (top : ℕ) where
     where
       go : (t u v : Bool) → lengthTest F (length ws) ≡ t → topTest F (capacity ws) top ≡ u
           → ltb (damaged F ws top 0 (capacity ws)) (capacity ws) ≡ v
-          → CheckCases (cond t (cond u (cond {A = Verdict} v
-          (damagedAt (damaged F ws top 0 (capacity ws))) (only 0)) (only 2)) (only 1))
+          → let d = damaged F ws top 0 (capacity ws) in CheckCases (cond t (cond u (cond {A = Verdict} v
+          (damagedAt d (brokenRule F top d (firstWord ws d) (secondWord ws d))) (only 0)) (only 2)) (only 1))
       go false u v a b c = length-bad a
       go true false v a b c = top-bad a b
       go true true true a b c =

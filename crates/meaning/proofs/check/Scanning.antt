@@ -1,30 +1,30 @@
 -- The check by its tests, and the scan of the cells a step at a time: what the loop of `check` does. In order:
---   tested                           the test of a cell's words, from the test of what was read
+--   ruled                            the rule of a cell's words, from the rule of what was read
 --   check-length, check-top          the check by its tests: 1, or 2;  check-cells  else what the scan finds
 --   placed                           where the cells are, once the first two tests passed
 --   check-kept                       0 where all cells keep their rules
 --   turn                             one cell more;  stop  at the damaged cell;  finish  at the end
 --   verdict-damaged, verdict-sound   the answer by the cell at which the scan stopped
 -- Assumes nothing.
-use mathlib.Core.Path.{_≡_, refl, sym, _∙_}
-use mathlib.Core.Bool.{Bool, true, false}
+use mathlib.Core.Path.{_≡_, refl, sym}
+use mathlib.Core.Logic.{_≢_}
+use mathlib.Core.Bool.{true, false}
 use mathlib.Core.List.{List}
 use Prim.Native.Nat.{ℕ, suc, _+_, _-_, _*_, _^_, _≤_, _<_}
 use native.Mathlib.Numerals.{add-one}
 use native.Mathlib.Omega.{arith}
 use lib.ListN.{length}
-use borrow.Author.Tests.{lt-ltb, le-ltb}
+use borrow.Author.Tests.{lt-ltb, le-ltb, ne-eqb}
 use Rattle.words.specs.Cell.{firstWord, secondWord}
-use Rattle.meaning.specs.Sound.{capacity}
+use Rattle.meaning.specs.Sound.{capacity, CellRule}
 use Rattle.meaning.specs.Verdicts.{only, damagedAt}
-use Rattle.meaning.specs.Check.{cellTest, damaged, lengthTest, topTest, verdictAt, check}
+use Rattle.meaning.specs.Check.{brokenRule, cellTest, damaged, lengthTest, topTest, verdictAt, check}
 use Rattle.meaning.proofs.sound.Cells.{limit-fits}
-use Rattle.meaning.proofs.check.Checking.{length-yes, top-yes, tests-sound, sound-check}
+use Rattle.meaning.proofs.check.Checking.{length-yes, top-yes, sound-check}
 
--- the test of a cell's words, from the test of what was read
-pub tested : (F top c : ℕ) {x y a b : ℕ} {r t : Bool} → x ≡ a → y ≡ b → r ≡ cellTest F top c x y → r ≡ t
-    → cellTest F top c a b ≡ t
-tested F top c p q e f = rw (← p, ← q) (sym e ∙ f)
+-- the rule of a cell's words, from the rule of what was read
+pub ruled : (F top c : ℕ) {x y a b q : ℕ} → x ≡ a → y ≡ b → q ≡ brokenRule F top c x y → brokenRule F top c a b ≡ q
+ruled F top c e f r = rw (← e, ← f) (sym r)
 
 module _ (F : ℕ) (ws : List ℕ) (top : ℕ) where
   pub check-length : lengthTest F (length ws) ≡ false → check F ws top ≡ only 1
@@ -36,7 +36,7 @@ module _ (F : ℕ) (ws : List ℕ) (top : ℕ) where
   check-top e f = rw (e, f, check)
 
   pub check-cells : lengthTest F (length ws) ≡ true → topTest F (capacity ws) top ≡ true
-      → check F ws top ≡ verdictAt ws (damaged F ws top 0 (capacity ws))
+      → check F ws top ≡ verdictAt F ws top (damaged F ws top 0 (capacity ws))
   unfolding check
   check-cells e f = rw (e, f, check)
 
@@ -49,33 +49,41 @@ module _ (F : ℕ) (ws : List ℕ) (top : ℕ) where
 
   -- all cells keep their rules
   pub check-kept : lengthTest F (length ws) ≡ true → topTest F (capacity ws) top ≡ true
-      → ((c : ℕ) → 0 ≤ c → c < capacity ws → cellTest F top c (firstWord ws c) (secondWord ws c) ≡ true)
-      → check F ws top ≡ only 0
-  check-kept e f h = sound-check F ws top (tests-sound F ws top e f (λ c k. h c (omega arith) k))
+      → ((c : ℕ) → 0 ≤ c → c < capacity ws → CellRule F ws top c) → check F ws top ≡ only 0
+  check-kept e f h =
+      let t = top-yes F (capacity ws) top f in
+      sound-check F ws top (record {
+        allowed = length-yes F (length ws) e;
+        low = t .0;
+        high = t .1;
+        cells = λ c k. h c (omega arith) k;
+      })
 
   module _ (cells c : ℕ) where
     -- a turn of the loop
-    pub turn : c < cells → cellTest F top c (firstWord ws c) (secondWord ws c) ≡ true
+    pub turn : c < cells → brokenRule F top c (firstWord ws c) (secondWord ws c) ≡ 0
         → damaged F ws top (c + 1) (cells - (c + 1)) ≡ damaged F ws top c (cells - c)
+    unfolding cellTest
     turn h e =
         let k : cells - c ≡ suc (cells - suc c) = omega arith in
         rw (k, add-one c, e, damaged) refl
 
     -- it leaves with the damaged cell
-    pub stop : c < cells → cellTest F top c (firstWord ws c) (secondWord ws c) ≡ false
-        → damaged F ws top c (cells - c) ≡ c
-    stop h e =
+    pub stop : c < cells → brokenRule F top c (firstWord ws c) (secondWord ws c) ≢ 0 → damaged F ws top c (cells - c) ≡ c
+    unfolding cellTest
+    stop h n =
         let k : cells - c ≡ suc (cells - (c + 1)) = omega arith in
-        rw (k, e, damaged) refl
+        rw (k, ne-eqb (brokenRule F top c (firstWord ws c) (secondWord ws c)) 0 n, damaged) refl
 
     -- it leaves at the end
     pub finish : cells ≤ c → damaged F ws top c (cells - c) ≡ c
     finish h = let k : cells - c ≡ 0 = omega arith in rw k refl
 
-pub verdict-damaged : (ws : List ℕ) (c : ℕ) → c < capacity ws → verdictAt ws c ≡ damagedAt c
-unfolding verdictAt
-verdict-damaged ws c h = rw (lt-ltb c (capacity ws) h, verdictAt) refl
+  pub verdict-damaged : (c q : ℕ) → c < capacity ws → brokenRule F top c (firstWord ws c) (secondWord ws c) ≡ q
+      → verdictAt F ws top c ≡ damagedAt c q
+  unfolding verdictAt
+  verdict-damaged c q h e = rw (lt-ltb c (capacity ws) h, e, verdictAt) refl
 
-pub verdict-sound : (ws : List ℕ) (c : ℕ) → capacity ws ≤ c → verdictAt ws c ≡ only 0
-unfolding verdictAt
-verdict-sound ws c h = rw (le-ltb c (capacity ws) h, verdictAt) refl
+  pub verdict-sound : (c : ℕ) → capacity ws ≤ c → verdictAt F ws top c ≡ only 0
+  unfolding verdictAt
+  verdict-sound c h = rw (le-ltb c (capacity ws) h, verdictAt) refl

@@ -45,6 +45,7 @@ pub record Acts (F : ℕ) (e : ℕ → Expr) (x : Effect) (n : ℕ) (ws : List �
   pub len : length (r .words) ≡ length ws
   pub status : r .verdict .status ≡ x .unfit
   pub value : r .verdict .value ≡ answer (r .verdict .status) x
+  pub rule : r .verdict .rule ≡ 0
   pub registers : (i : ℕ) → i < F → meaning (r .words) i ≡ after (r .verdict .status) x e i
   pub tops : r .top ≡ top + n
   pub left : Stays (r .verdict .status) ws (r .words)
@@ -83,6 +84,7 @@ module _ (F : ℕ) (p : 0 < F) (e : ℕ → Expr) (ws : List ℕ) (top : ℕ) (s
     len = length-put ws′ d k ∙ x .len;
     status = sym y;
     value = refl;
+    rule = refl;
     registers = λ i h.
         become F ws′ top′ p (x .sound) d l k t v q i h
         ∙ becomes-same (meaning ws′) e d v i (λ g. extends-meaning F ws top p s ws′ top′ x i h ∙ m i h g);
@@ -104,6 +106,7 @@ module _ (F : ℕ) (p : 0 < F) (e : ℕ → Expr) (ws : List ℕ) (top : ℕ) (s
       len = refl;
       status = sym q;
       value = refl;
+      rule = refl;
       registers = m;
       tops = sym (add-zero top);
       left = refl;
@@ -115,6 +118,7 @@ module _ (F : ℕ) (p : 0 < F) (e : ℕ → Expr) (ws : List ℕ) (top : ℕ) (s
       len = refl;
       status = sym z;
       value = sym y;
+      rule = refl;
       registers = m;
       tops = sym (add-zero top);
       left = tt;

@@ -195,6 +195,7 @@ pub record Steps (F : ℕ) (ws : List ℕ) (top o d a b : ℕ) (r : Done) : Type
   pub status : r .verdict .status ≡ callStatus (fault F o d a b) (effect F ws top o d a b)
       (ltb (capacity ws) (F + liveForRoom F ws top o d a b + effect F ws top o d a b .need))
   pub value : r .verdict .value ≡ answer (r .verdict .status) (effect F ws top o d a b)
+  pub rule : r .verdict .rule ≡ 0
   pub registers : (i : ℕ) → i < F
       → meaning (r .words) i ≡ after (r .verdict .status) (effect F ws top o d a b) (meaning ws) i
   pub tops : r .top ≡ topAfter (r .verdict .status) (planTop F (planOf (opAt o) F ws top d a b) ws top)
@@ -214,6 +215,7 @@ module _ (F : ℕ) (ws : List ℕ) (top : ℕ) (p : 0 < F) (s : Sound F ws top) 
             len = m .len;
             status = rw (q, ← lacks-need F ws top p s d a b (opAt o) (right F o d a b q)) (m .status);
             value = m .value;
+            rule = m .rule;
             registers = m .registers;
             tops = m .tops;
             left = m .left;
@@ -225,6 +227,7 @@ module _ (F : ℕ) (ws : List ℕ) (top : ℕ) (p : 0 < F) (s : Sound F ws top) 
             len = refl;
             status = rw q refl;
             value = refl;
+            rule = refl;
             registers = λ i h. refl;
             tops = rw z refl;
             left = rw z refl;

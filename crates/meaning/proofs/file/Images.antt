@@ -28,15 +28,16 @@ module _ (xs : List ℕ) (m : ℕ) where
   held-zeros zero c = refl
   held-zeros (suc n) c = rw (at-zeros n, held-zeros n c) refl
 
-  test-zeros : (F top c : ℕ)
-      → cellTest F top c (firstWord (xs ++ replicate m 0) c) (secondWord (xs ++ replicate m 0) c)
-      ≡ cellTest F top c (firstWord xs c) (secondWord xs c)
-  test-zeros F top c = rw (padded-at xs m (2 * c), padded-at xs m (2 * c + 1)) refl
+  -- whatever is asked of a cell's two words
+  pub cell-zeros : {A : Type 0} (f : ℕ → ℕ → A) (c : ℕ)
+      → f (firstWord (xs ++ replicate m 0) c) (secondWord (xs ++ replicate m 0) c) ≡ f (firstWord xs c) (secondWord xs c)
+  cell-zeros f c = rw (padded-at xs m (2 * c), padded-at xs m (2 * c + 1)) refl
 
   pub damaged-zeros : (F top c n : ℕ) → damaged F (xs ++ replicate m 0) top c n ≡ damaged F xs top c n
   damaged-zeros F top c zero = refl
   damaged-zeros F top c (suc n) =
-      ap₂ (λ (t : Bool) (d : ℕ). elim t [ true ↦ d | false ↦ c ]) (test-zeros F top c) (damaged-zeros F top (suc c) n)
+      ap₂ (λ (t : Bool) (d : ℕ). elim t [ true ↦ d | false ↦ c ]) (cell-zeros (cellTest F top c) c)
+      (damaged-zeros F top (suc c) n)
 
 -- ---- the occupied cells
 

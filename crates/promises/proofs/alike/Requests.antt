@@ -5,19 +5,22 @@
 --   ran-cut                           a list cut anywhere
 --   ran-length                        an answer to each request
 --   requests-length, inWords-length   four words a call, two an answer
---   verdicts-inWords                  answers written as words are read as those answers
+--   verdicts-ran                      answers written as words are read as those answers
 -- Assumes nothing.
-use mathlib.Core.Path.{_≡_, refl, ap}
+use mathlib.Core.Path.{_≡_, refl, sym, ap, ap₂}
 use mathlib.Core.List.{List, [], _∷_, _++_}
-use Prim.Native.Nat.{ℕ, suc, _*_}
+use Prim.Native.Nat.{ℕ, suc, _*_, _<_}
 use native.Mathlib.Omega.{arith}
 use lib.ListN.{length}
-use Rattle.meaning.specs.Verdicts.{Verdict}
+use Rattle.meaning.specs.Sound.{Sound}
+use Rattle.meaning.specs.Verdicts.{Verdict, valued}
 use Rattle.meaning.specs.Call.{step}
 use Rattle.meaning.specs.Batch.{Ran, then, runs}
 use Rattle.meaning.proofs.batch.Batches.{WholeCalls, none, four}
+use Rattle.meaning.proofs.effect.Steps.{step-meets}
 use Rattle.promises.specs.Requests.{Request, requested, requests, inWords, verdicts}
 use Rattle.promises.specs.Alike.{Served}
+use Rattle.promises.proofs.Verdicts.{verdict-parts}
 
 abbrev pub ran : ℕ → List ℕ → ℕ → List Request → Served
 ran F ws top [] = record { words = ws; top = top; answers = [] }
@@ -62,7 +65,13 @@ pub inWords-length : (vs : List Verdict) → length (inWords vs) ≡ 2 * length 
 inWords-length [] = refl
 inWords-length (v ∷ vs) = omega (arith, inWords-length vs)
 
--- what is written is read
-pub verdicts-inWords : (vs : List Verdict) → verdicts (inWords vs) ≡ vs
-verdicts-inWords [] = refl
-verdicts-inWords (v ∷ vs) = ap (λ (ws : List Verdict). v ∷ ws) (verdicts-inWords vs)
+-- what is written is read: no call on a sound store answers with a rule
+pub verdicts-ran : (F : ℕ) → 0 < F → (ws : List ℕ) (top : ℕ) → Sound F ws top → {cs : List ℕ} → WholeCalls cs
+    → (let s = ran F ws top (requests cs) in verdicts (inWords (s .answers)) ≡ s .answers)
+verdicts-ran F p ws top s none = refl
+verdicts-ran F p ws top s (four {o} {d} {a} {b} {cs} c) =
+    let m = step-meets F ws top p s o d a b in
+    let r = step F ws top o d a b in
+    ap₂ {C = List Verdict} (λ x y. x ∷ y)
+    (verdict-parts (valued (r .verdict .status) (r .verdict .value)) (r .verdict) refl refl (sym (m .rule)))
+    (verdicts-ran F p (r .words) (r .top) (m .sound) c)

@@ -21,7 +21,7 @@ use Rattle.promises.specs.Requests.{Request, call, typed, requested, req
 use Rattle.promises.specs.Alike.{calls, text, requestsIn, Accepted, servedBy, Lent, requestsOf, Served, served}
 use Rattle.promises.specs.Alike.{NoneRefused, isCollect, strike, strikeAnswers, CollectionsNeverShow}
 use Rattle.promises.proofs.alike.Requests.{ran, runs-ran, ran-cut, ran-length, requests-length, inWords-length}
-use Rattle.promises.proofs.alike.Requests.{verdicts-inWords}
+use Rattle.promises.proofs.alike.Requests.{verdicts-ran}
 use Rattle.meaning.proofs.twins.Agree.{Agree}
 use Rattle.meaning.proofs.twins.Canons.{canon}
 use Rattle.meaning.proofs.twins.Pairs.{canon-collected}
@@ -148,7 +148,7 @@ lent-ran F p ws top (calls cs space) n =
     omega (arith, inWords-length (s .answers), ran-length F ws top (requests cs), requests-length c) in
     let k = take-at (inWords (s .answers)) (replicate (length space - length (inWords (s .answers))) 0)
     (2 * (length cs / 4)) l in
-    rw (r .2, runs-ran F ws top c, k, verdicts-inWords (s .answers)) refl
+    rw (r .2, runs-ran F ws top c, k, verdicts-ran F p ws top (r .0) c) refl
 lent-ran F p ws top (text d bs) n = refl
 
 served-ran : (F : ℕ) → 0 < F → (ws : List ℕ) (top : ℕ) (bs : List Lent) → NoneRefused F ws top bs

@@ -100,6 +100,7 @@ calls-do F p ws top s o d a b =
       own = faults-in-words F o d a b;
       status = x .status;
       value = x .value;
+      rule = x .rule;
       registers = x .registers;
       noRoom = λ f u. sixteen (capacity ws) (F + liveForRoom F ws top o d a b + effect F ws top o d a b .need)
           (r .verdict .status) (x .status ∙ rw (f, u) refl);

@@ -3,7 +3,7 @@
 --   image-store                the store in a file
 --   load-answers, one-load     the claims
 -- Assumes nothing.
-use mathlib.Core.Path.{_≡_, refl, sym, _∙_}
+use mathlib.Core.Path.{_≡_, refl, sym, subst, _∙_}
 use mathlib.Core.Logic.{_⊎_, inl, inr, _≢_}
 use mathlib.Core.Bool.{Bool, true, false, cond}
 use mathlib.Core.List.{List, [], _∷_}
@@ -12,6 +12,7 @@ use native.Mathlib.Omega.{arith}
 use lib.Dec.{eqb}
 use lib.ListN.{length, getD, List·getD-eq-default}
 use borrow.Author.Tests.{eqb-true, eqb-false, eq-eqb, ne-eqb}
+use Rattle.words.specs.Cell.{firstWord, secondWord}
 use Rattle.bytes.specs.Little.{wordsOf}
 use Rattle.bytes.proofs.Filling.{padded-at}
 use Rattle.meaning.specs.Sound.{Allowed, Sound}
@@ -27,7 +28,7 @@ use Rattle.meaning.proofs.file.Accepted.{Framed, body-long, occupied, image-is,
 use Rattle.meaning.proofs.file.Accepted.{capacity-yes, yes-capacity, as-edition, as-distance, as-capacity, as-slice}
 use Rattle.meaning.proofs.file.Accepted.{as-store, checked-short, checked-long}
 use Rattle.meaning.proofs.file.Swapping.{words-again}
-use Rattle.promises.specs.Table.{OneOf, Not, TopRule, Judged, badLength, badTop, badCell, isSound}
+use Rattle.promises.specs.Table.{OneOf, Not, rules, FirstOf, TopRule, Judged, badLength, badTop, badCell, isSound}
 use Rattle.promises.specs.Files.{StoreIn, AllReached, Passed, LoadedAs, shortFile, badEdition, badDistance}
 use Rattle.promises.specs.Files.{badCapacity, wrongSlice, damaged, notCollected, loaded, LoadTable, LoadAnswers}
 use Rattle.promises.specs.Unique.{OneLoad}
@@ -126,10 +127,16 @@ module _ (bs ws : List ℕ) where
   -- ---- every answer is from its table
 
   table-refused : (s : Verdict) → checkFile bs (length ws) ≡ s → s .status ≢ 0
-      → OneOf (s .status) (0 ∷ 3 ∷ 30 ∷ 31 ∷ 32 ∷ 33 ∷ 34 ∷ 35 ∷ []) → (s .status ≢ 3 → s .value ≡ 0)
+      → OneOf (s .status) (0 ∷ 3 ∷ 30 ∷ 31 ∷ 32 ∷ 33 ∷ 34 ∷ 35 ∷ []) → (s .status ≢ 3 → (s .value ≡ 0) × (s .rule ≡ 0))
       → LoadedAs f bs ws (refused ws 0 s) → LoadTable bs ws (loadIn bs ws)
   table-refused s e z o h l =
-      rw (load-refused s e z) (record { number = o; value = h; kept = λ _. (refl, refl); loads = l })
+      rw (load-refused s e z) (record {
+        number = o;
+        value = λ n. h n .0;
+        rule = λ n. h n .1;
+        kept = λ _. (refl, refl);
+        loads = l;
+      })
 
   store-table : Passed f bs ws → LoadTable bs ws (loadIn bs ws)
   store-table p = go (check f v top) refl (judged f v top)
@@ -140,12 +147,13 @@ module _ (bs ws : List ℕ) where
           rw (load-taken (store-whole p s a)) (record {
             number = inl refl;
             value = λ _. refl;
+            rule = λ _. refl;
             kept = λ z. absurd (z refl);
             loads = loaded p v (image-store p) s a;
           })
       whole s false e =
           table-refused (only 34) (store-uncollected p s uncollected) (λ q. omega arith)
-          (inr (inr (inr (inr (inr (inr (inl refl))))))) (λ _. refl) (notCollected p v (image-store p) s uncollected)
+          (inr (inr (inr (inr (inr (inr (inl refl))))))) (λ _. (refl, refl)) (notCollected p v (image-store p) s uncollected)
         where
           uncollected : Not (AllReached f v top)
           uncollected a =
@@ -154,9 +162,9 @@ module _ (bs ws : List ℕ) where
       go : (s : Verdict) → check f v top ≡ s → Judged f v top s → LoadTable bs ws (loadIn bs ws)
       go s e (badLength n) = absurd (n (allowed p))
       go s e (badTop l n) = absurd (n (top-right p))
-      go s e (badCell c l t h n b) =
+      go s e (badCell c q l t h n k b) =
           table-refused s (store-unsound p s e (λ q. omega arith)) (λ q. omega arith) (inr (inl refl))
-          (λ z. absurd (z refl)) (damaged p v (image-store p) c h n b)
+          (λ z. absurd (z refl)) (damaged p v (image-store p) c q h n k b)
       go s e (isSound k) = whole k (eqb (live f v top) (fileCells bs)) refl
 
   trailer-table : LoadTable bs ws (loadIn bs ws)
@@ -175,7 +183,7 @@ module _ (bs ws : List ℕ) where
       slice l p d c false e =
           let z = eqb-false (length ws) (2 * fileCapacity bs) e in
           table-refused (only 35) (checked l (as-slice f bs (length ws) p d c z)) (λ q. omega arith)
-          (inr (inr (inr (inr (inr (inr (inr (inl refl)))))))) (λ _. refl)
+          (inr (inr (inr (inr (inr (inr (inr (inl refl)))))))) (λ _. (refl, refl))
           (wrongSlice l p (distance-yes f bs d) (capacity-yes f bs c) z)
 
       room : 16 ≤ length bs → 0 < f → distanceTest f bs ≡ true → (t : Bool) → capacityTest f bs ≡ t
@@ -183,7 +191,7 @@ module _ (bs ws : List ℕ) where
       room l p d true e = slice l p d e (eqb (length ws) (2 * fileCapacity bs)) refl
       room l p d false e =
           table-refused (only 33) (checked l (as-capacity f bs (length ws) p d e)) (λ q. omega arith)
-          (inr (inr (inr (inr (inr (inl refl)))))) (λ _. refl)
+          (inr (inr (inr (inr (inr (inl refl)))))) (λ _. (refl, refl))
           (badCapacity l p (distance-yes f bs d)
           (refuted (capacityTest f bs) (λ r. yes-capacity f bs (r .0) (r .1)) e))
 
@@ -191,7 +199,7 @@ module _ (bs ws : List ℕ) where
       distance l p true e = room l p e (capacityTest f bs) refl
       distance l p false e =
           table-refused (only 32) (checked l (as-distance f bs (length ws) p e)) (λ q. omega arith)
-          (inr (inr (inr (inr (inl refl))))) (λ _. refl)
+          (inr (inr (inr (inr (inl refl))))) (λ _. (refl, refl))
           (badDistance l p (refuted (distanceTest f bs) (λ r. yes-distance f bs (r .0) (r .1)) e))
 
       kind : 16 ≤ length bs → (0 < f) ⊎ (f ≤ 0) → LoadTable bs ws (loadIn bs ws)
@@ -199,11 +207,11 @@ module _ (bs ws : List ℕ) where
       kind l (inr p) =
           let e : f ≡ 0 = omega arith in
           table-refused (only 31) (checked l (as-edition f bs (length ws) e)) (λ q. omega arith)
-          (inr (inr (inr (inl refl)))) (λ _. refl) (badEdition l e)
+          (inr (inr (inr (inl refl)))) (λ _. (refl, refl)) (badEdition l e)
 
       short : (length bs < 16) ⊎ (16 ≤ length bs) → LoadTable bs ws (loadIn bs ws)
       short (inl h) =
-          table-refused (only 30) (checked-short bs (length ws) h) (λ q. omega arith) (inr (inr (inl refl))) (λ _. refl)
+          table-refused (only 30) (checked-short bs (length ws) h) (λ q. omega arith) (inr (inr (inl refl))) (λ _. (refl, refl))
           (shortFile h)
       short (inr l) = kind l (lt-or-ge 0 f)
 
@@ -226,14 +234,15 @@ module _ (bs ws : List ℕ) where
       load-refused (only 35)
       (checked l (as-slice f bs (length ws) p (yes-distance f bs (d .0) (d .1)) (yes-capacity f bs (c .0) (c .1)) n))
       (λ q. omega arith)
-  loaded-once r (damaged p w s c h n b) =
+  loaded-once r (damaged p w s c q h n k b) =
       let e = same-store p w s in
-      let j : Judged f v top (damagedAt c) =
-      badCell c (allowed p) (top-right p) (rw e at h) (rw e at n) (rw e at b) in
-      load-refused (damagedAt c)
-      (store-unsound p (damagedAt c)
-      (judged-once f v top (check f v top) (damagedAt c) (judged f v top) j) (λ q. omega arith))
-      (λ q. omega arith)
+      let j : Judged f v top (damagedAt c q) =
+      badCell c q (allowed p) (top-right p) (rw e at h) (rw e at n)
+      (subst (λ (u : List ℕ). FirstOf (rules f top c (firstWord u c) (secondWord u c)) q) e k) (rw e at b) in
+      load-refused (damagedAt c q)
+      (store-unsound p (damagedAt c q)
+      (judged-once f v top (check f v top) (damagedAt c q) (judged f v top) j) (λ z. omega arith))
+      (λ z. omega arith)
   loaded-once r (notCollected p w s k z) =
       let e = same-store p w s in
       load-refused (only 34) (store-uncollected p (rw e at k) (rw e at z)) (λ q. omega arith)

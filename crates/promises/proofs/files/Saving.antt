@@ -23,7 +23,7 @@ use Rattle.meaning.proofs.collected.Collecting.{collected-sound}
 use Rattle.meaning.proofs.file.Written.{file-bytes}
 use Rattle.promises.specs.Files.{SavedAs, unsound, shortSpace, saved, SaveTable, SaveAnswers}
 use Rattle.promises.specs.Unique.{OneSave}
-use Rattle.promises.proofs.table.Rules.{judged, judged-number, judged-value}
+use Rattle.promises.proofs.table.Rules.{judged, judged-number, judged-zero}
 use Rattle.promises.proofs.unique.Outcomes.{judged-once, one-collected}
 use Rattle.promises.proofs.collecting.Keeping.{collecting-keeps}
 use Rattle.promises.proofs.printing.Printed.{zeros}
@@ -74,6 +74,7 @@ module _ (e F : ℕ) (p : 0 < F) (ws : List ℕ) (top n : ℕ) where
       rw (save-fits s h) (record {
         number = inl refl;
         value = λ _. refl;
+        rule = λ _. refl;
         refused = λ z. absurd (z refl);
         saves = saved s low (collecting-keeps F p ws top s) bs
             (file-in-words e F low end (collected-sound F ws top p s)) h;
@@ -83,6 +84,7 @@ module _ (e F : ℕ) (p : 0 < F) (ws : List ℕ) (top n : ℕ) where
       rw (save-short s l) (record {
         number = inr (inr (inr (inr (inl refl))));
         value = λ _. refl;
+        rule = λ _. refl;
         refused = λ _. (refl, refl);
         saves = shortSpace s l low (collecting-keeps F p ws top s);
       })
@@ -93,7 +95,8 @@ module _ (e F : ℕ) (p : 0 < F) (ws : List ℕ) (top n : ℕ) where
       let j = judged F ws top in
       rw (save-unsound v refl z) (record {
         number = judged-number F ws top (22 ∷ []) v j;
-        value = judged-value F ws top v j;
+        value = λ o. judged-zero F ws top v j o .0;
+        rule = λ o. judged-zero F ws top v j o .1;
         refused = λ _. (refl, refl);
         saves = unsound v j z;
       })

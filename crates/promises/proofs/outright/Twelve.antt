@@ -26,6 +26,7 @@ use Rattle.meaning.proofs.operands.Uses.{right}
 use Rattle.meaning.proofs.effect.Steps.{no-need, step-meets}
 use Rattle.promises.specs.Room.{without}
 use Rattle.promises.specs.Outright.{Sets, SetsInRoom, Refuses, CallsOutright}
+use Rattle.promises.proofs.Verdicts.{verdict-parts}
 use Rattle.promises.proofs.room.Seeking.{room-in-words}
 use Rattle.promises.proofs.calls.Rooms.{stays}
 use Rattle.promises.proofs.calls.Calling.{calls-do}
@@ -64,10 +65,10 @@ module _ (F : ℕ) where
 
 -- ---- any call
 
-by-parts : (x : Done) (w : List ℕ) (u c v : ℕ) → x .verdict .status ≡ c → x .verdict .value ≡ v → x .words ≡ w
-    → x .top ≡ u
-    → x ≡ refused w u (valued c v)
-by-parts x w u c v e f g h = rw (← e, ← f, ← g, ← h) refl
+by-parts : (x : Done) (w : List ℕ) (u c v : ℕ) → x .verdict .status ≡ c → x .verdict .value ≡ v → x .verdict .rule ≡ 0
+    → x .words ≡ w → x .top ≡ u → x ≡ refused w u (valued c v)
+by-parts x w u c v e f r g h =
+    λ j. record { verdict = verdict-parts (x .verdict) (valued c v) e f r j; words = g j; top = h j }
 
 module _ (F : ℕ) (p : 0 < F) (ws : List ℕ) (top : ℕ) (s : Sound F ws top) where
   module _ (o d a b : ℕ) (f : fault F o d a b ≡ 0) where
@@ -114,7 +115,7 @@ module _ (F : ℕ) (p : 0 < F) (ws : List ℕ) (top : ℕ) (s : Sound F ws top) 
         let k = calls-do F p ws top s o d a b in
         let z : r .verdict .status ≡ suc c = step-meets F ws top p s o d a b .status ∙ rw (f, u) refl in
         let w = k .refused (λ q. omega arith) (λ q. n (sym z ∙ q)) in
-        by-parts r ws top (suc c) 0 z (k .value ∙ rw z refl) (w .0) (w .1)
+        by-parts r ws top (suc c) 0 z (k .value ∙ rw z refl) (k .rule) (w .0) (w .1)
 
   -- sets no register: done, in the store collected where x says so
   asks : (o a : ℕ) (x : Bool) → 8 ≤ o → fault F o 0 a 0 ≡ 0 → effect F ws top o 0 a 0 .unfit ≡ 0
@@ -130,7 +131,7 @@ module _ (F : ℕ) (p : 0 < F) (ws : List ℕ) (top : ℕ) (s : Sound F ws top) 
       step-meets F ws top p s o 0 a 0 .status ∙ rw (f, u, z, ← g) refl in
       by-parts (step F ws top o 0 a 0) (cond x (collected F ws top) ws) (cond x (F + live F ws top) top) 0
       (effect F ws top o 0 a 0 .value) e
-      (k .value ∙ rw e refl) (k .asked e l ∙ rw (c, z, y) refl)
+      (k .value ∙ rw e refl) (k .rule) (k .asked e l ∙ rw (c, z, y) refl)
       (k .doneTop e ∙ rw (c, z, y) (add-zero (cond x (F + live F ws top) top)))
 
 join-none : (n m : ℕ) → (n ≡ 0) ⊎ (m ≡ 0) → joinNeed n m ≡ 0

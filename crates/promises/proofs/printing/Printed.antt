@@ -27,7 +27,7 @@ use Rattle.promises.specs.Collecting.{CollectedFrom}
 use Rattle.promises.specs.Printing.{Meets, deep, long, fits, PrintedAs, unsound, noRegister, written, PrintTable}
 use Rattle.promises.specs.Printing.{PrintAnswers, PrintsAlike, CollectionsUnprinted, AlikePrinted}
 use Rattle.promises.specs.Unique.{OnePrint}
-use Rattle.promises.proofs.table.Rules.{judged, judged-number, judged-value}
+use Rattle.promises.proofs.table.Rules.{judged, judged-number, judged-zero}
 use Rattle.promises.proofs.unique.Outcomes.{judged-once}
 use Rattle.promises.proofs.collecting.Keeping.{collecting-keeps}
 use Rattle.promises.proofs.alike.Alikes.{collect-sound, alike-is-collected}
@@ -38,11 +38,12 @@ zeros n = let z : n - 0 ≡ n = omega arith in filled-fits n [] (omega arith) �
 
 module _ (F : ℕ) (ws : List ℕ) (top i n : ℕ) where
   -- a refusal
-  refusal : (v : Verdict) → OneOf (v .status) (0 ∷ 1 ∷ 2 ∷ 3 ∷ 20 ∷ 21 ∷ 22 ∷ []) → (v .status ≢ 3 → v .value ≡ 0)
-      → v .status ≢ 0 → PrintedAs F ws top i n v → PrintTable F ws top i n (unprinted v n)
+  refusal : (v : Verdict) → OneOf (v .status) (0 ∷ 1 ∷ 2 ∷ 3 ∷ 20 ∷ 21 ∷ 22 ∷ [])
+      → (v .status ≢ 3 → (v .value ≡ 0) × (v .rule ≡ 0)) → v .status ≢ 0 → PrintedAs F ws top i n v → PrintTable F ws top i n (unprinted v n)
   refusal v o e z p = record {
     number = o;
-    value = e;
+    value = λ h. e h .0;
+    rule = λ h. e h .1;
     prints = p;
     whole = λ h. absurd (z h);
     refused = λ h. (refl, zeros n);
@@ -53,16 +54,17 @@ module _ (F : ℕ) (ws : List ℕ) (top i n : ℕ) where
       → Meets depthLimit n (text (meaning ws i)) s → PrintTable F ws top i n (printed (text (meaning ws i)) n)
   text-table k h s q (deep j l m g) =
       rw (troubled (text (meaning ws i)) n q)
-      (refusal (only 21) (inr (inr (inr (inr (inr (inl refl)))))) (λ _. refl) (λ z. omega arith)
+      (refusal (only 21) (inr (inr (inr (inr (inr (inl refl)))))) (λ _. (refl, refl)) (λ z. omega arith)
       (written 21 k h (deep j l m g)))
   text-table k h s q (long l g) =
       rw (troubled (text (meaning ws i)) n q)
-      (refusal (only 22) (inr (inr (inr (inr (inr (inr (inl refl))))))) (λ _. refl) (λ z. omega arith)
+      (refusal (only 22) (inr (inr (inr (inr (inr (inr (inl refl))))))) (λ _. (refl, refl)) (λ z. omega arith)
       (written 22 k h (long l g)))
   text-table k h s q (fits l g) =
       rw (whole (text (meaning ws i)) n q) (record {
         number = inl refl;
         value = λ _. refl;
+        rule = λ _. refl;
         prints = written 0 k h (fits l g);
         whole = λ _. (refl, filled-fits n (text (meaning ws i)) l);
         refused = λ z. absurd (z refl);
@@ -74,14 +76,14 @@ module _ (F : ℕ) (ws : List ℕ) (top i n : ℕ) where
       (text-table k h (trouble depthLimit n (text (meaning ws i))) refl (meets depthLimit n (text (meaning ws i))))
   sound-table k (inr h) =
       rw (print-none F ws top i n k h)
-      (refusal (only 20) (inr (inr (inr (inr (inl refl))))) (λ _. refl) (λ z. omega arith) (noRegister k h))
+      (refusal (only 20) (inr (inr (inr (inr (inl refl))))) (λ _. (refl, refl)) (λ z. omega arith) (noRegister k h))
 
   unsound-table : check F ws top .status ≢ 0 → PrintTable F ws top i n (printIn F ws top i n)
   unsound-table z =
       let j = judged F ws top in
       rw (print-unsound F ws top i n z)
       (refusal (check F ws top) (judged-number F ws top (20 ∷ 21 ∷ 22 ∷ []) (check F ws top) j)
-      (judged-value F ws top (check F ws top) j) z (unsound (check F ws top) j z))
+      (judged-zero F ws top (check F ws top) j) z (unsound (check F ws top) j z))
 
 pub print-answers : PrintAnswers
 print-answers F ws top i n = go (check F ws top .status) refl

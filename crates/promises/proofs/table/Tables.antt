@@ -35,7 +35,7 @@ use Rattle.promises.specs.Table.{CallAnswers}
 use Rattle.promises.specs.Table as table
 use Rattle.promises.proofs.calls.Calling.{calls-do}
 use Rattle.promises.proofs.table.Rules.{refuted, judged}
-use Rattle.promises.proofs.table.Rules.{judged-number, judged-value}
+use Rattle.promises.proofs.table.Rules.{judged-number, judged-zero, check-broken}
 use Rattle.promises.proofs.table.Numbers.{own-number, unfit-number, first-of}
 
 -- ---- the check
@@ -46,7 +46,9 @@ check-answers F ws top =
     let j = judged F ws top in
     record {
       number = judged-number F ws top [] v j;
-      value = judged-value F ws top v j;
+      value = λ n. judged-zero F ws top v j n .0;
+      rule = λ n. judged-zero F ws top v j n .1;
+      broken = check-broken F ws top;
       sound = (check-sound F ws top, λ s. ap (λ (w : Verdict). w .status) (sound-check F ws top s));
       judged = j;
     }
@@ -66,6 +68,7 @@ fresh-answers F ws = go (lengthTest F (length ws)) refl
         record {
           number = inl refl;
           value = refl;
+          rule = refl;
           made = λ h. (refl, refl, refl);
           sound = λ h. (fresh-sound F (capacity ws) l m, fresh-empty F (capacity ws) l m);
           refused = λ n. absurd (n q);
@@ -75,6 +78,7 @@ fresh-answers F ws = go (lengthTest F (length ws)) refl
         record {
           number = inr (inl refl);
           value = refl;
+          rule = refl;
           made = λ h. absurd (n h);
           sound = λ h. absurd (n h);
           refused = λ h. (refl, refl, refl);
@@ -92,11 +96,13 @@ collect-answers F ws top = go (check F ws top .status) refl
     go zero e =
         record {
           number = inl refl;
+          rule = λ _. refl;
           collects = λ s. (refl, refl, refl, refl);
           refused = λ n. absurd (n (check-sound F ws top e));
         }
     go (suc n) e = record {
       number = judged-number F ws top [] (check F ws top) (judged F ws top);
+      rule = λ h. judged-zero F ws top (check F ws top) (judged F ws top) h .1;
       collects = λ s. absurd
           (let z : check F ws top .status ≡ 0 = ap (λ (v : Verdict). v .status) (sound-check F ws top s) in omega
           arith);
@@ -146,11 +152,13 @@ module _ (F : ℕ) (ws : List ℕ) (top : ℕ) (calls out : List ℕ) where
   batched-number r (badSpace s c n) = inr (inr (inr (inr (inr (inl refl)))))
   batched-number r (runs q s c l e) = inl (ap (λ (v : Verdict). v .status) e)
 
-  batched-value : (r : Outcome) → Batched F ws top calls out r → r .verdict .status ≢ 3 → r .verdict .value ≡ 0
-  batched-value r (table.unsound v j n) h = judged-value F ws top v j h
-  batched-value r (table.badCalls s n) h = refl
-  batched-value r (badSpace s c n) h = refl
-  batched-value r (runs q s c l e) h = ap (λ (v : Verdict). v .value) e
+  -- value and rule, but for 3
+  batched-zero : (r : Outcome) → Batched F ws top calls out r → r .verdict .status ≢ 3
+      → (r .verdict .value ≡ 0) × (r .verdict .rule ≡ 0)
+  batched-zero r (table.unsound v j n) h = judged-zero F ws top v j h
+  batched-zero r (table.badCalls s n) h = (refl, refl)
+  batched-zero r (badSpace s c n) h = (refl, refl)
+  batched-zero r (runs q s c l e) h = (ap (λ (v : Verdict). v .value) e, ap (λ (v : Verdict). v .rule) e)
 
   batched-kept : (r : Outcome) → Batched F ws top calls out r → r .verdict .status ≢ 0
       → (r .words ≡ ws) × (r .top ≡ top) × (r .answers ≡ out)
@@ -172,7 +180,8 @@ batch-answers F ws top calls out =
     let b = batched F ws top calls out r (cases F ws top calls out) in
     record {
       number = batched-number F ws top calls out r b;
-      value = batched-value F ws top calls out r b;
+      value = λ n. batched-zero F ws top calls out r b n .0;
+      rule = λ n. batched-zero F ws top calls out r b n .1;
       kept = batched-kept F ws top calls out r b;
       batched = b;
       noCalls = λ s e. rw e (no-calls F ws top out s);
@@ -208,6 +217,7 @@ call-answers F p ws top s o d a b =
           (first-of (c .wrong) (x .unfit) (lacking F ws top o d a b (x .need)) (own-number (c .own))
           (unfit-number (opAt o) (meaning ws) (facts F ws top) d a b));
       value = λ n. c .value ∙ refused-value (r .verdict .status) x n;
+      rule = c .rule;
       kept = λ k. let z = ten-to-fifteen (r .verdict .status) k in c .refused (λ e. omega (arith, z .0))
           (λ e. omega (arith, z .1));
       expressions = λ n i h. c .registers i h ∙ refused-registers (r .verdict .status) x (meaning ws) i n;

@@ -14,9 +14,10 @@ use Rattle.meaning.specs.Typed.{typeIn}
 use Rattle.meaning.proofs.check.Checking.{check-sound}
 use Rattle.meaning.proofs.typed.Cases.{type-unsound}
 use Rattle.promises.specs.Table.{OneOf}
+use Rattle.promises.specs.Reading.{endsTooSoon, stopsAt}
 use Rattle.promises.specs.Typing.{TypedAs, noRegister, noText, noRoom, hasRoom, TypeTable, TypeAnswers}
 use Rattle.promises.specs.Unique.{OneType}
-use Rattle.promises.proofs.table.Rules.{judged, judged-number, judged-value}
+use Rattle.promises.proofs.table.Rules.{judged, judged-number, judged-zero}
 use Rattle.promises.proofs.typing.Typing.{StopNumber, refused-number, types-do}
 use Rattle.promises.proofs.unique.Texts.{typed-once}
 use Rattle.promises.proofs.unique.Outcomes.{judged-once, done-parts, unsound-check}
@@ -62,12 +63,20 @@ module _ (F : ℕ) (ws : List ℕ) (top d : ℕ) (bs : List ℕ) where
   says-value v (noRoom h n l) o = refl
   says-value v (hasRoom h n l) o = refl
 
+  says-rule : (v : Verdict) → TypedAs F ws top d bs v → v .rule ≡ 0
+  says-rule v (noRegister h) = refl
+  says-rule v (noText _ h n (endsTooSoon b t)) = refl
+  says-rule v (noText _ h n (stopsAt k s l b m t)) = refl
+  says-rule v (noRoom h n l) = refl
+  says-rule v (hasRoom h n l) = refl
+
   sound-table : Sound F ws top → TypeTable F ws top d bs (typeIn F ws top d bs)
   sound-table s =
       let t = types-do F ws top s d bs in
       record {
         number = says-number (typeIn F ws top d bs .verdict) (t .says);
         value = says-value (typeIn F ws top d bs .verdict) (t .says);
+        rule = λ _. says-rule (typeIn F ws top d bs .verdict) (t .says);
         types = λ _. t;
         unsound = λ n. absurd (n s);
       }
@@ -80,7 +89,8 @@ module _ (F : ℕ) (ws : List ℕ) (top d : ℕ) (bs : List ℕ) where
       rw (type-unsound F ws top d bs z)
       (record {
         number = judged-number F ws top (13 ∷ 16 ∷ 20 ∷ 21 ∷ 23 ∷ []) v j;
-        value = λ o. judged-value F ws top v j (plain-away (v .status) o .0);
+        value = λ o. judged-zero F ws top v j (plain-away (v .status) o .0) .0;
+        rule = λ o. judged-zero F ws top v j o .1;
         types = λ s. absurd (unsound-check F ws top n e s);
         unsound = λ _. (j, z, refl, refl);
       })

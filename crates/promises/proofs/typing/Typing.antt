@@ -39,6 +39,7 @@ use Rattle.promises.specs.Cells.{OnlyThere, laidOn, laidFrom}
 use Rattle.promises.specs.Reading.{banned, large, deep, other, RefusedText, endsTooSoon, stopsAt}
 use Rattle.promises.specs.Typing.{said, Whole, TypedAs, noRegister, noText, noRoom, hasRoom, LeavesText, typedOn}
 use Rattle.promises.specs.Typing.{typedFrom, TypedIn, TypesDo}
+use Rattle.promises.proofs.Verdicts.{verdict-parts}
 use Rattle.promises.proofs.reading.Refusing.{stops-leftmost}
 use Rattle.promises.proofs.calls.Touching.{only-trans, text-only}
 use Rattle.promises.proofs.calls.Rooms.{as-was, stays, room-top, room-leaves}
@@ -151,8 +152,8 @@ module _ (F : ℕ) (ws : List ℕ) (top : ℕ) (s : Sound F ws top) (d : ℕ) (b
     says : TypedAs F ws top d bs (r .verdict)
     says =
         subst (TypedAs F ws top d bs)
-        (sym (ap₂ valued by-room
-        (m .value ∙ no-value (r .verdict .status)))) (go (ltb (capacity ws) (F + live F v top + n)) refl)
+        (sym (verdict-parts (r .verdict) (only (cond (ltb (capacity ws) (F + live F v top + n)) 16 0)) by-room
+        (m .value ∙ no-value (r .verdict .status)) (m .rule))) (go (ltb (capacity ws) (F + live F v top + n)) refl)
       where
         go : (t : Bool) → ltb (capacity ws) (F + live F v top + n) ≡ t → TypedAs F ws top d bs (only (cond t 16 0))
         go true h = noRoom l w (ltb-true (capacity ws) (F + live F v top + n) h)

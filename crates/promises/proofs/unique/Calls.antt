@@ -19,6 +19,7 @@ use Rattle.promises.specs.OwnWords.{noCode, noFault}
 use Rattle.promises.specs.Cells.{Leaves}
 use Rattle.promises.specs.Calls.{lacking, actedOn, actedTop, Called}
 use Rattle.promises.specs.Unique.{OneCall}
+use Rattle.promises.proofs.Verdicts.{verdict-parts}
 use Rattle.promises.proofs.ownwords.Faults.{one-fault}
 use Rattle.promises.proofs.calls.Acting.{orElse-zero}
 use Rattle.promises.proofs.unique.Words.{laid-once, left-once}
@@ -105,4 +106,8 @@ one-call F p ws top s o d a b n r q x y =
     let e = same-status F p ws top s o d a b n r q x y in
     let f = same-value F p ws top s o d a b n r q x y in
     let g = same-left F p ws top s o d a b n r q x y in
-    rw (e, f, g .0, g .1) refl
+    λ j. record {
+      verdict = verdict-parts (r .verdict) (q .verdict) e f (x .rule ∙ sym (y .rule)) j;
+      words = g .0 j;
+      top = g .1 j;
+    }

@@ -14,10 +14,11 @@ use Prim.Native.Nat.{ℕ, zero, suc, _+_, _-_, _≤_, _<_}
 use native.Mathlib.Omega.{arith}
 use lib.ListN.{length, replicate}
 use lib.Seq.{ext-getD}
+use Rattle.words.specs.Cell.{firstWord, secondWord}
 use Rattle.meaning.specs.Sound.{Cell, code, empty, ends, at, capacity, Allowed, CellRule, Sound}
 use Rattle.meaning.specs.Reach.{live}
 use Rattle.meaning.specs.Collected.{mapEnds, new}
-use Rattle.meaning.specs.Verdicts.{Verdict, only, damagedAt, valued, Done}
+use Rattle.meaning.specs.Verdicts.{Verdict, only, damagedAt, Done}
 use Rattle.meaning.specs.Check.{lengthTest, check}
 use Rattle.meaning.specs.Effect.{effect}
 use Rattle.meaning.specs.Batch.{Outcome, asLent}
@@ -25,7 +26,7 @@ use Rattle.meaning.proofs.Lists.{lt-or-ge}
 use Rattle.meaning.proofs.sound.Cells.{good, BracketIn, free-words}
 use Rattle.meaning.proofs.check.Checking.{length-yes, yes-length, check-sound, sound-check}
 use Rattle.meaning.proofs.collected.Determined.{is-collected}
-use Rattle.promises.specs.Table.{Not, TopRule, Judged, badLength, badTop, badCell, isSound}
+use Rattle.promises.specs.Table.{Not, rules, FirstOf, TopRule, Judged, badLength, badTop, badCell, isSound}
 use Rattle.promises.specs.Table.{Batched, unsound, badCalls, badSpace, runs}
 use Rattle.promises.specs.Requests.{Request, call, typed, inWords}
 use Rattle.promises.specs.Calls.{Did, Answered, none, next, BatchRun}
@@ -33,6 +34,8 @@ use Rattle.promises.specs.Unique.{OneAnswer, OneCheck, OneFresh, OneColl
 use Rattle.promises.proofs.unique.Words.{register-words, heap-words}
 use Rattle.promises.proofs.unique.Calls.{one-call}
 use Rattle.promises.proofs.unique.Texts.{typed-once}
+use Rattle.promises.proofs.Verdicts.{verdict-parts}
+use Rattle.promises.proofs.table.Cells.{first-once}
 use Rattle.promises.proofs.table.Rules.{refuted}
 
 pub one-answer : OneAnswer
@@ -48,34 +51,33 @@ module _ (F : ℕ) (ws : List ℕ) (top : ℕ) where
   pub judged-once : (v w : Verdict) → Judged F ws top v → Judged F ws top w → v ≡ w
   judged-once v w (badLength n) (badLength k) = refl
   judged-once v w (badLength n) (badTop l k) = absurd (n l)
-  judged-once v w (badLength n) (badCell c l t h k b) = absurd (n l)
+  judged-once v w (badLength n) (badCell c q l t h k f b) = absurd (n l)
   judged-once v w (badLength n) (isSound s) = absurd (n (sound-rules s .0))
   judged-once v w (badTop l n) (badLength k) = absurd (k l)
   judged-once v w (badTop l n) (badTop m k) = refl
-  judged-once v w (badTop l n) (badCell c m t h k b) = absurd (n t)
+  judged-once v w (badTop l n) (badCell c q m t h k f b) = absurd (n t)
   judged-once v w (badTop l n) (isSound s) = absurd (n (sound-rules s .1))
-  judged-once v w (badCell c l t h n b) (badLength k) = absurd (k l)
-  judged-once v w (badCell c l t h n b) (badTop m k) = absurd (k t)
-  judged-once v w (badCell c l t h n b) (badCell x m u g k d) =
-      ap damagedAt (lowest (lt-or-ge c x) (lt-or-ge x c))
+  judged-once v w (badCell c q l t h n f b) (badLength k) = absurd (k l)
+  judged-once v w (badCell c q l t h n f b) (badTop m k) = absurd (k t)
+  judged-once v w (badCell c q l t h n f b) (badCell x r m u g k e d) =
+      let z = lowest (lt-or-ge c x) (lt-or-ge x c) in
+      ap₂ damagedAt z (first-once (rules F top c (firstWord ws c) (secondWord ws c)) q r f (subst
+      (λ (y : ℕ). FirstOf (rules F top y (firstWord ws y) (secondWord ws y)) r) (sym z) e))
     where
       lowest : (c < x) ⊎ (x ≤ c) → (x < c) ⊎ (c ≤ x) → c ≡ x
       lowest (inl y) z = absurd (n (d c y))
       lowest (inr y) (inl z) = absurd (k (b x z))
       lowest (inr y) (inr z) = omega arith
-  judged-once v w (badCell c l t h n b) (isSound s) = absurd (n (sound-rules s .2 c h))
+  judged-once v w (badCell c q l t h n f b) (isSound s) = absurd (n (sound-rules s .2 c h))
   judged-once v w (isSound s) (badLength k) = absurd (k (sound-rules s .0))
   judged-once v w (isSound s) (badTop m k) = absurd (k (sound-rules s .1))
-  judged-once v w (isSound s) (badCell c m t h k b) = absurd (k (sound-rules s .2 c h))
+  judged-once v w (isSound s) (badCell c q m t h k f b) = absurd (k (sound-rules s .2 c h))
   judged-once v w (isSound s) (isSound z) = refl
 
 pub one-check : OneCheck
 one-check F ws top v w a b = judged-once F ws top v w (a .judged) (b .judged)
 
 -- ---- by parts
-
-verdict-parts : (v w : Verdict) → v .status ≡ w .status → v .value ≡ w .value → v ≡ w
-verdict-parts v w e f = ap₂ valued e f
 
 pub done-parts : (r q : Done) → r .verdict ≡ q .verdict → r .words ≡ q .words → r .top ≡ q .top → r ≡ q
 done-parts r q e f g = rw (e, f, g) refl
@@ -86,7 +88,8 @@ one-fresh F ws r q a b = go (lengthTest F (length ws)) refl
     both : (s : ℕ) (w : List ℕ) (t : ℕ) → (r .verdict .status ≡ s) × (r .words ≡ w) × (r .top ≡ t)
         → (q .verdict .status ≡ s) × (q .words ≡ w) × (q .top ≡ t) → r ≡ q
     both s w t x y =
-        done-parts r q (verdict-parts (r .verdict) (q .verdict) (x .0 ∙ sym (y .0)) (a .value ∙ sym (b .value)))
+        done-parts r q (verdict-parts (r .verdict) (q .verdict)
+        (x .0 ∙ sym (y .0)) (a .value ∙ sym (b .value)) (a .rule ∙ sym (b .rule)))
         (x .1 ∙ sym (y .1)) (x .2 ∙ sym (y .2))
 
     go : (t : Bool) → lengthTest F (length ws) ≡ t → r ≡ q
@@ -119,7 +122,10 @@ one-collect F ws top r q a b = go (check F ws top .status) refl
         let s = check-sound F ws top e in
         let x = a .collects s in
         let y = b .collects s in
-        done-parts r q (verdict-parts (r .verdict) (q .verdict) (x .0 ∙ sym (y .0)) (x .1 ∙ sym (y .1)))
+        let f = a .rule (λ z. omega (arith, x .0, z)) in
+        let g = b .rule (λ z. omega (arith, y .0, z)) in
+        done-parts r q
+        (verdict-parts (r .verdict) (q .verdict) (x .0 ∙ sym (y .0)) (x .1 ∙ sym (y .1)) (f ∙ sym g))
         (x .2 ∙ sym (y .2)) (x .3 ∙ sym (y .3))
     go (suc n) e =
         let x = a .refused (unsound-check F ws top n e) in

@@ -10,8 +10,8 @@ use borrow.Author.Needs.{needs}
 use borrow.Author.Tests.{not-true, not-false}
 use Rattle.words.specs.Cell.{firstWord, secondWord}
 use Rattle.meaning.specs.Limits.{firstHeapCell}
-use Rattle.meaning.specs.Check.{lengthTest, topTest, cellTest, damaged, verdictAt, check}
-use Rattle.meaning.proofs.check.Scanning.{check-length, check-top, check-cells, check-kept, placed, tested, turn, stop}
+use Rattle.meaning.specs.Check.{lengthTest, topTest, brokenRule, damaged, verdictAt, check}
+use Rattle.meaning.proofs.check.Scanning.{check-length, check-top, check-cells, check-kept, placed, ruled, turn, stop}
 use Rattle.meaning.proofs.check.Scanning.{finish, verdict-damaged, verdict-sound}
 use Rattle.store.proofs.check.Statement.{statement}
 use Rattle.store.proofs.check.Tie as tie
@@ -45,7 +45,7 @@ cells-at c =
 to-cells : (c : tie.Else2 Inv-loop μ-loop) →
     let a = c .before .before .before .before .before .args in
     let ws = a .ws .now in
-    check firstHeapCell ws (a .top) ≡ verdictAt ws (damaged firstHeapCell ws (a .top) 0 (length ws / 2))
+    check firstHeapCell ws (a .top) ≡ verdictAt firstHeapCell ws (a .top) (damaged firstHeapCell ws (a .top) 0 (length ws / 2))
 to-cells c = check-cells firstHeapCell _ _ (long (c .before .before)) (low c)
 
 returns : tie.Need-returns Inv-loop μ-loop
@@ -65,38 +65,36 @@ returns-3 c =
 loop-holds : tie.Need-loop-holds Inv-loop μ-loop
 loop-holds c = (omega arith, simp sub-zero)
 
-cell-ok-requires : tie.Need-cell-ok-requires Inv-loop μ-loop
-cell-ok-requires c κs = (omega arith, cells-at (c .before .before .before .before .before .before) .2)
-
--- the test of the cell, from the test of what was read of it
-test : (c : tie.After-cell-ok Inv-loop μ-loop) (t : Bool) → c .cell-ok .result ≡ t →
+-- the rule of the cell, from the rule of what was read of it
+rule : (c : tie.After-broken-rule Inv-loop μ-loop) →
     let at-loop = c .before .before .before .before in
     let a = at-loop .before .before .before .before .before .before .before .before .args in
     let k = at-loop .loop .c in
-    cellTest firstHeapCell (a .top) k (firstWord (a .ws .now) k) (secondWord (a .ws .now) k) ≡ t
-test c t e =
+    brokenRule firstHeapCell (a .top) k (firstWord (a .ws .now) k) (secondWord (a .ws .now) k) ≡ c .broken-rule .result
+rule c =
     let read = c .before in
-    tested firstHeapCell _ _ (read .before .first-word .ensures) (read .second-word .ensures) (c .cell-ok .ensures) e
+    ruled firstHeapCell _ _ (read .before .first-word .ensures) (read .second-word .ensures) (c .broken-rule .ensures)
 
 loop-again : tie.Need-loop-again Inv-loop μ-loop
 loop-again c =
     let at-loop = c .before .before .before .before .before in
-    let e = test (c .before) _ (not-false _ (c .if5 .left)) in
+    let e = rule (c .before) ∙ c .if5 .left in
     (omega arith, turn firstHeapCell _ _ _ _ (search needs) e ∙ at-loop .loop .inv .1)
 
 returns-4 : tie.Need-returns-4 Inv-loop μ-loop
 returns-4 c =
     let at-loop = c .before in
-    sym (verdict-sound _ _ (c .if4 .taken))
-    ∙ ap (verdictAt _) (sym (finish firstHeapCell _ _ _ _ (c .if4 .taken)) ∙ at-loop .loop .inv .1)
+    sym (verdict-sound firstHeapCell _ _ _ (c .if4 .taken))
+    ∙ ap (verdictAt firstHeapCell _ _) (sym (finish firstHeapCell _ _ _ _ (c .if4 .taken)) ∙ at-loop .loop .inv .1)
     ∙ sym (to-cells (at-loop .before .before .before))
 
 returns-5 : tie.Need-returns-5 Inv-loop μ-loop
 returns-5 c =
     let at-loop = c .before .before .before .before .before in
-    let e = test (c .before) _ (not-true _ (c .if5 .taken)) in
-    sym (verdict-damaged _ _ (search needs))
-    ∙ ap (verdictAt _) (sym (stop firstHeapCell _ _ _ _ (search needs) e) ∙ at-loop .loop .inv .1)
+    let e = rule (c .before) in
+    sym (verdict-damaged firstHeapCell _ _ _ _ (search needs) e)
+    ∙ ap (verdictAt firstHeapCell _ _)
+    (sym (stop firstHeapCell _ _ _ _ (search needs) (λ z. c .if5 .taken (sym e ∙ z))) ∙ at-loop .loop .inv .1)
     ∙ sym (to-cells (at-loop .before .before .before))
 
 pub check-spec : {M : Type 1} → statement M
@@ -104,5 +102,5 @@ check-spec =
     tie.close
     (tie.spec
     Inv-loop μ-loop (λ c κs. search needs) returns (λ c κs. search needs) returns-2 (λ c κs. cells-at c) returns-3
-    loop-holds (λ c κs. omega arith) (λ c κs. omega arith) cell-ok-requires (λ c. omega arith) (λ c. omega arith)
+    loop-holds (λ c κs. omega arith) (λ c κs. omega arith) (λ c κs. search needs) (λ c. omega arith) (λ c. omega arith)
     loop-again returns-4 returns-5)

@@ -33,6 +33,7 @@ use mathlib.Core.Bool.{Bool, true, false, _&&_}
 use mathlib.Core.List.{List, [], _∷_}
 use Prim.Native.Nat.{ℕ}
 use lib.Dec.{eqb, T}
+use Rattle.words.specs.Second.{flag, decode}
 use Rattle.bytes.specs.Decimal.{decimal}
 use Rattle.bytes.specs.Space.{filled}
 use Rattle.meaning.specs.Limits.{firstHeapCell, limit, codeTest, depthLimit, callsLimit, programCells, programBytes}
@@ -42,7 +43,8 @@ use Rattle.meaning.specs.Meaning.{meaning}
 use Rattle.meaning.specs.Reach.{reached, live}
 use Rattle.meaning.specs.Collected.{newAddress, collectedOf, collected, collectedTop}
 use Rattle.meaning.specs.Verdicts.{Verdict, Done}
-use Rattle.meaning.specs.Check.{bracketTest, termTest, cellTest, lengthTest, topTest, verdictAt, check, collectIn}
+use Rattle.meaning.specs.Check.{bracketRule, belowRule, brokenRule, cellTest, lengthTest, topTest, verdictAt, check}
+use Rattle.meaning.specs.Check.{collectIn}
 use Rattle.meaning.specs.Fresh.{fresh, freshIn}
 use Rattle.meaning.specs.Look.{Span, spanOf, lookSpan}
 use Rattle.meaning.specs.Operands.{ops, opAt, uses, names, isOperand, wrong11, wrong12, wrong13, fault}
@@ -59,49 +61,50 @@ use Rattle.meaning.specs.Typed.{typedOf, typeIn}
 use Rattle.meaning.specs.File.{Saved, firstOf, fileWords, fileOf, trailer, cellsIn, image, distanceTest}
 use Rattle.meaning.specs.File.{capacityTest, checkStore, checkAs, checkFile, loadIn, savedAs, saveIn}
 use Rattle.meaning.specs.Program.{written, refusal, output, inputFault, program}
-use Rattle.meaning.specs.Rows.{same}
+use Rattle.meaning.specs.Rows.{same, verdictTest}
 
 data Case : Type 0 where
-  batches : List ℕ → ℕ → List ℕ → List ℕ → ℕ → ℕ → List ℕ → ℕ → List ℕ → Case
-  collects : List ℕ → ℕ → ℕ → ℕ → List ℕ → ℕ → Case
+  batches : List ℕ → ℕ → List ℕ → List ℕ → Verdict → List ℕ → ℕ → List ℕ → Case
+  collects : List ℕ → ℕ → Verdict → List ℕ → ℕ → Case
   makes : List ℕ → ℕ → List ℕ → ℕ → Case
   looks : List ℕ → ℕ → ℕ → ℕ → ℕ → Case
-  prints : List ℕ → ℕ → ℕ → ℕ → ℕ → ℕ → ℕ → List ℕ → Case
-  types : List ℕ → ℕ → ℕ → List ℕ → ℕ → ℕ → List ℕ → ℕ → Case
-  saves : List ℕ → ℕ → ℕ → ℕ → ℕ → ℕ → List ℕ → ℕ → List ℕ → Case
-  loads : List ℕ → List ℕ → ℕ → ℕ → List ℕ → ℕ → Case
+  prints : List ℕ → ℕ → ℕ → ℕ → Verdict → ℕ → List ℕ → Case
+  types : List ℕ → ℕ → ℕ → List ℕ → Verdict → List ℕ → ℕ → Case
+  saves : List ℕ → ℕ → ℕ → Verdict → ℕ → List ℕ → ℕ → List ℕ → Case
+  loads : List ℕ → List ℕ → Verdict → List ℕ → ℕ → Case
   writes : List ℕ → List ℕ → Case
 
-verdict : Verdict → ℕ → ℕ → Bool
-verdict v s n = eqb (v .status) s && eqb (v .value) n
+-- status, value and rule
+told : ℕ → ℕ → ℕ → Verdict
+told s n q = record { status = s; value = n; rule = q }
 
-outcome : Outcome → ℕ → ℕ → List ℕ → ℕ → List ℕ → Bool
-outcome r s v ws top answers =
-    verdict (r .verdict) s v && same (r .words) ws && eqb (r .top) top && same (r .answers) answers
+outcome : Outcome → Verdict → List ℕ → ℕ → List ℕ → Bool
+outcome r v ws top answers =
+    verdictTest (r .verdict) v && same (r .words) ws && eqb (r .top) top && same (r .answers) answers
 
-left : Done → ℕ → ℕ → List ℕ → ℕ → Bool
-left r s v ws top = verdict (r .verdict) s v && same (r .words) ws && eqb (r .top) top
+left : Done → Verdict → List ℕ → ℕ → Bool
+left r v ws top = verdictTest (r .verdict) v && same (r .words) ws && eqb (r .top) top
 
 span : Span → ℕ → ℕ → Bool
 span s from to = eqb (s .from) from && eqb (s .to) to
 
-textual : Printed → ℕ → ℕ → ℕ → List ℕ → Bool
-textual p s v n t = verdict (p .verdict) s v && eqb (p .size) n && same (p .space) t
+textual : Printed → Verdict → ℕ → List ℕ → Bool
+textual p v n t = verdictTest (p .verdict) v && eqb (p .size) n && same (p .space) t
 
-filed : Saved → ℕ → ℕ → ℕ → List ℕ → ℕ → List ℕ → Bool
-filed r s v n ws top bs =
-    verdict (r .verdict) s v && eqb (r .size) n && same (r .words) ws && eqb (r .top) top && same (r .space) bs
+filed : Saved → Verdict → ℕ → List ℕ → ℕ → List ℕ → Bool
+filed r v n ws top bs =
+    verdictTest (r .verdict) v && eqb (r .size) n && same (r .words) ws && eqb (r .top) top && same (r .space) bs
 
 right : Case → Bool
-right (batches ws top calls out s v ws′ top′ answers) =
-    outcome (batch firstHeapCell ws top calls out) s v ws′ top′ answers
-right (collects ws top s v ws′ top′) = left (collectIn firstHeapCell ws top) s v ws′ top′
-right (makes ws s ws′ top′) = left (freshIn firstHeapCell ws) s 0 ws′ top′
+right (batches ws top calls out v ws′ top′ answers) =
+    outcome (batch firstHeapCell ws top calls out) v ws′ top′ answers
+right (collects ws top v ws′ top′) = left (collectIn firstHeapCell ws top) v ws′ top′
+right (makes ws s ws′ top′) = left (freshIn firstHeapCell ws) (told s 0 0) ws′ top′
 right (looks ws top i from to) = span (lookSpan firstHeapCell ws top i) from to
-right (prints ws top i n s v m t) = textual (printIn firstHeapCell ws top i n) s v m t
-right (types ws top d bs s v ws′ top′) = left (typeIn firstHeapCell ws top d bs) s v ws′ top′
-right (saves ws top n s v m ws′ top′ bs) = filed (saveIn edition firstHeapCell ws top n) s v m ws′ top′ bs
-right (loads bs ws s v ws′ top′) = left (loadIn bs ws) s v ws′ top′
+right (prints ws top i n v m t) = textual (printIn firstHeapCell ws top i n) v m t
+right (types ws top d bs v ws′ top′) = left (typeIn firstHeapCell ws top d bs) v ws′ top′
+right (saves ws top n v m ws′ top′ bs) = filed (saveIn edition firstHeapCell ws top n) v m ws′ top′ bs
+right (loads bs ws v ws′ top′) = left (loadIn bs ws) v ws′ top′
 right (writes input said) = same (program firstHeapCell input) said
 
 every : List Case → Bool
@@ -112,14 +115,14 @@ every (c ∷ cs) = right c && every cs
 /// The definitions that the cases unfold.
 const UNFOLDING: &str = "\
 unfolding limit codeTest callsLimit programCells programBytes at reached live newAddress collectedOf collected
-    bracketTest termTest cellTest lengthTest topTest verdictAt check fresh freshIn collectIn spanOf
+    decode flag bracketRule belowRule brokenRule cellTest lengthTest topTest verdictAt check fresh freshIn collectIn spanOf
     lookSpan ops opAt uses wrong11 wrong12 wrong13 fault put copy share head rest openTerm openFirst codeTerm
     codeFirst newSymbol newBracket newRunOf newRun names isOperand keeps sought planOf lacks roomWords roomTop
     withRoom carryOut perform stepAfter step ended callsTest batchOf batch decimal written refusal output inputFault
     program depthLimit meaning leftAfter tooDeep filled printed printIn isDigit withDigit firstMove laterMove moreMove
     atStart isWhole stopVerdict read blank newCells typedOf typeIn firstOf fileWords fileOf trailer cellsIn image
-    distanceTest capacityTest checkStore checkAs checkFile loadIn savedAs saveIn verdict outcome left span textual filed
-    right every";
+    distanceTest capacityTest checkStore checkAs checkFile loadIn savedAs saveIn verdictTest told outcome left span textual
+    filed right every";
 
 /// A list of numbers in antt.
 fn list<T: std::fmt::Display>(numbers: &[T]) -> String {
@@ -128,6 +131,11 @@ fn list<T: std::fmt::Display>(numbers: &[T]) -> String {
         write!(text, "{number} ∷ ").expect("a string takes all text");
     }
     text + "[])"
+}
+
+/// A verdict in antt.
+fn told<T: std::fmt::Display>(status: u32, value: T, rule: u32) -> String {
+    format!("(told {status} {value} {rule})")
 }
 
 /// A store of few cells, sound or damaged.
@@ -167,16 +175,17 @@ fn batch(random: &mut Random) -> String {
     let (mut words, top, calls) = calls(random);
     let mut answers = make::answers(random, calls.len());
     let lent = format!("{} {} {} {}", list(&words), top, list(&calls), list(&answers));
-    let Reply { status, value, top } = plain::run(&mut words, top, &calls, &mut answers);
-    format!("batches {lent} {status} {value} {} {top} {}", list(&words), list(&answers))
+    let Reply { status, rule, value, top } = plain::run(&mut words, top, &calls, &mut answers);
+    let told = told(status, value, rule);
+    format!("batches {lent} {told} {} {top} {}", list(&words), list(&answers))
 }
 
 /// A collection alone.
 fn collection(random: &mut Random) -> String {
     let (mut words, top) = store(random);
     let lent = format!("{} {}", list(&words), top);
-    let Reply { status, value, top } = plain::collect(&mut words, top);
-    format!("collects {lent} {status} {value} {} {top}", list(&words))
+    let Reply { status, rule, value, top } = plain::collect(&mut words, top);
+    format!("collects {lent} {} {} {top}", told(status, value, rule), list(&words))
 }
 
 /// A fresh store over words of any kind.
@@ -215,13 +224,9 @@ fn print(random: &mut Random) -> String {
     }
     let end = make::text_end(&words, top, register, most);
     let mut space = make::text_space(random, end);
-    let Text { status, value, length } = plain::print(&words, top, register, &mut space);
-    let n = space.len();
-    format!(
-        "prints {} {top} {register} {n} {status} {value} {length} {}",
-        list(&words),
-        list(&space)
-    )
+    let Text { status, rule, value, length } = plain::print(&words, top, register, &mut space);
+    let (n, told) = (space.len(), told(status, value, rule));
+    format!("prints {} {top} {register} {n} {told} {length} {}", list(&words), list(&space))
 }
 
 /// A short text, or one that nests brackets too deep, or nearly; whole, spoilt or cut.
@@ -257,8 +262,8 @@ fn typeable(random: &mut Random) -> (Vec<u32>, usize, usize, Vec<u8>) {
 fn typed(random: &mut Random) -> String {
     let (mut words, top, register, text) = typeable(random);
     let lent = format!("{} {top} {register} {}", list(&words), list(&text));
-    let Typed { status, value, top } = plain::type_in(&mut words, top, register, &text);
-    format!("types {lent} {status} {value} {} {top}", list(&words))
+    let Typed { status, rule, value, top } = plain::type_in(&mut words, top, register, &text);
+    format!("types {lent} {} {} {top}", told(status, value, rule), list(&words))
 }
 
 /// A store saved.
@@ -266,8 +271,9 @@ fn saved(random: &mut Random) -> String {
     let (mut words, top) = store(random);
     let mut space = make::files::space(random, &words, top);
     let lent = format!("{} {top} {}", list(&words), space.len());
-    let Saved { status, value, top, length } = files::save(&mut words, top, &mut space);
-    format!("saves {lent} {status} {value} {length} {} {top} {}", list(&words), list(&space))
+    let Saved { status, rule, value, top, length } = files::save(&mut words, top, &mut space);
+    let told = told(status, value, rule);
+    format!("saves {lent} {told} {length} {} {top} {}", list(&words), list(&space))
 }
 
 /// A short file of any kind; now and then one without a trailer, or with a capacity that is too small or
@@ -302,8 +308,8 @@ fn loaded(random: &mut Random) -> String {
     let most = random.pick(&[36, 2 * MAX_CELLS + 4, 2 * MAX_CELLS + 4]);
     words.truncate(most);
     let lent = format!("{} {}", list(&file), list(&words));
-    let Reply { status, value, top } = files::load(&mut words, &file);
-    format!("loads {lent} {status} {value} {} {top}", list(&words))
+    let Reply { status, rule, value, top } = files::load(&mut words, &file);
+    format!("loads {lent} {} {} {top}", told(status, value, rule), list(&words))
 }
 
 /// The little-endian word that four bytes spell.

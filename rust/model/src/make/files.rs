@@ -3,6 +3,7 @@
 //! A fault is made on purpose, yet the file may be good all the same, as where a bit of a code
 //! changes, or may have another fault as well.
 
+use super::rules::{break_any, Place};
 use super::{sound, spoil_word, Runs};
 use crate::files::{self, TRAILER};
 use crate::plain::{self, put, Cell, FIRST_HEAP_CELL, MAX_CELLS};
@@ -153,6 +154,7 @@ fn damaged(random: &mut Random, capacity: usize) -> (Vec<u32>, usize) {
     match random.below(8) {
         0 => below.iter_mut().for_each(|word| *word = random.word()),
         1 => super::wipe(random, below, top),
+        2 => break_any(random, below, top, &[Place::Register, Place::Occupied]),
         _ => (0..=random.below(3)).for_each(|_| spoil_word(random, below, top)),
     }
     (words, top)

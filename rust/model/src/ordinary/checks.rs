@@ -10,6 +10,28 @@ use crate::plain::{is_code, BRACKET, FIRST_HEAP_CELL};
 pub trait Checks: Default {
     /// The first damaged cell.
     fn damaged(&self, words: &[u32], top: usize) -> Option<usize>;
+
+    /// The first damaged cell, and the rule that it breaks.
+    fn broken(&self, words: &[u32], top: usize) -> Option<(u32, u32)> {
+        self.damaged(words, top).map(|c| (c as u32, rule(words, top, c)))
+    }
+}
+
+/// The used bit and the two chain bits.
+const STRAY: u32 = 7 << 28;
+
+/// The rule that a damaged cell breaks. It is asked once, of the one cell that was found, so nothing in the
+/// search for it need tell the rules apart.
+#[cold]
+fn rule(words: &[u32], top: usize, c: usize) -> u32 {
+    match words[2 * c + 1] {
+        second if second & STRAY != 0 => 1,
+        _ if c >= top => 6,
+        BRACKET => 3,
+        second if second > BRACKET => 5,
+        _ if c < FIRST_HEAP_CELL => 2,
+        _ => 4,
+    }
 }
 
 /// The words of the registers, of the occupied heap cells and of the cells from `top` on.

@@ -7,7 +7,9 @@ use Rattle.file.proofs.judging.judge_store.Statement.{statement}
 use Rattle.file.proofs.judging.judge_store.Tie as tie
 
 returns : tie.Need-returns
-returns c = found-damaged _ _ _ _ (c .before .first-damaged .ensures) (c .if1 .taken)
+returns c =
+    let found = c .before in
+    found-damaged _ _ _ _ (found .before .first-damaged .ensures) _ (c .rule-at .ensures) (found .if1 .taken)
 
 returns-2 : tie.Need-returns-2
 returns-2 c =
@@ -25,5 +27,6 @@ pub judge-store-spec : {M : Type 1} → statement M
 judge-store-spec =
     tie.close
     (tie.spec
-    (λ c κs. search needs) (λ c. omega (arith, c .before .before .pre .few, limit-fits)) returns (λ c κs. search needs)
+    (λ c κs. search needs) (λ c. omega (arith, c .before .before .pre .few, limit-fits)) (λ c κs. search needs) returns
+    (λ c κs. search needs)
     (λ c. omega (arith, c .before .before .before .before .before .pre .few, limit-fits)) returns-2 returns-3)

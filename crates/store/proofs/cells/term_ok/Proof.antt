@@ -7,7 +7,7 @@ use Rattle.store.proofs.cells.term_ok.Tie as tie
 returns : tie.Need-returns
 returns c =
     let a = c .before .before .args in
-    simp (c .bracket-ok .ensures, c .before .is-code .ensures) (term-test (a .first) (a .c) (a .a) (a .b))
+    rw (c .before .is-code .ensures) (term-test (a .first) (a .c) (a .a) (a .b) _ (c .bracket-ok .ensures))
 
 pub term-ok-spec : {M : Type 1} → statement M
 term-ok-spec = tie.close (tie.spec

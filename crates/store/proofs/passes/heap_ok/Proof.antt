@@ -5,13 +5,13 @@ use native.Mathlib.Omega.{arith}
 use borrow.Author.Needs.{needs}
 use borrow.Author.Tests.{eqb-true}
 use Rattle.meaning.specs.Limits.{firstHeapCell}
-use Rattle.store.specs.Passing.{Keeps}
+use Rattle.meaning.specs.Sound.{CellRule}
 use Rattle.store.proofs.Damage.{Clear, clear-none, clear-more, heap-keeps}
 use Rattle.store.proofs.passes.heap_ok.Statement.{statement}
 use Rattle.store.proofs.passes.heap_ok.Tie as tie
 
 abbrev Inv-loop : tie.InvT-loop
-Inv-loop ws top damage₀ c₀ damage c = (firstHeapCell ≤ c) × Clear (Keeps firstHeapCell ws top) firstHeapCell damage c
+Inv-loop ws top damage₀ c₀ damage c = (firstHeapCell ≤ c) × Clear (CellRule firstHeapCell ws top) firstHeapCell damage c
 
 abbrev μ-loop : tie.MeasureT-loop
 μ-loop ws top damage₀ c₀ damage c = top - c
@@ -25,7 +25,7 @@ loop-again c =
     let a = at-loop .before .before .args in
     let keeps = heap-keeps firstHeapCell (a .ws .now) (a .top) (at-loop .loop .c) (omega arith) (omega arith)
     (c .before .before .first-word .ensures) (c .before .second-word .ensures) (c .term-ok .ensures) in
-    (omega arith, clear-more (Keeps firstHeapCell (a .ws .now) (a .top)) firstHeapCell (at-loop .loop .inv .1) keeps)
+    (omega arith, clear-more (CellRule firstHeapCell (a .ws .now) (a .top)) firstHeapCell (at-loop .loop .inv .1) keeps)
 
 returns : tie.Need-returns Inv-loop μ-loop
 returns c e x l h = c .before .loop .inv .1 (eqb-true _ 0 e) x l (omega arith)

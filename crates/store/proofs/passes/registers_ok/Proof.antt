@@ -5,13 +5,13 @@ use native.Mathlib.Omega.{arith}
 use borrow.Author.Needs.{needs}
 use borrow.Author.Tests.{eqb-true}
 use Rattle.meaning.specs.Limits.{firstHeapCell}
-use Rattle.store.specs.Passing.{Keeps}
+use Rattle.meaning.specs.Sound.{CellRule}
 use Rattle.store.proofs.Damage.{Clear, clear-none, clear-more, register-keeps}
 use Rattle.store.proofs.passes.registers_ok.Statement.{statement}
 use Rattle.store.proofs.passes.registers_ok.Tie as tie
 
 abbrev Inv-loop : tie.InvT-loop
-Inv-loop ws top damage₀ c₀ damage c = Clear (Keeps firstHeapCell ws top) 0 damage c
+Inv-loop ws top damage₀ c₀ damage c = Clear (CellRule firstHeapCell ws top) 0 damage c
 
 abbrev μ-loop : tie.MeasureT-loop
 μ-loop ws top damage₀ c₀ damage c = firstHeapCell - c
@@ -23,9 +23,9 @@ loop-again : tie.Need-loop-again Inv-loop μ-loop
 loop-again c =
     let at-loop = c .before .before .before .before in
     let a = at-loop .before .before .args in
-    let keeps = register-keeps firstHeapCell (a .ws .now) (a .top) (at-loop .loop .c) (omega arith)
+    let keeps = register-keeps firstHeapCell (a .ws .now) (a .top) (at-loop .loop .c) (omega arith) (omega arith)
     (c .before .before .first-word .ensures) (c .before .second-word .ensures) (c .bracket-ok .ensures) in
-    clear-more (Keeps firstHeapCell (a .ws .now) (a .top)) 0 (at-loop .loop .inv) keeps
+    clear-more (CellRule firstHeapCell (a .ws .now) (a .top)) 0 (at-loop .loop .inv) keeps
 
 returns : tie.Need-returns Inv-loop μ-loop
 returns c e x l h = c .before .loop .inv (eqb-true _ 0 e) x l (omega arith)
