@@ -44,9 +44,9 @@
  *     which writes a shared cell wherever it is held; its time keeps within what the text space allows.
  *   - Stack. zelmotar_load uses under 17,408 bytes, most of them for a table of 4,096 words. Where 64 brackets are open
  *     zelmotar_print uses under 13,312 bytes and zelmotar_type under 11,264; for each that is not, 192 and 144 less.
- *     zelmotar_run uses under 512, zelmotar_save under 256, zelmotar_fresh under 128, the others under 192, memset's
- *     own included: measured on x86-64 and 64-bit Arm by painting the stack (tests/c/stack.c). It does not grow with
- *     the store, nor with the length of a text or of a file.
+ *     zelmotar_run uses under 512, zelmotar_collect and zelmotar_save under 256, zelmotar_fresh under 128, the others
+ *     under 192, memset's own included: measured on x86-64 and 64-bit Arm by painting the stack (tests/c/stack.c). It
+ *     does not grow with the store, nor with the length of a text or of a file.
  */
 #ifndef ZELMOTAR_H
 #define ZELMOTAR_H

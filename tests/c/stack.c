@@ -19,7 +19,7 @@ enum { CHECK, FRESH, COLLECT, RUN, LOOK, PRINT, TYPE, SAVE, LOAD, FUNCTIONS };
 
 static const char *const names[FUNCTIONS] = {"check", "fresh", "collect", "run", "look",
                                              "print", "type",  "save",    "load"};
-static const size_t under[FUNCTIONS] = {192, 128, 192, 512, 192, 13312, 11264, 256, 17408}; /* as zelmotar.h says */
+static const size_t under[FUNCTIONS] = {192, 128, 256, 512, 192, 13312, 11264, 256, 17408}; /* as zelmotar.h says */
 
 static struct test_case c;
 static uint32_t words[MOST_STORE], answers[MOST_ANSWERS];

@@ -76,6 +76,30 @@ fn capacity_ok(capacity: usize, first: usize, n: usize) -> bool
     false
 }
 
+// The first damaged cell of the store, or the cell after its last. The rules are those of a lent store.
+fn first_damaged(body: &[u8], first: usize, n: usize) -> usize
+    requires { ⌜ Whole first n (now body) ⌝ }
+    ensures { λ r. ⌜ r ≡ damaged first (storeIn first n (now (body .entry))) (first + n) 0 (first + n) ⌝ }
+{
+    let top = first + n;
+    let mut c: usize = 0;
+    loop {
+        if top <= c {
+            break c;
+        }
+        if !store::cells::cell_ok(
+            reading::first_word(body, first, n, c),
+            reading::second_word(body, first, n, c),
+            c,
+            first,
+            top,
+        ) {
+            break c;
+        }
+        c += 1;
+    }
+}
+
 // The rule that cell c of the store breaks, or 0.
 fn rule_at(body: &[u8], first: usize, n: usize, c: usize) -> u32
     requires { ⌜ Whole first n (now body) × (c < first + n) ⌝ }
@@ -88,24 +112,6 @@ fn rule_at(body: &[u8], first: usize, n: usize, c: usize) -> u32
         first,
         first + n,
     )
-}
-
-// The first damaged cell of the store, or the cell after its last. The rules are those of a lent store.
-fn first_damaged(body: &[u8], first: usize, n: usize) -> usize
-    requires { ⌜ Whole first n (now body) ⌝ }
-    ensures { λ r. ⌜ r ≡ damaged first (storeIn first n (now (body .entry))) (first + n) 0 (first + n) ⌝ }
-{
-    let top = first + n;
-    let mut c: usize = 0;
-    loop {
-        if top <= c {
-            break c;
-        }
-        if rule_at(body, first, n, c) != 0 {
-            break c;
-        }
-        c += 1;
-    }
 }
 
 // 3 and 34.

@@ -1,4 +1,5 @@
--- A cell's rules as src/cells.rt tests them, with no branch: `bracket-test`, and `term-test` by it. Assumes nothing.
+-- A cell's rules as src/cells.rt tests them, with no branch: `bracket-test`, and `term-test` by it; and that a test says
+-- yes exactly where no rule is broken: `register-right`, `heap-right`, `free-right`. Assumes nothing.
 use mathlib.Core.Path.{_≡_, refl, sym, subst}
 use mathlib.Core.Logic.{_⊎_, inl, inr, _↔_}
 use mathlib.Core.Bool.{Bool, true, false, _&&_, _||_, or-true}
@@ -6,14 +7,17 @@ use Prim.Native.Nat.{ℕ, _-_, _^_, _≤_, _<_}
 use native.Mathlib.Omega.{arith}
 use lib.Dec.{ltb, leb, eqb}
 use lib.Bits.{bitXor}
-use borrow.Author.Tests.{leb-true, le-leb, ltb-true, lt-ltb, eqb-true}
+use borrow.Author.Tests.{leb-true, le-leb, ltb-true, lt-ltb, eqb-true, eq-eqb}
 use Rattle.words.specs.Second.{bracketTo}
 use Rattle.words.proofs.Laws.{bit-flag}
 use Rattle.words.proofs.Masks.{xor-bit}
 use Rattle.meaning.specs.Limits.{codeTest}
 use Rattle.meaning.specs.Sound.{IsBracket, isEmpty, isFull, IsTerm, isSymbol, isBracket}
+use Rattle.meaning.specs.Check.{brokenRule}
 use Rattle.meaning.proofs.Lists.{lt-or-ge}
 use Rattle.meaning.proofs.Counting.{both-true}
+use Rattle.meaning.proofs.check.Rules.{free, none-kept, kept-rule, register-kept, kept-register, heap-kept, kept-heap}
+use Rattle.meaning.proofs.check.Rules.{kept-free}
 
 -- one of two tests that hold together
 either : (t u : Bool) → (t || u) ≡ true → (t ≡ true) ⊎ (u ≡ true)
@@ -71,3 +75,28 @@ term-test F c a b r q = (λ e. go (either _ _ e), λ k. back k (λ h. q .1 h))
     back : {x y : ℕ} → IsTerm F c x y → (IsBracket F c x y → r ≡ true) → (eqb y 0 && codeTest x || r) ≡ true
     back (isSymbol h) f = rw h refl
     back (isBracket {a = x} {b = y} h) f = rw (f h) (or-true (eqb y 0 && codeTest x))
+
+-- ---- no rule is broken
+
+module _ (F top c a b : ℕ) (m : top ≤ 268435456) where
+  pub register-right : (r : Bool) → c < top → c < F → (r ≡ true) ↔ IsBracket F top a b
+      → (r ≡ true) ↔ (brokenRule F top c a b ≡ 0)
+  register-right r h l q = (
+    λ e. kept-rule F top c m (register-kept F top c h l (q .0 e)),
+    λ z. q .1 (kept-register F top c h l (none-kept F top c a b z)),
+  )
+
+  pub heap-right : (r : Bool) → c < top → F ≤ c → (r ≡ true) ↔ IsTerm F c a b
+      → (r ≡ true) ↔ (brokenRule F top c a b ≡ 0)
+  heap-right r h l q = (
+    λ e. kept-rule F top c m (heap-kept F top c h l (q .0 e)),
+    λ z. q .1 (kept-heap F top c h l (none-kept F top c a b z)),
+  )
+
+  pub free-right : top ≤ c → ((eqb a 0 && eqb b 0) ≡ true) ↔ (brokenRule F top c a b ≡ 0)
+  free-right l = (
+    λ e.
+        let y = both-true (eqb a 0) (eqb b 0) e in
+        rw (eqb-true a 0 (y .0), eqb-true b 0 (y .1)) (kept-rule F top c m (free l)),
+    λ z. let y = kept-free F top c l (none-kept F top c a b z) in rw (eq-eqb a 0 (y .0), eq-eqb b 0 (y .1)) refl,
+  )

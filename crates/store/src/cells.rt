@@ -3,7 +3,7 @@
 ghost use mathlib.Core.Path.{_≡_};
 ghost use mathlib.Core.Logic.{_↔_};
 ghost use mathlib.Core.Bool.{true};
-ghost use Prim.Native.Nat.{_<_, _^_};
+ghost use Prim.Native.Nat.{_≤_, _<_, _^_};
 ghost use Rattle.meaning.specs.Limits.{codeTest};
 ghost use Rattle.meaning.specs.Sound.{IsBracket, IsTerm};
 ghost use Rattle.meaning.specs.Check.{bracketRule, belowRule, brokenRule};
@@ -33,6 +33,21 @@ pub fn term_ok(a: u32, b: u32, first: u32, c: u32) -> bool
     ensures { λ r. ⌜ (r ≡ true) ↔ IsTerm first c a b ⌝ }
 {
     ((b == 0) & is_code(a)) | bracket_ok(a, b, first, c)
+}
+
+// Whether a and b break no rule as those of cell c: a register, an occupied heap cell, or a free one. It is the quick
+// question of a scan over cells that are mostly right; `broken_rule` then tells what is wrong with the one that is not.
+pub fn cell_ok(a: u32, b: u32, c: usize, first: usize, top: usize) -> bool
+    requires { ⌜ (first ≤ top) × (top ≤ 2 ^ 28) ⌝ }
+    ensures { λ r. ⌜ (r ≡ true) ↔ (brokenRule first top c a b ≡ 0) ⌝ }
+{
+    if c < first {
+        return bracket_ok(a, b, first as u32, top as u32);
+    }
+    if c < top {
+        return term_ok(a, b, first as u32, c as u32);
+    }
+    (a == 0) & (b == 0)
 }
 
 // The rules of a cell by number (SCOPE 1.6), and 0 for a cell that breaks none.

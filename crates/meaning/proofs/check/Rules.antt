@@ -4,7 +4,8 @@
 --   RuleCases             the seven answers, each with what it says of the words
 --   rule-cases            the judgement's is one of them
 --   none-kept, kept-rule  it gives 0 where a cell breaks no rule, and there alone
---   cell-kept, kept-cell  such a cell is one that keeps its rule, and back
+--   register-kept to kept-free   what such a cell is, by its place: a register, an occupied heap cell, or a free one
+--   cell-kept, kept-cell  so it is one that keeps its rule, and back
 -- Assumes nothing.
 use mathlib.Core.Path.{_≡_, refl, sym, subst}
 use mathlib.Core.Logic.{_⊎_, inl, inr, _≢_}
@@ -142,6 +143,29 @@ module _ (F top c : ℕ) where
   kept-rule m (symbol h l x) = rw (decode-zero, lt-ltb c top h, le-ltb c F l, x) refl
   kept-rule m (free l) = rw (decode-zero, le-ltb c top l) refl
 
+  -- a register, and an occupied heap cell
+  pub register-kept : {a b : ℕ} → c < top → c < F → IsBracket F top a b → Kept F top c a b
+  register-kept {a} {b} h l k = bracket {a = a} {b = b} h (rw (lt-ltb c F l) k)
+
+  pub kept-register : {a b : ℕ} → c < top → c < F → Kept F top c a b → IsBracket F top a b
+  kept-register h l (bracket m k) = rw (lt-ltb c F l) at k
+  kept-register h l (symbol m g k) = absurd (omega arith)
+  kept-register h l (free m) = absurd (omega arith)
+
+  pub heap-kept : {a b : ℕ} → c < top → F ≤ c → IsTerm F c a b → Kept F top c a b
+  heap-kept h l (isSymbol k) = symbol h l k
+  heap-kept h l (isBracket {a} {b} k) = bracket {a = a} {b = b} h (rw (le-ltb c F l) k)
+
+  pub kept-heap : {a b : ℕ} → c < top → F ≤ c → Kept F top c a b → IsTerm F c a b
+  kept-heap h l (bracket m k) = isBracket (rw (le-ltb c F l) at k)
+  kept-heap h l (symbol m g k) = isSymbol k
+  kept-heap h l (free m) = absurd (omega arith)
+
+  pub kept-free : {a b : ℕ} → top ≤ c → Kept F top c a b → (a ≡ 0) × (b ≡ 0)
+  kept-free l (bracket m k) = absurd (omega arith)
+  kept-free l (symbol m g k) = absurd (omega arith)
+  kept-free l (free m) = (refl, refl)
+
 module _ (F : ℕ) (ws : List ℕ) (top c : ℕ) where
   abbrev a : ℕ
   a = firstWord ws c
@@ -152,34 +176,15 @@ module _ (F : ℕ) (ws : List ℕ) (top c : ℕ) where
   pub cell-kept : CellRule F ws top c → Kept F top c a b
   cell-kept r = go (lt-or-ge c F) (lt-or-ge c top)
     where
-      term : {x y : ℕ} → c < top → F ≤ c → IsTerm F c x y → Kept F top c x y
-      term h l (isSymbol k) = symbol h l k
-      term h l (isBracket {a = x} {b = y} k) = bracket {a = x} {b = y} h (rw (le-ltb c F l) k)
-
       go : (c < F) ⊎ (F ≤ c) → (c < top) ⊎ (top ≤ c) → Kept F top c a b
-      go (inl l) (inl h) = bracket {a = a} {b = b} h (rw (lt-ltb c F l) (r .register l))
-      go (inr l) (inl h) = term h l (r .occupied l h)
+      go (inl l) (inl h) = register-kept F top c h l (r .register l)
+      go (inr l) (inl h) = heap-kept F top c h l (r .occupied l h)
       go l (inr h) = rw (r .free h .0, r .free h .1) (free h)
 
   pub kept-cell : F ≤ top → Kept F top c a b → CellRule F ws top c
-  kept-cell low k = go a b refl refl k
-    where
-      go : (x y : ℕ) → a ≡ x → b ≡ y → Kept F top c x y → CellRule F ws top c
-      go x y e f (bracket h q) =
-          record {
-            register = λ l. rw (e, f) (rw (lt-ltb c F l) at q);
-            occupied = λ l m. rw (e, f) (isBracket (rw (le-ltb c F l) at q));
-            free = λ l. absurd (omega arith);
-          }
-      go x y e f (symbol h l q) =
-          record {
-            register = λ m. absurd (omega arith);
-            occupied = λ m n. rw (e, f) (isSymbol q);
-            free = λ m. absurd (omega arith);
-          }
-      go x y e f (free l) =
-          record {
-            register = λ m. absurd (omega arith);
-            occupied = λ m n. absurd (omega arith);
-            free = λ m. (e, f);
-          }
+  kept-cell low k =
+      record {
+        register = λ l. kept-register F top c (omega arith) l k;
+        occupied = λ l h. kept-heap F top c h l k;
+        free = λ l. kept-free F top c l k;
+      }

@@ -1,14 +1,15 @@
 -- The check by its tests, and the scan of the cells a step at a time: what the loop of `check` does. In order:
---   ruled                            the rule of a cell's words, from the rule of what was read
+--   ruled                            the rule of a cell's words, from the rule of what was read;  unbroken, broken
+--                                    and by a test whether one is broken
 --   check-length, check-top          the check by its tests: 1, or 2;  check-cells  else what the scan finds
 --   placed                           where the cells are, once the first two tests passed
 --   check-kept                       0 where all cells keep their rules
 --   turn                             one cell more;  stop  at the damaged cell;  finish  at the end
 --   verdict-damaged, verdict-sound   the answer by the cell at which the scan stopped
 -- Assumes nothing.
-use mathlib.Core.Path.{_≡_, refl, sym}
-use mathlib.Core.Logic.{_≢_}
-use mathlib.Core.Bool.{true, false}
+use mathlib.Core.Path.{_≡_, refl, sym, _∙_}
+use mathlib.Core.Logic.{_≢_, _↔_}
+use mathlib.Core.Bool.{Bool, true, false, false≢true}
 use mathlib.Core.List.{List}
 use Prim.Native.Nat.{ℕ, suc, _+_, _-_, _*_, _^_, _≤_, _<_}
 use native.Mathlib.Numerals.{add-one}
@@ -22,9 +23,17 @@ use Rattle.meaning.specs.Check.{brokenRule, cellTest, damaged, lengthTes
 use Rattle.meaning.proofs.sound.Cells.{limit-fits}
 use Rattle.meaning.proofs.check.Checking.{length-yes, top-yes, sound-check}
 
--- the rule of a cell's words, from the rule of what was read
+-- the rule of a cell's words, from the rule of what was read; and a test that says yes exactly where none is broken
 pub ruled : (F top c : ℕ) {x y a b q : ℕ} → x ≡ a → y ≡ b → q ≡ brokenRule F top c x y → brokenRule F top c a b ≡ q
 ruled F top c e f r = rw (← e, ← f) (sym r)
+
+pub unbroken : (F top c : ℕ) {x y a b : ℕ} {r : Bool} → x ≡ a → y ≡ b → (r ≡ true) ↔ (brokenRule F top c x y ≡ 0)
+    → r ≡ true → brokenRule F top c a b ≡ 0
+unbroken F top c e f q h = rw (← e, ← f) (q .0 h)
+
+pub broken : (F top c : ℕ) {x y a b : ℕ} {r : Bool} → x ≡ a → y ≡ b → (r ≡ true) ↔ (brokenRule F top c x y ≡ 0)
+    → r ≡ false → brokenRule F top c a b ≢ 0
+broken F top c e f q h z = false≢true (sym h ∙ q .1 (rw (e, f) z))
 
 module _ (F : ℕ) (ws : List ℕ) (top : ℕ) where
   pub check-length : lengthTest F (length ws) ≡ false → check F ws top ≡ only 1
