@@ -86,7 +86,8 @@ static void load(const char *what, const uint8_t *from, size_t length, uint32_t 
     if (answer.status == ZELMOTAR_DONE)
         top = answer.top;
     else if (answer.status == ZELMOTAR_DAMAGED)
-        printf("%s: %s, the first is cell %u\n", what, zelmotar_status_text(answer.status), (unsigned)answer.value);
+        printf("%s: %s, the first is cell %u: %s\n", what, zelmotar_status_text(answer.status), (unsigned)answer.value,
+               zelmotar_rule_text(answer.rule));
     else
         printf("%s: %s\n", what, zelmotar_status_text(answer.status));
 }

@@ -18,6 +18,7 @@ use Rattle.meaning.specs.Operands.{ops, opAt, uses, wrong11, wrong12, wrong13, 
 use Rattle.meaning.specs.Call.{planOf, carryOut, perform, stepAfter, step}
 use Rattle.meaning.specs.Batch.{Outcome, runs, ended, AllowedCalls, batch}
 use Rattle.meaning.specs.Typed.{typeIn}
+use Rattle.meaning.proofs.Counting.{refuted}
 use Rattle.meaning.proofs.check.Checking.{length-yes, yes-length}
 use Rattle.meaning.proofs.batch.Cases.{batch-run, batch-runs}
 use Rattle.meaning.proofs.batch.Batches.{runs-length}
@@ -32,7 +33,6 @@ use Rattle.typing.specs.declared.Typed.the-variants as text-answer
 use Rattle.typing.proofs.Final.{words-back}
 use Rattle.promises.specs.Requests.{Request, typed, requests, verdicts}
 use Rattle.promises.specs.Alike.{Lent, calls, text, requestsOf, NoneRefused, Served, served, strike, strikeAnswers}
-use Rattle.promises.proofs.table.Rules.{refuted}
 use Rattle.promises.proofs.unique.Outcomes.{done-parts}
 use Rattle.promises.proofs.Final.{collecting-keeps, alike-is-collected, collections-never-show}
 use Rattle.store.specs.Answers.{Makes}

@@ -39,11 +39,12 @@ record Computed : Type 0 where
       (wordsAfter second secondHistory)
 
 computed : Computed
-unfolding limit codeTest depthLimit callsLimit at reached live newAddress collectedOf collected decode flag bracketRule
-    belowRule brokenRule cellTest lengthTest topTest verdictAt check collectIn ops opAt uses wrong11 wrong12 wrong13 fault put copy share
-    head rest openTerm openFirst codeTerm codeFirst newSymbol newBracket newRunOf newRun names isOperand keeps sought
-    planOf lacks roomWords roomTop withRoom carryOut perform stepAfter step ended callsTest batchOf batch isDigit
-    withDigit firstMove laterMove moreMove atStart isWhole stopVerdict read blank newCells typedOf typeIn
+unfolding limit codeTest depthLimit callsLimit at reached live newAddress collectedOf collected decode flag
+    bracketRule belowRule brokenRule cellTest lengthTest topTest verdictAt check collectIn ops opAt uses wrong11
+    wrong12 wrong13 fault put copy share head rest openTerm openFirst codeTerm codeFirst newSymbol newBracket newRunOf
+    newRun names isOperand keeps sought planOf lacks roomWords roomTop withRoom carryOut perform stepAfter step ended
+    callsTest batchOf batch isDigit withDigit firstMove laterMove moreMove atStart isWhole stopVerdict read blank
+    newCells typedOf typeIn
 computed = record {
   sound = refl;
   sound′ = refl;

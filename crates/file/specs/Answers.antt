@@ -13,7 +13,8 @@ use Rattle.file.specs.declared.Saved.{Saved}
 use Rattle.file.specs.declared.Saved.the-variants as saved
 
 -- loading: 0; 30 for a file that is too short, 31 for its edition, 32 for its distance, 33 for its capacity, 35 for a
--- slice of another length; 3 with the first damaged cell and the rule that it breaks; 34 for a store that is not collected
+-- slice of another length; 3 with the first damaged cell and the rule that it breaks; 34 for a store that is not
+-- collected
 abbrev pub verdictOf : Loaded → Verdict
 verdictOf (loaded.Ready t) = only 0
 verdictOf loaded.ShortFile = only 30

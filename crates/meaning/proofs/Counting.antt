@@ -1,14 +1,14 @@
 -- Tests of numbers, and how many cells below one are in a set. In order:
 --   leb-suc                      a test at the next number is the test at this one, but for one number
 --   positive                     a number that is not 0
---   both-true                    two tests that hold together hold each
+--   both-true                    two tests that hold together hold each;  refuted  one that fails refutes what it tests
 --   within, yes-within           a test of two bounds
 --   count                        how many cells below c are in a set
 --   count-same, count-less-one   of two sets alike, and of a set with one cell taken out
 -- Assumes nothing.
-use mathlib.Core.Path.{_≡_, refl, sym}
+use mathlib.Core.Path.{_≡_, refl, sym, _∙_}
 use mathlib.Core.Logic.{_≢_}
-use mathlib.Core.Bool.{Bool, true, false, cond, _&&_}
+use mathlib.Core.Bool.{Bool, true, false, cond, _&&_, false≢true}
 use Prim.Native.Nat.{ℕ, zero, suc, _≤_, _<_}
 use native.Mathlib.Omega.{arith}
 use native.Mathlib.Decide.{ℕ-discrete}
@@ -31,6 +31,9 @@ positive a z = let n = eqb-false a 0 z in omega (arith, n)
 pub both-true : (a b : Bool) → (a && b) ≡ true → (a ≡ true) × (b ≡ true)
 both-true true b e = (refl, e)
 both-true false b e = (e, cc)
+
+pub refuted : {A : Type 0} (t : Bool) → (A → t ≡ true) → t ≡ false → A → ⊥
+refuted t f e a = false≢true (sym e ∙ f a)
 
 pub within : (l r x : ℕ) → (leb l x && leb x r) ≡ true → (l ≤ x) × (x ≤ r)
 within l r x e = let b = both-true (leb l x) (leb x r) e in (leb-true l x (b .0), leb-true x r (b .1))

@@ -8,8 +8,8 @@ use Rattle.meaning.specs.Sound.{at}
 use Rattle.meaning.specs.Meaning.{meaning}
 use Rattle.meaning.specs.Reach.{reached, live}
 use Rattle.meaning.specs.Collected.{newAddress, collectedOf, collected}
-use Rattle.meaning.specs.Check.{bracketRule, belowRule, brokenRule, cellTest, lengthTest, topTest, verdictAt, check}
-use Rattle.meaning.specs.Check.{collectIn}
+use Rattle.meaning.specs.Check.{bracketRule, belowRule, brokenRule, cellTest, lengthTest, topTest, verdictAt}
+use Rattle.meaning.specs.Check.{check, collectIn}
 use Rattle.meaning.specs.Fresh.{fresh}
 use Rattle.meaning.specs.Operands.{ops, opAt, uses, names, isOperand, wrong11, wrong12, wrong13, fault}
 use Rattle.meaning.specs.Actions.{put, copy, share, head, rest, openTerm, openFirst, codeTerm, codeFirst}
@@ -32,25 +32,25 @@ use Rattle.meaning.specs.FileRows.{saveTest, loadTest, fileRowTest, junk
 use Rattle.meaning.specs.FileRows.{turnsAway, savingRows, loadingRows, FileRowsRight}
 
 pub rows-right : RowsRight firstHeapCell
-unfolding limit codeTest programCells programBytes at reached live newAddress collectedOf collected
-    decode flag bracketRule belowRule brokenRule cellTest lengthTest topTest verdictAt check fresh collectIn ops opAt uses wrong11 wrong12
-    wrong13 fault put copy share head rest openTerm openFirst codeTerm codeFirst newSymbol newBracket newRunOf newRun
-    names isOperand keeps sought planOf lacks roomWords roomTop withRoom carryOut perform stepAfter step decimal
-    written refusal output inputFault program verdictTest doneTest ranTest rowTest p1 p1Lines p2 p3Heap p3 p6 lone
-    p11 p11Store two breaks rows
+unfolding limit codeTest programCells programBytes at reached live newAddress collectedOf collected decode flag
+    bracketRule belowRule brokenRule cellTest lengthTest topTest verdictAt check fresh collectIn ops opAt uses wrong11
+    wrong12 wrong13 fault put copy share head rest openTerm openFirst codeTerm codeFirst newSymbol newBracket newRunOf
+    newRun names isOperand keeps sought planOf lacks roomWords roomTop withRoom carryOut perform stepAfter step
+    decimal written refusal output inputFault program verdictTest doneTest ranTest rowTest p1 p1Lines p2 p3Heap p3 p6
+    lone p11 p11Store two breaks rows
 rows-right = tt
 
 pub text-rows-right : TextRowsRight firstHeapCell
-unfolding limit codeTest depthLimit at meaning decode flag bracketRule belowRule brokenRule cellTest lengthTest topTest verdictAt check decimal
-    filled leftAfter tooDeep printed printIn verdictTest p6 lone printTest textRowTest t1 t1Store nest textRows
-    isDigit withDigit firstMove laterMove moreMove atStart isWhole stopVerdict read blank put reached live newAddress
-    collectedOf collected fresh sought lacks roomWords roomTop withRoom carryOut newCells typedOf typeIn typeTest t11
-    t11Store dead behind held refuses
+unfolding limit codeTest depthLimit at meaning decode flag bracketRule belowRule brokenRule cellTest lengthTest
+    topTest verdictAt check decimal filled leftAfter tooDeep printed printIn verdictTest p6 lone printTest textRowTest
+    t1 t1Store nest textRows isDigit withDigit firstMove laterMove moreMove atStart isWhole stopVerdict read blank put
+    reached live newAddress collectedOf collected fresh sought lacks roomWords roomTop withRoom carryOut newCells
+    typedOf typeIn typeTest t11 t11Store dead behind held refuses
 text-rows-right = tt
 
 pub file-rows-right : FileRowsRight edition firstHeapCell
-unfolding limit codeTest at reached live newAddress collectedOf collected decode flag bracketRule belowRule brokenRule cellTest lengthTest
-    topTest verdictAt check fresh filled verdictTest p2 p3Heap p3 lone firstOf fileWords fileOf trailer cellsIn image
-    distanceTest capacityTest checkStore checkAs checkFile loadIn savedAs saveIn saveTest loadTest fileRowTest junk bare
-    empty one full broken turnsAway savingRows loadingRows
+unfolding limit codeTest at reached live newAddress collectedOf collected decode flag bracketRule belowRule brokenRule
+    cellTest lengthTest topTest verdictAt check fresh filled verdictTest p2 p3Heap p3 lone firstOf fileWords fileOf
+    trailer cellsIn image distanceTest capacityTest checkStore checkAs checkFile loadIn savedAs saveIn saveTest
+    loadTest fileRowTest junk bare empty one full broken turnsAway savingRows loadingRows
 file-rows-right = tt

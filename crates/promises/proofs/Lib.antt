@@ -1,5 +1,5 @@
--- The proofs of the claims in specs/, in a folder for each file of claims, and Verdicts for all; Final has the claims one by
--- one.
+-- The proofs of the claims in specs/, in a folder for each file of claims; Verdicts is for all of them, and Final has
+-- the claims one by one.
 -- Assumes nothing.
 pub mod Verdicts
 pub mod table

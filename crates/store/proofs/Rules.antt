@@ -1,8 +1,8 @@
--- A cell's rules as src/cells.rt tests them, with no branch: `bracket-test`, and `term-test` by it; and that a test says
--- yes exactly where no rule is broken: `register-right`, `heap-right`, `free-right`. Assumes nothing.
-use mathlib.Core.Path.{_≡_, refl, sym, subst}
+-- A cell's rules as src/cells.rt tests them, with no branch: `bracket-test`, and `term-test` by it; and that a test
+-- says yes exactly where no rule is broken: `register-right`, `heap-right`, `free-right`. Assumes nothing.
+use mathlib.Core.Path.{_≡_, refl, subst}
 use mathlib.Core.Logic.{_⊎_, inl, inr, _↔_}
-use mathlib.Core.Bool.{Bool, true, false, _&&_, _||_, or-true}
+use mathlib.Core.Bool.{Bool, true, _&&_, _||_, or-true}
 use Prim.Native.Nat.{ℕ, _-_, _^_, _≤_, _<_}
 use native.Mathlib.Omega.{arith}
 use lib.Dec.{ltb, leb, eqb}
@@ -16,13 +16,9 @@ use Rattle.meaning.specs.Sound.{IsBracket, isEmpty, isFull, IsTerm, isSymbol, i
 use Rattle.meaning.specs.Check.{brokenRule}
 use Rattle.meaning.proofs.Lists.{lt-or-ge}
 use Rattle.meaning.proofs.Counting.{both-true}
+use Rattle.meaning.proofs.reach.Reaching.{or-cases}
 use Rattle.meaning.proofs.check.Rules.{free, none-kept, kept-rule, register-kept, kept-register, heap-kept, kept-heap}
 use Rattle.meaning.proofs.check.Rules.{kept-free}
-
--- one of two tests that hold together
-either : (t u : Bool) → (t || u) ≡ true → (t ≡ true) ⊎ (u ≡ true)
-either true u e = inl refl
-either false u e = inr e
 
 -- the bracket bit turned over: what is left is a bracket's right end, and of any other word more than an address
 module _ (b : ℕ) (w : b < 2 ^ 32) where
@@ -38,7 +34,7 @@ bracketOk F lim a b =
     || leb F a && leb a (bitXor b (bracketTo 0)) && ltb (bitXor b (bracketTo 0)) lim
 
 pub bracket-test : (F lim a b : ℕ) → b < 2 ^ 32 → lim < 2 ^ 31 → (bracketOk F lim a b ≡ true) ↔ IsBracket F lim a b
-bracket-test F lim a b w fits = (λ e. go (either _ _ e), λ k. back w k)
+bracket-test F lim a b w fits = (λ e. go (or-cases _ _ e), λ k. back w k)
   where
     go : ((eqb b (bracketTo 0) && eqb a 0) ≡ true)
         ⊎ ((leb F a && leb a (bitXor b (bracketTo 0)) && ltb (bitXor b (bracketTo 0)) lim) ≡ true) → IsBracket F lim a b
@@ -66,7 +62,7 @@ bracket-test F lim a b w fits = (λ e. go (either _ _ e), λ k. back w k)
 -- r is the test of a bracket
 pub term-test : (F c a b : ℕ) (r : Bool) → (r ≡ true) ↔ IsBracket F c a b
     → ((eqb b 0 && codeTest a || r) ≡ true) ↔ IsTerm F c a b
-term-test F c a b r q = (λ e. go (either _ _ e), λ k. back k (λ h. q .1 h))
+term-test F c a b r q = (λ e. go (or-cases _ _ e), λ k. back k (λ h. q .1 h))
   where
     go : ((eqb b 0 && codeTest a) ≡ true) ⊎ (r ≡ true) → IsTerm F c a b
     go (inl e) = let y = both-true (eqb b 0) (codeTest a) e in rw (eqb-true b 0 (y .0)) (isSymbol (y .1))

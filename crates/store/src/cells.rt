@@ -1,5 +1,5 @@
-// The rules of one cell, over its two words and the first heap cell of its store: as tests, and by number. A test that a
-// pass over many cells makes has no branch, so that the compiler can test several cells at a time.
+// The rules of one cell, over its two words and the first heap cell of its store: as tests, and by number. A test that
+// a pass over many cells makes has no branch, so that the compiler can test several cells at a time.
 ghost use mathlib.Core.Path.{_≡_};
 ghost use mathlib.Core.Logic.{_↔_};
 ghost use mathlib.Core.Bool.{true};

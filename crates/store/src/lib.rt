@@ -14,8 +14,8 @@ ghost use Rattle.store.specs.Holds.{Bracketed, Termed, RunIs, termIs};
 pub mod cells;
 mod passes;
 
-// Why a store is unsound: its length, its `top`, or its first damaged cell, with the rule that this breaks. Every answer
-// that may refuse a store holds this as the check found it.
+// Why a store is unsound: its length, its `top`, or its first damaged cell, with the rule that this breaks. Every
+// answer that may refuse a store holds this as the check found it.
 pub enum Unsound {
     BadLength,
     BadTop,

@@ -1,8 +1,6 @@
 -- `capi::refuse` meets its contract. Assumes nothing.
-use mathlib.Core.Path.{ap, subst, sym}
-use Prim.Native.Nat.{_≤_}
+use mathlib.Core.Path.{ap}
 use native.Mathlib.Omega.{arith}
-use Rattle.meaning.specs.Limits.{limit}
 use Rattle.meaning.specs.Verdicts.{Verdict}
 use Rattle.meaning.proofs.sound.Cells.{limit-fits}
 use Rattle.capi.specs.Answers.{reply}

@@ -9,7 +9,7 @@
 --   check-sound                  0 is the answer for a sound store only
 --   onZero-no                    what depends on a status that is not 0
 -- Assumes nothing.
-use mathlib.Core.Path.{_≡_, refl, subst}
+use mathlib.Core.Path.{_≡_, refl}
 use mathlib.Core.Logic.{_⊎_, inl, inr, _≢_}
 use mathlib.Core.Bool.{Bool, true, false, cond, false≢true}
 use mathlib.Core.List.{List}
@@ -18,12 +18,10 @@ use native.Mathlib.Nat.{le-refl, eq-or-lt-of-le}
 use native.Mathlib.Omega.{arith}
 use lib.Dec.{ltb, leb, eqb}
 use lib.ListN.{length}
-use borrow.Author.Tests.{leb-true, le-leb, ltb-true, ltb-false, lt-ltb, le-ltb, eqb-true, eq-eqb, ne-eqb}
+use borrow.Author.Tests.{leb-true, le-leb, ltb-true, ltb-false, le-ltb, eqb-true, eq-eqb}
 use Rattle.words.specs.Cell.{firstWord, secondWord}
-use Rattle.words.specs.Second.{bracketTo}
-use Rattle.meaning.specs.Limits.{codeTest, limit}
-use Rattle.meaning.specs.Sound.{at, IsBracket, isEmpty, isFull, IsTerm, isSymbol, isBracket, capacity, Allowed}
-use Rattle.meaning.specs.Sound.{CellRule, Sound}
+use Rattle.meaning.specs.Limits.{limit}
+use Rattle.meaning.specs.Sound.{capacity, Allowed, CellRule, Sound}
 use Rattle.meaning.specs.Verdicts.{Verdict, only, damagedAt, onZero}
 use Rattle.meaning.specs.Check.{topTest, brokenRule, cellTest, damaged, lengthTest, verdictAt, check}
 use Rattle.meaning.proofs.sound.Cells.{limit-fits}

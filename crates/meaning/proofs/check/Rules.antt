@@ -1,11 +1,10 @@
 -- The judgement of a cell, by cases: what its two words are where it gives a rule's number, and where it gives none.
 -- No other proof looks into it. In order:
---   Kept                  what the words of a cell are that breaks no rule: a bracket's, a symbol's, or two zeros
---   RuleCases             the seven answers, each with what it says of the words
---   rule-cases            the judgement's is one of them
---   none-kept, kept-rule  it gives 0 where a cell breaks no rule, and there alone
+--   Kept                         the words of a cell that breaks no rule: a bracket's, a symbol's, or two zeros
+--   RuleCases, rule-cases        the seven answers, each with what it says of the words;  the judgement's is one
+--   none-kept, kept-rule         it gives 0 where a cell breaks no rule, and there alone
 --   register-kept to kept-free   what such a cell is, by its place: a register, an occupied heap cell, or a free one
---   cell-kept, kept-cell  so it is one that keeps its rule, and back
+--   cell-kept, kept-cell         so it is one that keeps its rule, and back
 -- Assumes nothing.
 use mathlib.Core.Path.{_≡_, refl, sym, subst}
 use mathlib.Core.Logic.{_⊎_, inl, inr, _≢_}
@@ -14,7 +13,7 @@ use mathlib.Core.List.{List}
 use Prim.Native.Nat.{ℕ, _-_, _≤_, _<_}
 use native.Mathlib.Omega.{arith}
 use lib.Dec.{ltb, leb, eqb}
-use borrow.Author.Tests.{leb-true, le-leb, ltb-true, ltb-false, lt-ltb, le-ltb, eqb-true, eqb-false, ne-eqb}
+use borrow.Author.Tests.{leb-true, le-leb, ltb-true, ltb-false, lt-ltb, le-ltb, eqb-true, eqb-false}
 use Rattle.words.specs.Cell.{firstWord, secondWord}
 use Rattle.words.specs.Second.{stray, decode, bracketTo}
 use Rattle.words.proofs.Plain.{decode-zero, decode-bracket}
@@ -54,7 +53,8 @@ module _ (F top c a b : ℕ) where
           word : bracketTo right ≡ b
           word = omega arith
 
-          go : (t u v : Bool) → eqb right 0 ≡ t → eqb a 0 ≡ u → (leb F a && leb a right && ltb right (endsBelow F top c)) ≡ v
+          go : (t u v : Bool) → eqb right 0 ≡ t → eqb a 0 ≡ u
+              → (leb F a && leb a right && ltb right (endsBelow F top c)) ≡ v
               → RuleCases (cond t (cond u 0 3) (cond v 0 5))
           go true true v e f g =
               let z : b ≡ bracketTo 0 = omega (arith, eqb-true right 0 e) in

@@ -7,9 +7,9 @@
 --   turn                             one cell more;  stop  at the damaged cell;  finish  at the end
 --   verdict-damaged, verdict-sound   the answer by the cell at which the scan stopped
 -- Assumes nothing.
-use mathlib.Core.Path.{_≡_, refl, sym, _∙_}
+use mathlib.Core.Path.{_≡_, refl, sym}
 use mathlib.Core.Logic.{_≢_, _↔_}
-use mathlib.Core.Bool.{Bool, true, false, false≢true}
+use mathlib.Core.Bool.{Bool, true, false}
 use mathlib.Core.List.{List}
 use Prim.Native.Nat.{ℕ, suc, _+_, _-_, _*_, _^_, _≤_, _<_}
 use native.Mathlib.Numerals.{add-one}
@@ -20,6 +20,7 @@ use Rattle.words.specs.Cell.{firstWord, secondWord}
 use Rattle.meaning.specs.Sound.{capacity, CellRule}
 use Rattle.meaning.specs.Verdicts.{only, damagedAt}
 use Rattle.meaning.specs.Check.{brokenRule, cellTest, damaged, lengthTest, topTest, verdictAt, check}
+use Rattle.meaning.proofs.Counting.{refuted}
 use Rattle.meaning.proofs.sound.Cells.{limit-fits}
 use Rattle.meaning.proofs.check.Checking.{length-yes, top-yes, sound-check}
 
@@ -33,7 +34,7 @@ unbroken F top c e f q h = rw (← e, ← f) (q .0 h)
 
 pub broken : (F top c : ℕ) {x y a b : ℕ} {r : Bool} → x ≡ a → y ≡ b → (r ≡ true) ↔ (brokenRule F top c x y ≡ 0)
     → r ≡ false → brokenRule F top c a b ≢ 0
-broken F top c e f q h z = false≢true (sym h ∙ q .1 (rw (e, f) z))
+broken F top c e f q h = refuted _ (λ z. q .1 (rw (e, f) z)) h
 
 module _ (F : ℕ) (ws : List ℕ) (top : ℕ) where
   pub check-length : lengthTest F (length ws) ≡ false → check F ws top ≡ only 1
@@ -78,7 +79,8 @@ module _ (F : ℕ) (ws : List ℕ) (top : ℕ) where
         rw (k, add-one c, e, damaged) refl
 
     -- it leaves with the damaged cell
-    pub stop : c < cells → brokenRule F top c (firstWord ws c) (secondWord ws c) ≢ 0 → damaged F ws top c (cells - c) ≡ c
+    pub stop : c < cells → brokenRule F top c (firstWord ws c) (secondWord ws c) ≢ 0
+        → damaged F ws top c (cells - c) ≡ c
     unfolding cellTest
     stop h n =
         let k : cells - c ≡ suc (cells - (c + 1)) = omega arith in

@@ -30,7 +30,8 @@ module _ (xs : List ℕ) (m : ℕ) where
 
   -- whatever is asked of a cell's two words
   pub cell-zeros : {A : Type 0} (f : ℕ → ℕ → A) (c : ℕ)
-      → f (firstWord (xs ++ replicate m 0) c) (secondWord (xs ++ replicate m 0) c) ≡ f (firstWord xs c) (secondWord xs c)
+      → f (firstWord (xs ++ replicate m 0) c) (secondWord (xs ++ replicate m 0) c)
+      ≡ f (firstWord xs c) (secondWord xs c)
   cell-zeros f c = rw (padded-at xs m (2 * c), padded-at xs m (2 * c + 1)) refl
 
   pub damaged-zeros : (F top c n : ℕ) → damaged F (xs ++ replicate m 0) top c n ≡ damaged F xs top c n

@@ -22,6 +22,7 @@ use Rattle.meaning.specs.Check.{check}
 use Rattle.meaning.specs.File.{firstOf, fileCells, fileCapacity, fileEdition, body, cellsIn, image, distanceTest}
 use Rattle.meaning.specs.File.{capacityTest, checkStore, checkAs, checkFile, loadIn}
 use Rattle.meaning.proofs.Lists.{lt-or-ge}
+use Rattle.meaning.proofs.Counting.{refuted}
 use Rattle.meaning.proofs.check.Checking.{onZero-no, sound-check}
 use Rattle.meaning.proofs.collected.Held.{reached-all, all-whole}
 use Rattle.meaning.proofs.file.Accepted.{Framed, body-long, occupied, image-is, image-long, distance-yes, yes-distance}
@@ -32,7 +33,7 @@ use Rattle.promises.specs.Table.{OneOf, Not, rules, FirstOf, TopRule, Ju
 use Rattle.promises.specs.Files.{StoreIn, AllReached, Passed, LoadedAs, shortFile, badEdition, badDistance}
 use Rattle.promises.specs.Files.{badCapacity, wrongSlice, damaged, notCollected, loaded, LoadTable, LoadAnswers}
 use Rattle.promises.specs.Unique.{OneLoad}
-use Rattle.promises.proofs.table.Rules.{judged, refuted}
+use Rattle.promises.proofs.table.Rules.{judged}
 use Rattle.promises.proofs.unique.Outcomes.{judged-once}
 use Rattle.promises.proofs.files.Words.{is-file, store-once}
 
@@ -153,7 +154,8 @@ module _ (bs ws : List ℕ) where
           })
       whole s false e =
           table-refused (only 34) (store-uncollected p s uncollected) (λ q. omega arith)
-          (inr (inr (inr (inr (inr (inr (inl refl))))))) (λ _. (refl, refl)) (notCollected p v (image-store p) s uncollected)
+          (inr (inr (inr (inr (inr (inr (inl refl))))))) (λ _. (refl, refl))
+          (notCollected p v (image-store p) s uncollected)
         where
           uncollected : Not (AllReached f v top)
           uncollected a =
@@ -211,8 +213,8 @@ module _ (bs ws : List ℕ) where
 
       short : (length bs < 16) ⊎ (16 ≤ length bs) → LoadTable bs ws (loadIn bs ws)
       short (inl h) =
-          table-refused (only 30) (checked-short bs (length ws) h) (λ q. omega arith) (inr (inr (inl refl))) (λ _. (refl, refl))
-          (shortFile h)
+          table-refused (only 30) (checked-short bs (length ws) h) (λ q. omega arith) (inr (inr (inl refl)))
+          (λ _. (refl, refl)) (shortFile h)
       short (inr l) = kind l (lt-or-ge 0 f)
 
   -- ---- and no other answer is

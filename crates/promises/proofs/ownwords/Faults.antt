@@ -10,14 +10,13 @@ use lib.ListN.{getD}
 use borrow.Author.Tests.{leb-true, le-leb, ltb-true, lt-ltb, eqb-true}
 use Rattle.meaning.specs.Limits.{codeTest}
 use Rattle.meaning.specs.Operands.{uses, wrong11, wrong12, wrong13, fault}
-use Rattle.meaning.proofs.Counting.{both-true}
+use Rattle.meaning.proofs.Counting.{both-true, refuted}
 use Rattle.meaning.proofs.sound.Cells.{code-range, range-code}
 use Rattle.meaning.proofs.operands.Uses.{all-at, three, Faults, ten, eleven, twelve, thirteen, none, faults}
 use Rattle.promises.specs.Table.{Not}
 use Rattle.promises.specs.OwnWords.{Use, register, code, unused, rowOf, NoRegister, Stray, NoCode, Some}
 use Rattle.promises.specs.OwnWords.{OwnFault, noOperation, noRegister, stray, noCode, noFault, FaultsInWords}
 use Rattle.promises.specs.OwnWords.{CodesInWords, FaultRows, OneFault}
-use Rattle.promises.proofs.table.Rules.{refuted}
 
 -- ---- the two tables
 

@@ -39,7 +39,8 @@ zeros n = let z : n - 0 ≡ n = omega arith in filled-fits n [] (omega arith) �
 module _ (F : ℕ) (ws : List ℕ) (top i n : ℕ) where
   -- a refusal
   refusal : (v : Verdict) → OneOf (v .status) (0 ∷ 1 ∷ 2 ∷ 3 ∷ 20 ∷ 21 ∷ 22 ∷ [])
-      → (v .status ≢ 3 → (v .value ≡ 0) × (v .rule ≡ 0)) → v .status ≢ 0 → PrintedAs F ws top i n v → PrintTable F ws top i n (unprinted v n)
+      → (v .status ≢ 3 → (v .value ≡ 0) × (v .rule ≡ 0)) → v .status ≢ 0 → PrintedAs F ws top i n v
+      → PrintTable F ws top i n (unprinted v n)
   refusal v o e z p = record {
     number = o;
     value = λ h. e h .0;

@@ -6,18 +6,22 @@
 --   none-broken           0 exactly where the cell keeps the rule of a sound store
 --   broken-number         a damaged cell has one of six numbers
 -- Assumes nothing.
-use mathlib.Core.Path.{_≡_, refl, sym, ap, subst, _∙_}
-use mathlib.Core.Logic.{_⊎_, inl, inr, _↔_}
-use mathlib.Core.Bool.{Bool, true, false, _||_, false≢true}
+use mathlib.Core.Path.{_≡_, refl, sym, ap, subst}
+use mathlib.Core.Logic.{_⊎_, inl, inr}
+use mathlib.Core.Bool.{Bool, true, false, _&&_, _||_}
 use mathlib.Core.List.{List, [], _∷_}
 use Prim.Native.Nat.{ℕ, zero, suc, _≤_, _<_}
 use native.Mathlib.Omega.{arith}
+use lib.Dec.{ltb, leb, eqb}
 use borrow.Author.Tests.{le-leb, lt-ltb, le-ltb, eq-eqb}
 use Rattle.words.specs.Cell.{firstWord, secondWord}
-use Rattle.words.specs.Second.{Second, stray, decode, bracketTo}
+use Rattle.words.specs.Second.{stray, decode}
+use Rattle.meaning.specs.Limits.{codeTest}
 use Rattle.meaning.specs.Sound.{isEmpty, isFull, IsCode}
 use Rattle.meaning.specs.Check.{endsBelow, brokenRule, cellTest}
 use Rattle.meaning.proofs.Lists.{lt-or-ge}
+use Rattle.meaning.proofs.Counting.{refuted}
+use Rattle.meaning.proofs.reach.Reaching.{or-left, or-right, or-cases}
 use Rattle.meaning.proofs.sound.Cells.{limit-fits}
 use Rattle.meaning.proofs.check.Rules.{Kept, bracket, symbol, free, RuleCases, kept, stray-bit, no-bracket, bad-empty}
 use Rattle.meaning.proofs.check.Rules.{bad-symbol, bad-ends, words-beyond, rule-cases, none-kept, kept-rule, cell-kept}
@@ -27,23 +31,28 @@ use Rattle.promises.specs.Table.{BeyondTop, rules, FirstOf, RulesInWords
 
 -- ---- a mark or a chain flag
 
-of-three : (t u v : Bool) → (t || u || v) ≡ true → (t ≡ true) ⊎ (u ≡ true) ⊎ (v ≡ true)
-of-three true u v e = inl refl
-of-three false true v e = inr (inl refl)
-of-three false false v e = inr (inr e)
+module _ (b : ℕ) where
+  abbrev two : Bool
+  two = decode b .used || decode b .lc
 
-none-of-three : (t u v : Bool) → (t || u || v) ≡ false → Not ((t ≡ true) ⊎ (u ≡ true) ⊎ (v ≡ true))
-none-of-three false false v e (inl h) = false≢true h
-none-of-three false false v e (inr (inl h)) = false≢true h
-none-of-three false false v e (inr (inr h)) = false≢true (sym e ∙ h)
-none-of-three true u v e h = false≢true (sym e)
-none-of-three false true v e h = false≢true (sym e)
+  stray-yes : stray (decode b) ≡ true → StrayBit b
+  stray-yes e = go (or-cases two (decode b .rc) e)
+    where
+      one : (decode b .used ≡ true) ⊎ (decode b .lc ≡ true) → StrayBit b
+      one (inl h) = inl h
+      one (inr h) = inr (inl h)
 
-stray-yes : (b : ℕ) → stray (decode b) ≡ true → StrayBit b
-stray-yes b e = of-three (decode b .used) (decode b .lc) (decode b .rc) e
+      go : (two ≡ true) ⊎ (decode b .rc ≡ true) → StrayBit b
+      go (inl h) = one (or-cases (decode b .used) (decode b .lc) h)
+      go (inr h) = inr (inr h)
 
-stray-no : (b : ℕ) → stray (decode b) ≡ false → Not (StrayBit b)
-stray-no b e = none-of-three (decode b .used) (decode b .lc) (decode b .rc) e
+  stray-no : stray (decode b) ≡ false → Not (StrayBit b)
+  stray-no = refuted (stray (decode b)) go
+    where
+      go : StrayBit b → stray (decode b) ≡ true
+      go (inl h) = or-left two (decode b .rc) (or-left (decode b .used) (decode b .lc) h)
+      go (inr (inl h)) = or-left two (decode b .rc) (or-right (decode b .used) (decode b .lc) h)
+      go (inr (inr h)) = or-right two (decode b .rc) h
 
 -- ---- the first that holds
 
@@ -62,10 +71,6 @@ first-once (A ∷ As) (suc (suc p)) (suc zero) x y = absurd (x .0 y)
 first-once (A ∷ As) (suc (suc p)) (suc (suc q)) x y = ap suc (first-once As (suc p) (suc q) (x .1) (y .1))
 
 -- ---- of the rules
-
--- a test that fails refutes what it tests
-fails : (t : Bool) {A : Type 0} → t ≡ false → (A → t ≡ true) → Not A
-fails t e f a = false≢true (sym e ∙ f a)
 
 module _ (F top c : ℕ) where
   ends-right : {l r : ℕ} → F ≤ l → l ≤ r → r < endsBelow F top c → EndsRight F top c l r
@@ -119,12 +124,13 @@ module _ (F top c a b : ℕ) where
   of-cases (no-bracket s h l m) = (stray-no b s, (h, l, m))
   of-cases (bad-empty s h e n) = (stray-no b s, (λ x. omega (arith, x .2), (h, e, n)))
   of-cases (bad-symbol s h l m t) =
-      let coded : Not (IsCode a × (b ≡ 0)) = fails _ t (λ x. rw (x .0, eq-eqb b 0 (x .1)) refl) in
+      let coded : Not (IsCode a × (b ≡ 0)) =
+      refuted (codeTest a && eqb b 0) (λ x. rw (x .0, eq-eqb b 0 (x .1)) refl) t in
       (stray-no b s, (λ x. omega (arith, x .1), (λ x. omega (arith, x .1), (h, m, coded))))
   of-cases (bad-ends s h r l e t) =
       let wrong : Not (EndsRight F top c a r) =
-      fails _ t (λ x. rw (le-leb F a (x .0), le-leb a r (x .1), lt-ltb r (endsBelow F top c) (right-ends F top c x)) refl)
-      in (
+      refuted (leb F a && leb a r && ltb r (endsBelow F top c)) (λ x.
+      rw (le-leb F a (x .0), le-leb a r (x .1), lt-ltb r (endsBelow F top c) (right-ends F top c x)) refl) t in (
         stray-no b s,
         (
           λ x. omega (arith, x .2),
@@ -138,7 +144,8 @@ module _ (F top c a b : ℕ) where
         ),
       )
   of-cases (words-beyond s l t) =
-      let some : Not ((a ≡ 0) × (b ≡ 0)) = fails _ t (λ x. rw (eq-eqb a 0 (x .0), eq-eqb b 0 (x .1)) refl) in (
+      let some : Not ((a ≡ 0) × (b ≡ 0)) =
+      refuted (eqb a 0 && eqb b 0) (λ x. rw (eq-eqb a 0 (x .0), eq-eqb b 0 (x .1)) refl) t in (
         stray-no b s,
         (
           λ x. omega (arith, x .0),
@@ -171,7 +178,7 @@ module _ (F top c a b : ℕ) where
     where
       go : (brokenRule F top c a b ≡ 0) ⊎ OneOf (brokenRule F top c a b) (1 ∷ 2 ∷ 3 ∷ 4 ∷ 5 ∷ 6 ∷ [])
           → OneOf (brokenRule F top c a b) (1 ∷ 2 ∷ 3 ∷ 4 ∷ 5 ∷ 6 ∷ [])
-      go (inl z) = absurd (false≢true (sym e ∙ eq-eqb (brokenRule F top c a b) 0 z))
+      go (inl z) = absurd (refuted (eqb (brokenRule F top c a b) 0) (eq-eqb (brokenRule F top c a b) 0) e z)
       go (inr o) = o
 
 pub rules-in-words : RulesInWords

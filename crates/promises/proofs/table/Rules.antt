@@ -1,7 +1,6 @@
 -- The check's answer by the rule that decides it. Assumes nothing.
-use mathlib.Core.Path.{_≡_, refl, sym, _∙_}
+use mathlib.Core.Path.{_≡_, refl}
 use mathlib.Core.Logic.{inl, inr, _≢_}
-use mathlib.Core.Bool.{Bool, true, false, false≢true}
 use mathlib.Core.List.{List, [], _∷_}
 use Prim.Native.Nat.{ℕ}
 use native.Mathlib.Omega.{arith}
@@ -10,14 +9,12 @@ use Rattle.words.specs.Cell.{firstWord, secondWord}
 use Rattle.meaning.specs.Sound.{capacity}
 use Rattle.meaning.specs.Verdicts.{Verdict}
 use Rattle.meaning.specs.Check.{brokenRule, cellTest, lengthTest, topTest, check}
+use Rattle.meaning.proofs.Counting.{refuted}
 use Rattle.meaning.proofs.sound.Cells.{limit-fits}
 use Rattle.meaning.proofs.check.Checking.{length-yes, yes-length, top-yes, yes-top, cell-yes, yes-cell, CheckCases}
 use Rattle.meaning.proofs.check.Checking.{length-bad, top-bad, cell-bad, sound, check-cases}
-use Rattle.promises.specs.Table.{OneOf, Not, Judged, badLength, badTop, badCell, isSound}
+use Rattle.promises.specs.Table.{OneOf, Judged, badLength, badTop, badCell, isSound}
 use Rattle.promises.proofs.table.Cells.{first-broken, broken-number}
-
-pub refuted : {A : Type 0} (t : Bool) → (A → t ≡ true) → t ≡ false → Not A
-refuted t f e a = false≢true (sym e ∙ f a)
 
 judge : (F : ℕ) (ws : List ℕ) (top : ℕ) (v : Verdict) → CheckCases F ws top v → Judged F ws top v
 judge F ws top v (length-bad e) = badLength (refuted (lengthTest F (length ws)) (yes-length F (length ws)) e)

@@ -24,6 +24,7 @@ use Rattle.meaning.specs.Operands.{opAt}
 use Rattle.meaning.specs.Call.{step}
 use Rattle.meaning.specs.Effect.{Effect, facts, effect, after, answer, callStatus}
 use Rattle.meaning.specs.Batch.{Outcome, ended, callsTest, batch}
+use Rattle.meaning.proofs.Counting.{refuted}
 use Rattle.meaning.proofs.look.Looking.{look-none, look-empty, look-size, look-word, look-unsound}
 use Rattle.meaning.proofs.check.Checking.{length-yes, yes-length, check-sound, sound-check}
 use Rattle.meaning.proofs.batch.Cases.{yes-calls, Cases, unsound, badCalls, shortAnswers, run, cases, batch-run}
@@ -34,8 +35,7 @@ use Rattle.promises.specs.Table.{LookTable, LookAnswers, Batched, badSpa
 use Rattle.promises.specs.Table.{CallAnswers}
 use Rattle.promises.specs.Table as table
 use Rattle.promises.proofs.calls.Calling.{calls-do}
-use Rattle.promises.proofs.table.Rules.{refuted, judged}
-use Rattle.promises.proofs.table.Rules.{judged-number, judged-zero, check-broken}
+use Rattle.promises.proofs.table.Rules.{judged, judged-number, judged-zero, check-broken}
 use Rattle.promises.proofs.table.Numbers.{own-number, unfit-number, first-of}
 
 -- ---- the check

@@ -5,7 +5,7 @@
 --   refusal, whole-does          a refusal but 16;  a whole text
 --   types-do                     the claim
 -- Assumes nothing.
-use mathlib.Core.Path.{_≡_, refl, sym, ap, ap₂, subst, _∙_}
+use mathlib.Core.Path.{_≡_, refl, sym, ap, subst, _∙_}
 use mathlib.Core.Logic.{_⊎_, inl, inr, _≢_}
 use mathlib.Core.Bool.{Bool, true, false, cond, false≢true}
 use mathlib.Core.List.{List}
@@ -20,7 +20,7 @@ use Rattle.meaning.specs.Sound.{at, capacity, Sound}
 use Rattle.meaning.specs.Meaning.{meaning}
 use Rattle.meaning.specs.Reach.{live}
 use Rattle.meaning.specs.Collected.{collected}
-use Rattle.meaning.specs.Verdicts.{Verdict, Done, refused, only, valued}
+use Rattle.meaning.specs.Verdicts.{Verdict, Done, refused, only}
 use Rattle.meaning.specs.Lay.{allTerms, lastBelow, laid, puts, newCells}
 use Rattle.meaning.specs.Call.{sought, lacks, carryOut}
 use Rattle.meaning.specs.Effect.{Effect, typing, after, answer}

@@ -23,6 +23,7 @@ use Rattle.meaning.specs.Check.{lengthTest, check}
 use Rattle.meaning.specs.Effect.{effect}
 use Rattle.meaning.specs.Batch.{Outcome, asLent}
 use Rattle.meaning.proofs.Lists.{lt-or-ge}
+use Rattle.meaning.proofs.Counting.{refuted}
 use Rattle.meaning.proofs.sound.Cells.{good, BracketIn, free-words}
 use Rattle.meaning.proofs.check.Checking.{length-yes, yes-length, check-sound, sound-check}
 use Rattle.meaning.proofs.collected.Determined.{is-collected}
@@ -36,7 +37,6 @@ use Rattle.promises.proofs.unique.Calls.{one-call}
 use Rattle.promises.proofs.unique.Texts.{typed-once}
 use Rattle.promises.proofs.Verdicts.{verdict-parts}
 use Rattle.promises.proofs.table.Cells.{first-once}
-use Rattle.promises.proofs.table.Rules.{refuted}
 
 pub one-answer : OneAnswer
 one-answer A B numbers inj b x y e f = inj x y (e ∙ sym f)

@@ -1,7 +1,7 @@
 -- `store::check` meets its contract. The scan's invariant: the first damaged cell of those left is the first of all.
 -- The measure is the number of cells left. Assumes nothing.
 use mathlib.Core.Path.{_≡_, sym, ap, _∙_}
-use mathlib.Core.Bool.{Bool, true}
+use mathlib.Core.Bool.{true}
 use Prim.Native.Nat.{_-_, _*_, _/_, _^_, _≤_, _<_}
 use native.Mathlib.Nat.{sub-zero}
 use native.Mathlib.Omega.{arith}
@@ -45,7 +45,8 @@ cells-at c =
 to-cells : (c : tie.Else2 Inv-loop μ-loop) →
     let a = c .before .before .before .before .before .args in
     let ws = a .ws .now in
-    check firstHeapCell ws (a .top) ≡ verdictAt firstHeapCell ws (a .top) (damaged firstHeapCell ws (a .top) 0 (length ws / 2))
+    let d = damaged firstHeapCell ws (a .top) 0 (length ws / 2) in
+    check firstHeapCell ws (a .top) ≡ verdictAt firstHeapCell ws (a .top) d
 to-cells c = check-cells firstHeapCell _ _ (long (c .before .before)) (low c)
 
 returns : tie.Need-returns Inv-loop μ-loop

@@ -114,15 +114,15 @@ every (c ∷ cs) = right c && every cs
 
 /// The definitions that the cases unfold.
 const UNFOLDING: &str = "\
-unfolding limit codeTest callsLimit programCells programBytes at reached live newAddress collectedOf collected
-    decode flag bracketRule belowRule brokenRule cellTest lengthTest topTest verdictAt check fresh freshIn collectIn spanOf
+unfolding limit codeTest callsLimit programCells programBytes at reached live newAddress collectedOf collected decode
+    flag bracketRule belowRule brokenRule cellTest lengthTest topTest verdictAt check fresh freshIn collectIn spanOf
     lookSpan ops opAt uses wrong11 wrong12 wrong13 fault put copy share head rest openTerm openFirst codeTerm
     codeFirst newSymbol newBracket newRunOf newRun names isOperand keeps sought planOf lacks roomWords roomTop
     withRoom carryOut perform stepAfter step ended callsTest batchOf batch decimal written refusal output inputFault
     program depthLimit meaning leftAfter tooDeep filled printed printIn isDigit withDigit firstMove laterMove moreMove
     atStart isWhole stopVerdict read blank newCells typedOf typeIn firstOf fileWords fileOf trailer cellsIn image
-    distanceTest capacityTest checkStore checkAs checkFile loadIn savedAs saveIn verdictTest told outcome left span textual
-    filed right every";
+    distanceTest capacityTest checkStore checkAs checkFile loadIn savedAs saveIn verdictTest told outcome left span
+    textual filed right every";
 
 /// A list of numbers in antt.
 fn list<T: std::fmt::Display>(numbers: &[T]) -> String {

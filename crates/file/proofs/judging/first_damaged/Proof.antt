@@ -28,8 +28,8 @@ loop-again c =
     let read = c .before .before in
     let at-loop = read .before .before .before in
     let h : at-loop .loop .c < at-loop .before .before .args .first + at-loop .before .before .args .n = omega arith in
-    let e = unbroken _ _ _ (read .before .first-word .ensures) (read .second-word .ensures) (c .before .cell-ok .ensures)
-    (not-false _ (c .if2 .left)) in
+    let e = unbroken _ _ _ (read .before .first-word .ensures) (read .second-word .ensures)
+    (c .before .cell-ok .ensures) (not-false _ (c .if2 .left)) in
     (omega arith, turn _ _ _ _ _ h e ∙ at-loop .loop .inv .1)
 
 returns : tie.Need-returns Inv-loop μ-loop
@@ -40,8 +40,8 @@ returns-2 c =
     let read = c .before .before in
     let at-loop = read .before .before .before in
     let h : at-loop .loop .c < at-loop .before .before .args .first + at-loop .before .before .args .n = omega arith in
-    let e = broken _ _ _ (read .before .first-word .ensures) (read .second-word .ensures) (c .before .cell-ok .ensures)
-    (not-true _ (c .if2 .taken)) in
+    let e = broken _ _ _ (read .before .first-word .ensures) (read .second-word .ensures)
+    (c .before .cell-ok .ensures) (not-true _ (c .if2 .taken)) in
     sym (stop _ _ _ _ _ h e) ∙ at-loop .loop .inv .1
 
 pub first-damaged-spec : {M : Type 1} → statement M

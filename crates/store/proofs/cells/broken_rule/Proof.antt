@@ -1,7 +1,6 @@
 -- `store::cells::broken_rule` meets its contract. Assumes nothing.
-use mathlib.Core.Path.{sym, _∙_}
 use borrow.Author.Needs.{needs}
-use borrow.Author.Tests.{lt-ltb, le-ltb, not-false}
+use borrow.Author.Tests.{lt-ltb, le-ltb}
 use Rattle.meaning.specs.Check.{brokenRule}
 use Rattle.store.proofs.cells.broken_rule.Statement.{statement}
 use Rattle.store.proofs.cells.broken_rule.Tie as tie

@@ -1,6 +1,5 @@
 -- `store::cells::cell_ok` meets its contract. Assumes nothing.
 use native.Mathlib.Omega.{arith}
-use borrow.Author.Needs.{needs}
 use Rattle.store.proofs.Rules.{register-right, heap-right, free-right}
 use Rattle.store.proofs.cells.cell_ok.Statement.{statement}
 use Rattle.store.proofs.cells.cell_ok.Tie as tie

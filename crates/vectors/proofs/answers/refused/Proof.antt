@@ -16,4 +16,5 @@ returns-3 c = (rw (c .before .why .given .1), refl)
 pub refused-spec : {M : Type 1} → statement M
 refused-spec =
     tie.close
-    (tie.spec (λ c. search needs) (λ c. search needs) (λ c. search needs) (λ c. search needs) returns returns-2 returns-3)
+    (tie.spec
+    (λ c. search needs) (λ c. search needs) (λ c. search needs) (λ c. search needs) returns returns-2 returns-3)
