@@ -1,11 +1,14 @@
 // The store for C and Rust. A slice crosses as a pointer and a count of words or bytes. No enum and no slice can come
 // back: a reply is a struct of SCOPE's numbers (5), so is what printing, typing and saving give, and a look is a place.
+// A text that comes in pieces is a struct too, which goes in and comes back by value.
 // Each exported function is one call of a proved one, and takes whatever it is handed.
 use calls::Ran;
 use collect::Collected;
 use file::Loaded;
 use file::Saved;
-use reader::judging::Fault;
+use pieces::Counted;
+use pieces::Pieces;
+use reader::judging::fault_number;
 use store::Checked;
 use store::Made;
 use store::Span;
@@ -17,9 +20,9 @@ ghost use Prim.Native.Nat.{_≤_};
 ghost use Rattle.meaning.specs.Limits.{limit};
 ghost use Rattle.meaning.specs.Verdicts.{valued};
 ghost use Rattle.store.specs.Answers.{refusalOf};
-ghost use Rattle.reader.specs.Readers.{faultOf};
 ghost use Rattle.capi.specs.Answers.{refusalIs, reply, Checks, Makes, Collects, Runs, Places, Prints, Types};
 ghost use Rattle.capi.specs.Answers.{Saves, Loads};
+ghost use Rattle.pieces.specs.States.{Starts, Feeds, Ends};
 
 // A status, the rule of a damaged cell or 0, the value that goes with the status, and `top` afterwards.
 #[repr(C)]
@@ -204,17 +207,6 @@ fn entry_with(status: u32, value: usize, top: usize) -> Entry
     }
 }
 
-// Why a text is refused, as a number.
-fn fault_number(fault: Fault) -> u32
-    ensures { λ r. ⌜ r ≡ faultOf fault ⌝ }
-{
-    match fault {
-        Fault::NoCode => 13,
-        Fault::TooDeep => 21,
-        Fault::NotText => 23,
-    }
-}
-
 // A text typed into a register. The text is only read.
 #[no_mangle]
 pub extern "C" fn zelmotar_type(words: &mut [u32], top: usize, reg: usize, text: &[u8]) -> Entry
@@ -235,6 +227,30 @@ pub extern "C" fn zelmotar_type(words: &mut [u32], top: usize, reg: usize, text:
         Typed::BadText(fault, at) => entry_with(fault_number(fault), at, top),
         Typed::NoRoom(low) => entry_with(16, 0, low),
     }
+}
+
+// A text that comes in pieces: before the first one.
+#[no_mangle]
+pub extern "C" fn zelmotar_text_start() -> Pieces
+    ensures { λ r. ⌜ Starts r ⌝ }
+{
+    pieces::start()
+}
+
+// A piece of it. The piece is only read.
+#[no_mangle]
+pub extern "C" fn zelmotar_text_feed(state: Pieces, piece: &[u8]) -> Pieces
+    ensures { λ r. ⌜ Feeds state (now (piece .entry)) r ⌝ }
+{
+    pieces::feed(state, piece)
+}
+
+// Its end.
+#[no_mangle]
+pub extern "C" fn zelmotar_text_end(state: Pieces) -> Counted
+    ensures { λ r. ⌜ Ends state r ⌝ }
+{
+    pieces::end(state)
 }
 
 // A look at a register: the place of its cells, by which the caller takes the part.

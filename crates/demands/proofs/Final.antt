@@ -1,15 +1,17 @@
 -- The claims of specs/, each with its proof. Nothing else stands here.
 -- Assumes nothing.
 use Rattle.demands.specs.Contracts.{CheckSays, FreshSays, LookSays, SpanSays, CollectSays, RunSays, PrintSays}
-use Rattle.demands.specs.Contracts.{TypeSays, LoadSays, SaveSays}
+use Rattle.demands.specs.Contracts.{TypeSays, StartSays, FeedSays, EndSays, LoadSays, SaveSays}
 use Rattle.demands.specs.Run.{CheckMeets, FreshMeets, LookMeets, SpanMeets, CollectMeets, RunMeets, PrintMeets}
 use Rattle.demands.specs.Run.{PrintsNeverShow}
 use Rattle.demands.specs.Texts.{TypeMeets, PrintThenType, TypeThenPrint}
+use Rattle.demands.specs.Pieces.{PiecesCount, PiecesAlike, RefusedForGood, EndMeets, FeedsAppend, PiecesThenType}
 use Rattle.demands.specs.Files.{LoadMeets, SaveMeets, SaveThenLoad, LoadThenSave}
 use Rattle.demands.specs.Runs.{RunsNeverShow, FreshRunsNeverShow}
 use Rattle.demands.specs.Example.{PremisesMet, HistoriesUnseen, OneMoreCollection}
 use Rattle.demands.proofs.Uses as uses
 use Rattle.demands.proofs.Texts as texts
+use Rattle.demands.proofs.Pieces as pieces
 use Rattle.demands.proofs.Files as files
 use Rattle.demands.proofs.Histories as histories
 use Rattle.demands.proofs.Stores as stores
@@ -39,6 +41,15 @@ print-says κs ws top i out = (tt, λ r v a h. h)
 
 pub type-says : TypeSays
 type-says κs ws top d bs = (tt, λ r v b h. h)
+
+pub start-says : StartSays
+start-says κs = (tt, λ r h. h)
+
+pub feed-says : FeedSays
+feed-says κs s piece = (tt, λ r b h. h)
+
+pub end-says : EndSays
+end-says κs s = (tt, λ r h. h)
 
 pub load-says : LoadSays
 load-says κs ws bs = (tt, λ r v b h. h)
@@ -77,6 +88,24 @@ print-then-type = texts.print-then-type
 
 pub type-then-print : TypeThenPrint
 type-then-print = texts.type-then-print
+
+pub pieces-count : PiecesCount
+pieces-count = pieces.pieces-count
+
+pub pieces-alike : PiecesAlike
+pieces-alike = pieces.pieces-alike
+
+pub refused-for-good : RefusedForGood
+refused-for-good = pieces.refused-for-good
+
+pub end-meets : EndMeets
+end-meets = pieces.end-meets
+
+pub feeds-append : FeedsAppend
+feeds-append = pieces.feeds-append
+
+pub pieces-then-type : PiecesThenType
+pieces-then-type = pieces.pieces-then-type
 
 pub load-meets : LoadMeets
 load-meets = files.load-meets

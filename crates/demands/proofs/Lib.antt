@@ -1,6 +1,7 @@
 -- The proofs of the claims in specs/. In order:
 --   Uses       one use of a public function
 --   Texts      one use of `typing::type_in`, and texts back and forth
+--   Pieces     uses of `pieces::start`, `pieces::feed` and `pieces::end`
 --   Files      one use of `file::load` and of `file::save`, and a controller swap
 --   Lists      lists of requests with their answers
 --   Histories  two histories of uses
@@ -9,6 +10,7 @@
 -- Assumes nothing.
 pub mod Uses
 pub mod Texts
+pub mod Pieces
 pub mod Files
 pub mod Lists
 pub mod Histories

@@ -5,7 +5,7 @@ use Prim.Native.Nat.{ℕ, _+_, _*_}
 use native.Mathlib.Omega.{arith}
 use lib.ListN.{getD}
 use Rattle.words.specs.Second.{flag, decode}
-use Rattle.meaning.specs.Limits.{limit, codeTest, depthLimit, callsLimit}
+use Rattle.meaning.specs.Limits.{limit, codeTest, depthLimit, termsLimit, callsLimit}
 use Rattle.meaning.specs.Sound.{at}
 use Rattle.meaning.specs.Reach.{reached, live}
 use Rattle.meaning.specs.Collected.{newAddress, collectedOf, collected}
@@ -18,7 +18,7 @@ use Rattle.meaning.specs.Call.{keeps, sought, planOf, lacks, roomWords, roomTop
 use Rattle.meaning.specs.Call.{step}
 use Rattle.meaning.specs.Batch.{ended, callsTest, batchOf, batch}
 use Rattle.meaning.specs.Judge.{isDigit, withDigit, firstMove, laterMove, moreMove}
-use Rattle.meaning.specs.Reader.{atStart, isWhole, stopVerdict, read, blank}
+use Rattle.meaning.specs.Reader.{isFull, atStart, isWhole, stopVerdict, read, blank}
 use Rattle.meaning.specs.Lay.{newCells}
 use Rattle.meaning.specs.Typed.{typedOf, typeIn}
 use Rattle.collect.specs.declared.Collected.the-variants as done
@@ -39,11 +39,11 @@ record Computed : Type 0 where
       (wordsAfter second secondHistory)
 
 computed : Computed
-unfolding limit codeTest depthLimit callsLimit at reached live newAddress collectedOf collected decode flag
+unfolding limit codeTest depthLimit termsLimit callsLimit at reached live newAddress collectedOf collected decode flag
     bracketRule belowRule brokenRule cellTest lengthTest topTest verdictAt check collectIn ops opAt uses wrong11
     wrong12 wrong13 fault put copy share head rest openTerm openFirst codeTerm codeFirst newSymbol newBracket newRunOf
     newRun names isOperand keeps sought planOf lacks roomWords roomTop withRoom carryOut perform stepAfter step ended
-    callsTest batchOf batch isDigit withDigit firstMove laterMove moreMove atStart isWhole stopVerdict read blank
+    callsTest batchOf batch isDigit withDigit firstMove laterMove moreMove isFull atStart isWhole stopVerdict read blank
     newCells typedOf typeIn
 computed = record {
   sound = refl;

@@ -55,6 +55,7 @@ refusal-small (unsound.Damaged c q) z = omega (arith, z)
 fault-away : (f : Fault) → (faultOf f ≢ 0) × (faultOf f ≢ 16)
 fault-away fault.NoCode = (λ z. omega (arith, z), λ z. omega (arith, z))
 fault-away fault.TooDeep = (λ z. omega (arith, z), λ z. omega (arith, z))
+fault-away fault.TooMany = (λ z. omega (arith, z), λ z. omega (arith, z))
 fault-away fault.NotText = (λ z. omega (arith, z), λ z. omega (arith, z))
 
 module _ (ws : List ℕ) (top d : ℕ) (bs : List ℕ) where
@@ -103,7 +104,7 @@ module _ (ws : List ℕ) (top d : ℕ) (bs : List ℕ) where
       record {
         sound = (c .0, x .sound);
         register = c .1;
-        whole = (c .2, writes-back bs (c .2) .1);
+        whole = (c .2, writes-back bs (c .2) .2);
         denotes = said-done firstHeapCell ws top d bs (done v t 0) (c .1) x refl;
         others = λ i l n. x .registers i l ∙ rw (ne-eqb i d n) refl;
         alone = subst (λ (r : Done). OwnAlone d (typedFrom firstHeapCell ws top d bs) (allTerms (said bs)) (r .words))

@@ -1,7 +1,8 @@
 -- What a caller knows once a public function is back: what its contract promises, over plain lists. `Asked` and
--- `Learnt` are what Rattle reads off the contract in the lib.rt of `store`, `collect`, `calls`, `text`, `typing` or
--- `file`: what a caller must show, and what it may use. Each claim says that nothing is asked, and that this is learnt,
--- whatever the lifetimes κs are. ws and top are lent, r is returned, v are the words that are left. Assumes nothing.
+-- `Learnt` are what Rattle reads off the contract in the lib.rt of `store`, `collect`, `calls`, `text`, `typing`,
+-- `pieces` or `file`: what a caller must show, and what it may use. Each claim says that nothing is asked, and that this
+-- is learnt, whatever the lifetimes κs are. ws and top are lent, r is returned, v are the words that are left. Assumes
+-- nothing.
 use mathlib.Core.List.{List}
 use Prim.Native.Nat.{ℕ}
 use denote.Ref.{RefT, now}
@@ -19,6 +20,9 @@ use Rattle.text.specs.Answers.{Prints}
 use Rattle.text.specs.declared.Printed.{Printed}
 use Rattle.typing.specs.Answers.{Types}
 use Rattle.typing.specs.declared.Typed.{Typed}
+use Rattle.pieces.specs.States.{Starts, Feeds, Ends}
+use Rattle.pieces.specs.declared.Counted.{Counted}
+use Rattle.pieces.specs.declared.Pieces.{Pieces}
 use Rattle.file.specs.Answers.{Loads, Saves}
 use Rattle.file.specs.declared.Loaded.{Loaded}
 use Rattle.file.specs.declared.Saved.{Saved}
@@ -30,6 +34,9 @@ use Rattle.collect.proofs.collect.Reads as collect-contract
 use Rattle.calls.proofs.run.Reads as run-contract
 use Rattle.text.proofs.print.Reads as print-contract
 use Rattle.typing.proofs.type_in.Reads as type-contract
+use Rattle.pieces.proofs.start.Reads as start-contract
+use Rattle.pieces.proofs.feed.Reads as feed-contract
+use Rattle.pieces.proofs.end.Reads as end-contract
 use Rattle.file.proofs.load.Reads as load-contract
 use Rattle.file.proofs.save.Reads as save-contract
 
@@ -98,6 +105,22 @@ TypeSays =
     × ((r : Typed) (v b : Slice)
     → type-contract.Learnt κs (ws, (top, (d, (bs, tt)))) r (v, (top, (d, (b, tt))))
     → Types (now ws) top d (now bs) r (now v))
+
+-- ---- `pieces::start`, `pieces::feed`, of a piece, which is only read, to any struct s, and `pieces::end`
+
+abbrev pub StartSays : Type 0
+StartSays =
+    (κs : Lfts 0) → start-contract.Asked κs tt × ((r : Pieces) → start-contract.Learnt κs tt r tt → Starts r)
+
+abbrev pub FeedSays : Type 0
+FeedSays =
+    (κs : Lfts 1) (s : Pieces) (piece : Slice) → feed-contract.Asked κs (s, (piece, tt))
+    × ((r : Pieces) (b : Slice) → feed-contract.Learnt κs (s, (piece, tt)) r (s, (b, tt)) → Feeds s (now piece) r)
+
+abbrev pub EndSays : Type 0
+EndSays =
+    (κs : Lfts 0) (s : Pieces) → end-contract.Asked κs (s, tt)
+    × ((r : Counted) → end-contract.Learnt κs (s, tt) r (s, tt) → Ends s r)
 
 -- ---- `file::load`, of a file bs, which is only read, into the slice ws
 

@@ -41,6 +41,7 @@ pub mod batch
 pub mod program
 pub mod text
 pub mod reader
+pub mod pieces
 pub mod twins
 pub mod typed
 pub mod file

@@ -20,8 +20,10 @@
 --   Judge      the judgement of a byte of a text that is read
 --   Reader     a text read: where it stops, or the expression that it denotes
 --   Typed      a register typed in
+--   Pieces     a text counted, whole and as it arrives in pieces
 --   Rows       the worked stores P1 to P14, as one table
 --   TextRows   the texts to try, as one table
+--   PieceRows  the texts in pieces to try, as one table
 --   File       a store as a file: its bytes, loading and saving
 --   FileRows   the files to try, as one table
 -- Everything is over the first heap cell F as a parameter. In a signature `ws` are the store's words and `c` is a cell.
@@ -49,7 +51,9 @@ pub mod Text
 pub mod Judge
 pub mod Reader
 pub mod Typed
+pub mod Pieces
 pub mod Rows
 pub mod TextRows
+pub mod PieceRows
 pub mod File
 pub mod FileRows

@@ -21,6 +21,10 @@ codeTest a = leb 1 a && leb a 268435455
 unfoldable pub depthLimit : ℕ
 depthLimit = 64
 
+-- The most terms that a text may have, on all levels. `limit-within` says that a store has no more cells.
+unfoldable pub termsLimit : ℕ
+termsLimit = 65536
+
 -- the longest call list, in words
 unfoldable pub callsLimit : ℕ
 callsLimit = 4096

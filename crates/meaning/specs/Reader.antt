@@ -3,7 +3,8 @@
 use mathlib.Core.Bool.{Bool, true, false, _&&_}
 use mathlib.Core.List.{List, [], _∷_}
 use Prim.Native.Nat.{ℕ, suc, _-_}
-use lib.Dec.{eqb}
+use lib.Dec.{leb, eqb}
+use Rattle.meaning.specs.Limits.{termsLimit}
 use Rattle.meaning.specs.Expr.{Expr, nothing, symbol, parens, append}
 use Rattle.meaning.specs.Verdicts.{Verdict, valued}
 use Rattle.meaning.specs.Judge.{Stand, begun, spaced, number, closed, stopped}
@@ -30,8 +31,12 @@ moved opens r = reader begun (suc (r .offset)) (suc (r .depth)) (suc (r .total))
 moved closes r = reader closed (suc (r .offset)) (r .depth - 1) (r .total)
 moved parts r = reader spaced (suc (r .offset)) (r .depth) (r .total)
 
+-- as many terms have begun as a text may have
+unfoldable pub isFull : Reader → Bool
+isFull r = leb termsLimit (r .total)
+
 unfoldable pub advance : ℕ → Reader → Reader
-advance b r = moved (judge (r .stand) (r .depth) b) r
+advance b r = moved (judge (r .stand) (r .depth) (isFull r) b) r
 
 abbrev pub advances : Reader → List ℕ → Reader
 advances r [] = r
@@ -110,7 +115,7 @@ abbrev pub takes : Move → Draft → Draft
 takes m r = record { place = moved m (r .place); around = aroundAfter m r; own = ownAfter m r }
 
 unfoldable pub read : ℕ → Draft → Draft
-read b r = takes (judge (r .place .stand) (r .place .depth) b) r
+read b r = takes (judge (r .place .stand) (r .place .depth) (isFull (r .place)) b) r
 
 abbrev pub reads : Draft → List ℕ → Draft
 reads r [] = r

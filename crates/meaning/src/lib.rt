@@ -15,6 +15,9 @@ pub const CODE_LIMIT: u32 = 268435455;
 // The most brackets that may be open at one place of a text.
 pub const DEPTH_LIMIT: usize = 64;
 
+// The most terms that a text may have, on all levels.
+pub const TERMS_LIMIT: usize = 65536;
+
 // The longest call list, in words.
 pub const CALL_WORDS: usize = 4096;
 

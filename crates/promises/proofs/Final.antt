@@ -9,10 +9,12 @@ use Rattle.promises.specs.Outright.{CallsOutright}
 use Rattle.promises.specs.Alike.{AlikeIsCollected, CollectionsNeverShow}
 use Rattle.promises.specs.Printing.{TextInWords, OneText, PrintAnswers, PrintsAlike, CollectionsUnprinted}
 use Rattle.promises.specs.Printing.{AlikePrinted}
-use Rattle.promises.specs.Reading.{ReadsBack, WritesBack, StopsLeftmost, OneRefusal}
+use Rattle.promises.specs.Reading.{TermsBegin, ReadsBack, WritesBack, StopsLeftmost, OneRefusal}
 use Rattle.promises.specs.Typing.{TypesDo, TypeAnswers}
 use Rattle.promises.specs.Holding.{NewCellsOnly}
 use Rattle.promises.specs.Again.{PrintedTyped, TypedPrinted, PrintsNoZero}
+use Rattle.promises.specs.Pieces.{MostInWords, OneMost, CountAnswers, OneCount, CutAnywhere, FedAppend}
+use Rattle.promises.specs.Pieces.{RefusedStays, CountTells}
 use Rattle.promises.specs.Files.{FileInWords, OneFile, OneEdition, LoadAnswers, SaveAnswers}
 use Rattle.promises.specs.Swap.{SavedLoads, LoadedIsSound, LoadedSaves}
 use Rattle.promises.specs.Program.{ProgramWrites, ProgramReads}
@@ -30,7 +32,11 @@ use Rattle.promises.proofs.alike.Alikes as alikes
 use Rattle.promises.proofs.alike.Striking as struck
 use Rattle.promises.proofs.printing.Meeting as meeting
 use Rattle.promises.proofs.printing.Printed as printing
+use Rattle.promises.proofs.reading.Beginning as beginning
 use Rattle.promises.proofs.reading.Refusing as reading
+use Rattle.promises.proofs.pieces.Most as most
+use Rattle.promises.proofs.pieces.Whole as whole
+use Rattle.promises.proofs.pieces.Cutting as cutting
 use Rattle.promises.proofs.typing.Typing as typing
 use Rattle.promises.proofs.typing.Answers as typed
 use Rattle.promises.proofs.typing.Again as again
@@ -132,6 +138,9 @@ alike-printed = printing.alike-printed
 
 -- ---- a text read
 
+pub terms-begin : TermsBegin
+terms-begin = beginning.terms-begin
+
 pub reads-back : ReadsBack
 reads-back = reading.reads-back
 
@@ -160,6 +169,29 @@ typed-printed = again.typed-printed
 
 pub prints-no-zero : PrintsNoZero
 prints-no-zero = again.prints-no-zero
+
+-- ---- a text in pieces
+
+pub most-in-words : MostInWords
+most-in-words = most.most-in-words
+
+pub one-most : OneMost
+one-most = most.one-most
+
+pub count-answers : CountAnswers
+count-answers = whole.count-answers
+
+pub cut-anywhere : CutAnywhere
+cut-anywhere = cutting.cut-anywhere
+
+pub fed-append : FedAppend
+fed-append = cutting.fed-append
+
+pub refused-stays : RefusedStays
+refused-stays = cutting.refused-stays
+
+pub count-tells : CountTells
+count-tells = whole.count-tells
 
 -- ---- files
 
@@ -235,6 +267,9 @@ one-refusal = reading.one-refusal
 
 pub one-type : OneType
 one-type = typed.one-type
+
+pub one-count : OneCount
+one-count = whole.one-count
 
 pub one-program : OneProgram
 one-program = program.one-program

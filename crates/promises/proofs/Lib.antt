@@ -12,6 +12,7 @@ pub mod outright
 pub mod alike
 pub mod printing
 pub mod reading
+pub mod pieces
 pub mod files
 pub mod program
 pub mod unique

@@ -13,6 +13,7 @@
 --   Typing      demands 1 and 2: a text typed into a register
 --   Holding     demand 2: what holds the new cells of a typed text
 --   Again       demand 2: printed and typed in again, typed in and printed again
+--   Pieces      demands 1 and 2: a text counted as it arrives in pieces
 --   Files       demands 1 and 2: what a file is; a file loaded, a store saved
 --   Swap        demand 2: saved and loaded again, loaded and saved again
 --   Program     what the program writes for what it reads;  ProgramRows  byte for byte
@@ -33,6 +34,7 @@ pub mod Reading
 pub mod Typing
 pub mod Holding
 pub mod Again
+pub mod Pieces
 pub mod Files
 pub mod Swap
 pub mod Program

@@ -91,8 +91,8 @@ TypesDo =
 -- ---- into any words
 
 pub record TypeTable (F : ℕ) (ws : List ℕ) (top d : ℕ) (bs : List ℕ) (r : Done) : Type 0 where
-  pub number : OneOf (r .verdict .status) (0 ∷ 1 ∷ 2 ∷ 3 ∷ 13 ∷ 16 ∷ 20 ∷ 21 ∷ 23 ∷ [])
-  -- 3 has a cell for its value, 13, 21 and 23 an offset
+  pub number : OneOf (r .verdict .status) (0 ∷ 1 ∷ 2 ∷ 3 ∷ 13 ∷ 16 ∷ 20 ∷ 21 ∷ 23 ∷ 24 ∷ [])
+  -- 3 has a cell for its value, 13, 21, 23 and 24 an offset
   pub value : OneOf (r .verdict .status) (0 ∷ 1 ∷ 2 ∷ 16 ∷ 20 ∷ []) → r .verdict .value ≡ 0
   pub rule : r .verdict .status ≢ 3 → r .verdict .rule ≡ 0
   pub types : Sound F ws top → TypedIn F ws top d bs r

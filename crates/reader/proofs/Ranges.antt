@@ -14,20 +14,20 @@ use lib.ListN.{length, drop, getD, drop-of-length-le}
 use lib.Seq.{drop-cons}
 use Rattle.meaning.specs.Limits.{codeTest}
 use Rattle.meaning.specs.Judge.{Stand, begun, spaced, number, closed, stopped, Move, judge}
-use Rattle.meaning.specs.Reader.{Reader, reader, moved, advance, advances, atStart}
+use Rattle.meaning.specs.Reader.{Reader, reader, moved, isFull, advance, advances, atStart}
 use Rattle.meaning.proofs.sound.Cells.{code-fits}
 use Rattle.meaning.proofs.reader.Moves.{judge-cases}
-use Rattle.meaning.proofs.reader.Standing as standing
+use Rattle.meaning.proofs.reader.Freely as free
 use Rattle.reader.specs.Readers.{readerOf, isStopped, CanRead, Suits}
 use Rattle.reader.specs.declared.Reader as code
 
 pub code-asked : {x y : ℕ} {r t : Bool} → x ≡ y → r ≡ codeTest x → r ≡ t → codeTest y ≡ t
 code-asked e q h = sym (ap codeTest e) ∙ (sym q ∙ h)
 
-pub judge-suits : (s : Stand) (depth b : ℕ) → Suits (judge s depth b) b depth
-judge-suits s depth b =
-    judge-cases (λ (m : Move). Suits m b depth) b depth (λ s. tt)
-    (λ d e h k. (omega arith, omega arith, code-fits d k)) (λ e h. tt)
+pub judge-suits : (s : Stand) (depth : ℕ) (full : Bool) (b : ℕ) → Suits (judge s depth full b) b depth
+judge-suits s depth full b =
+    judge-cases (λ (m : Move). Suits m b depth) b depth full (λ s. tt)
+    (λ d e h k n. (omega arith, omega arith, code-fits d k)) (λ e h n. tt)
     (λ a d e h l. (omega arith, omega arith, code-fits (10 * a + d) l)) (λ e h. h) (λ e. tt) s
 
 -- ---- one byte
@@ -49,9 +49,10 @@ stays r q i k o d t = record {
 advance-range : (b : ℕ) (r : Reader) (i : ℕ) → InRange r i → InRange (advance b r) (suc i)
 unfolding advance
 advance-range b r i k =
-    judge-cases (λ (m : Move). InRange (moved m r) (suc i)) b (r .depth)
+    judge-cases (λ (m : Move). InRange (moved m r) (suc i)) b (r .depth) (isFull r)
     (λ s. record { far = omega (arith, k .far); deep = k .deep; many = k .many })
-    (λ d e h l. stays r _ i k refl (omega arith) (omega arith)) (λ e h. stays r _ i k refl (omega arith) (omega arith))
+    (λ d e h l n. stays r _ i k refl (omega arith) (omega arith))
+    (λ e h n. stays r _ i k refl (omega arith) (omega arith))
     (λ a d e h l. stays r _ i k refl (omega arith) (omega arith))
     (λ e h. stays r _ i k refl (omega arith) (omega arith)) (λ e. stays r _ i k refl (omega arith) (omega arith))
     (r .stand)
@@ -68,7 +69,7 @@ keeps r bs e = go (r .stand) refl e
     go closed f g = absurd (false≢true g)
     go (stopped s) f g =
         subst (λ (x : Stand). advances (reader x (r .offset) (r .depth) (r .total)) bs
-        ≡ reader x (r .offset) (r .depth) (r .total)) (sym f) (standing.stays bs s (r .offset) (r .depth) (r .total))
+        ≡ reader x (r .offset) (r .depth) (r .total)) (sym f) (free.stays bs s (r .offset) (r .depth) (r .total))
 
 pub record Reading (bs : List ℕ) (r : Reader) (i : ℕ) : Type 0 where
   pub most : i ≤ length bs
@@ -91,8 +92,8 @@ pub can-read : (bs : List ℕ) (r : code.Reader) (i : ℕ) → Read bs r i → i
 can-read bs r i k h l = record {
   small = k .1;
   before = omega (arith, k .0 .range .far);
-  deep = k .0 .range .deep;
-  many = k .0 .range .many;
+  deep = omega (arith, k .0 .range .far, k .0 .range .deep);
+  many = omega (arith, k .0 .range .far, k .0 .range .many);
 }
 
 module _ (bs : List ℕ) (r : Reader) (i : ℕ) (k : Reading bs r i) where

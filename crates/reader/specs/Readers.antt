@@ -23,6 +23,7 @@ use Rattle.reader.specs.declared.Found.the-variants.{Whole, Bad}
 abbrev pub faultOf : Fault → ℕ
 faultOf fault.NoCode = 13
 faultOf fault.TooDeep = 21
+faultOf fault.TooMany = 24
 faultOf fault.NotText = 23
 
 -- with a, the last code as far as it is read
@@ -79,8 +80,8 @@ IsStopped s r = (a : ℕ) → r ≡ isStopped (standOf s a)
 pub record CanRead (r : Reader) : Type 0 where
   pub small : r .code < 2 ^ 28
   pub before : suc (r .offset) < 2 ^ 64
-  pub deep : r .depth ≤ r .offset
-  pub many : r .total ≤ r .offset
+  pub deep : suc (r .depth) < 2 ^ 64
+  pub many : suc (r .total) < 2 ^ 64
 
 -- and the byte b is what the move says: a digit of a code, or a bracket that closes one
 abbrev pub Suits : said.Move → ℕ → ℕ → Type 0

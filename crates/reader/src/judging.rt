@@ -1,18 +1,32 @@
-// The judgement of a byte of a text that is read (SCOPE 5.8): where the reader stands, how many brackets are open and
-// the code so far decide what a byte does. A text is read by one judgement after the other. No case of a stand or a
-// move has a number of its own beside it: the compiler can then go from a judgement right to what it leads to.
+// The judgement of a byte of a text that is read (SCOPE 5.8): where the reader stands, how many brackets are open,
+// whether the text is full and the code so far decide what a byte does. A text is read by one judgement after the
+// other, whole or in pieces. No case of a stand or a move has a number of its own beside it: the compiler can then go
+// from a judgement right to what it leads to.
 ghost use mathlib.Core.Path.{_≡_};
 ghost use Prim.Native.Nat.{_≤_, _<_, _^_};
 ghost use Rattle.meaning.specs.Judge.{isDigit, withDigit, firstMove, laterMove, moreMove, judge};
-ghost use Rattle.reader.specs.Readers.{standOf, moveOf, IsMove};
+ghost use Rattle.reader.specs.Readers.{faultOf, standOf, moveOf, IsMove};
 use store::cells::is_code;
 
-// Why a text is refused: a number that is no code, a bracket that is one too many, or a byte that cannot continue a
-// text.
+// Why a text is refused: a number that is no code, a bracket that is one too many, a term that is one too many, or a
+// byte that cannot continue a text.
 pub enum Fault {
     NoCode,
     TooDeep,
+    TooMany,
     NotText,
+}
+
+// Why a text is refused, as SCOPE's number.
+pub fn fault_number(fault: Fault) -> u32
+    ensures { λ r. ⌜ r ≡ faultOf fault ⌝ }
+{
+    match fault {
+        Fault::NoCode => 13,
+        Fault::TooDeep => 21,
+        Fault::TooMany => 24,
+        Fault::NotText => 23,
+    }
 }
 
 // Where the reader stands.
@@ -54,11 +68,15 @@ pub fn with_digit(code: u32, b: u8) -> u32
     10 * code + (b - 48) as u32
 }
 
-// A byte where a term may begin.
-fn first_move(depth: usize, b: u8) -> Move
-    ensures { λ r. ⌜ IsMove r b (firstMove depth b) ⌝ }
+// A byte where a term may begin. At one byte a bracket that is one too many goes before a term that is, and this before
+// a digit that is no code.
+fn first_move(depth: usize, full: bool, b: u8) -> Move
+    ensures { λ r. ⌜ IsMove r b (firstMove depth full b) ⌝ }
 {
     if is_digit(b) {
+        if full {
+            return Move::Stops(Fault::TooMany);
+        }
         if is_code(with_digit(0, b)) {
             return Move::Begins;
         }
@@ -66,6 +84,9 @@ fn first_move(depth: usize, b: u8) -> Move
     }
     if b == b'(' {
         if depth < meaning::DEPTH_LIMIT {
+            if full {
+                return Move::Stops(Fault::TooMany);
+            }
             return Move::Opens;
         }
         return Move::Stops(Fault::TooDeep);
@@ -104,19 +125,19 @@ fn more_move(code: u32, depth: usize, b: u8) -> Move
 }
 
 // The judgement.
-pub fn judge(stand: Stand, code: u32, depth: usize, b: u8) -> Move
+pub fn judge(stand: Stand, code: u32, depth: usize, full: bool, b: u8) -> Move
     requires { ⌜ code < 2 ^ 28 ⌝ }
-    ensures { λ r. ⌜ moveOf r code b ≡ judge (standOf stand code) depth b ⌝ }
+    ensures { λ r. ⌜ moveOf r code b ≡ judge (standOf stand code) depth full b ⌝ }
 {
     match stand {
         Stand::Begun => {
             if b == b')' {
                 later_move(depth, b)
             } else {
-                first_move(depth, b)
+                first_move(depth, full, b)
             }
         }
-        Stand::Spaced => first_move(depth, b),
+        Stand::Spaced => first_move(depth, full, b),
         Stand::Number => more_move(code, depth, b),
         Stand::Closed => later_move(depth, b),
         Stand::Stopped(fault) => Move::Stops(fault),

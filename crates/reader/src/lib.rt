@@ -1,9 +1,11 @@
 // A text read byte by byte, in one pass (SCOPE 5.8): where the reader stands decides what a byte does, and a byte that
 // cannot go on stops it for good. The state is a struct by value. Nothing is laid here: reading tells how many terms a
-// text has, or why it is none.
-ghost use Rattle.meaning.specs.Reader.{moved, advance, advances, atStart};
-ghost use Rattle.reader.specs.Readers.{moveOf, readerOf, CanGo, CanRead, Reads, MayEnd, IsWhole, StopsFor};
-ghost use Rattle.reader.specs.Readers.{IsStopped, Finds};
+// text has, or why it is none. Crate `pieces` goes the same way, a piece at a time.
+ghost use mathlib.Core.Path.{_≡_};
+ghost use Rattle.meaning.specs.Judge.{judge};
+ghost use Rattle.meaning.specs.Reader.{moved, isFull, advance, advances, atStart};
+ghost use Rattle.reader.specs.Readers.{moveOf, standOf, readerOf, CanGo, CanRead, Reads, MayEnd, IsWhole};
+ghost use Rattle.reader.specs.Readers.{StopsFor, IsStopped, Finds};
 use crate::judging::Fault;
 use crate::judging::Move;
 use crate::judging::Stand;
@@ -23,7 +25,7 @@ pub struct Reader {
 }
 
 // What the byte b leaves.
-fn go(m: Move, b: u8, r: Reader) -> Reader
+pub fn go(m: Move, b: u8, r: Reader) -> Reader
     requires { ⌜ CanGo (moveOf m (r .code) b) b r ⌝ }
     ensures { λ q. ⌜ Reads q (moved (moveOf m (r .code) b) (readerOf r)) ⌝ }
 {
@@ -77,13 +79,22 @@ fn go(m: Move, b: u8, r: Reader) -> Reader
     }
 }
 
+// What the byte b does.
+pub fn judge_byte(r: Reader, b: u8) -> Move
+    requires { ⌜ CanRead r ⌝ }
+    ensures { λ m. ⌜ (moveOf m (r .code) b ≡ judge (standOf (r .stand) (r .code)) (r .depth) (isFull (readerOf r)) b)
+        × CanGo (moveOf m (r .code) b) b r ⌝ }
+{
+    let stand = r.stand;
+    judge(stand, r.code, r.depth, meaning::TERMS_LIMIT <= r.total, b)
+}
+
 // One byte read.
 pub fn read_byte(r: Reader, b: u8) -> Reader
     requires { ⌜ CanRead r ⌝ }
     ensures { λ q. ⌜ Reads q (advance b (readerOf r)) ⌝ }
 {
-    let stand = r.stand;
-    go(judge(stand, r.code, r.depth, b), b, r)
+    go(judge_byte(r, b), b, r)
 }
 
 // Whether a text may end where the reader stands; and with no bracket open.
@@ -99,7 +110,7 @@ fn may_end(stand: Stand) -> bool
     }
 }
 
-fn is_whole(stand: Stand, depth: usize) -> bool
+pub fn is_whole(stand: Stand, depth: usize) -> bool
     ensures { λ r. ⌜ IsWhole stand depth r ⌝ }
 {
     if may_end(stand) {
@@ -109,7 +120,7 @@ fn is_whole(stand: Stand, depth: usize) -> bool
 }
 
 // Why a text may not end where the reader stands.
-fn stop_fault(stand: Stand) -> Fault
+pub fn stop_fault(stand: Stand) -> Fault
     ensures { λ r. ⌜ StopsFor stand r ⌝ }
 {
     match stand {
@@ -122,7 +133,7 @@ fn stop_fault(stand: Stand) -> Fault
 }
 
 // Whether a byte has stopped the reader: no further one changes anything.
-fn is_stopped(stand: Stand) -> bool
+pub fn is_stopped(stand: Stand) -> bool
     ensures { λ r. ⌜ IsStopped stand r ⌝ }
 {
     match stand {

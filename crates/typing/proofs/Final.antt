@@ -22,7 +22,8 @@ answerBy v t s =
     (cond (eqb s 13) (typed.BadText fault.NoCode (v .value))
     (cond (eqb s 16) (typed.NoRoom t)
     (cond (eqb s 20) typed.NoRegister
-    (cond (eqb s 21) (typed.BadText fault.TooDeep (v .value)) (typed.BadText fault.NotText (v .value)))))))
+    (cond (eqb s 21) (typed.BadText fault.TooDeep (v .value))
+    (cond (eqb s 24) (typed.BadText fault.TooMany (v .value)) (typed.BadText fault.NotText (v .value))))))))
 
 abbrev answerOf : Done → Typed
 answerOf x = answerBy (x .verdict) (x .top) (x .verdict .status)
@@ -36,6 +37,7 @@ answer-back (typed.Refused u) top vs = refusal-back (refusalOf u) top u ∙ ap t
 answer-back typed.NoRegister top vs = refl
 answer-back (typed.BadText fault.NoCode at) top vs = refl
 answer-back (typed.BadText fault.TooDeep at) top vs = refl
+answer-back (typed.BadText fault.TooMany at) top vs = refl
 answer-back (typed.BadText fault.NotText at) top vs = refl
 answer-back (typed.NoRoom t) top vs = refl
 

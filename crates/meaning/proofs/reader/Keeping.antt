@@ -6,6 +6,7 @@
 --   bytes-inv                    so it holds after any bytes
 -- Assumes nothing.
 use mathlib.Core.Path.{_≡_, refl, sym, ap, ap₂, _∙_, subst}
+use mathlib.Core.Bool.{Bool, false}
 use mathlib.Core.List.{List, [], _∷_, _++_, append-assoc, append-nil}
 use Prim.Native.Nat.{ℕ, suc, _+_, _-_, _*_, _/_, _%_, _≤_, _<_}
 use native.Mathlib.Omega.{arith}
@@ -18,7 +19,7 @@ use Rattle.meaning.specs.Expr.{Expr, nothing, symbol, parens, append, te
 use Rattle.meaning.specs.Sound.{IsCode}
 use Rattle.meaning.specs.Text.{gap, text, Readable}
 use Rattle.meaning.specs.Judge.{Stand, begun, spaced, number, closed, stopped, Move, stops, judge}
-use Rattle.meaning.specs.Reader.{reader, atStart, Draft, shutOwn, shutAround, takes, read, reads, blank}
+use Rattle.meaning.specs.Reader.{reader, isFull, atStart, Draft, shutOwn, shutAround, takes, read, reads, blank}
 use Rattle.meaning.proofs.meaning.Terms.{terms-append}
 use Rattle.meaning.proofs.lay.Places.{allTerms-append}
 use Rattle.meaning.proofs.sound.Cells.{code-range}
@@ -42,8 +43,9 @@ assoc4 a b c d = simp append-assoc
 module _ (depth total : ℕ) (ar : List Expr) (own : Expr) (pre : List ℕ) (b left : ℕ) where
   -- where a term may begin
   module _ (h : behind ar ++ (text own ++ gap own) ≡ pre) (o : Open depth total ar own left) where
-    begins-kept : (d : ℕ) → b ≡ 48 + d → d ≤ 9 → IsCode d → Kept (number d) depth (suc total) ar own (pre ++ b ∷ [])
-    begins-kept d e g l = record {
+    begins-kept : {full : Bool} (d : ℕ) → b ≡ 48 + d → d ≤ 9 → IsCode d → full ≡ false
+        → Kept (number d) depth (suc total) ar own (pre ++ b ∷ [])
+    begins-kept d e g l n = record {
       left = left;
       bytes =
           ap (λ (t : List ℕ). behind ar ++ t)
@@ -71,8 +73,9 @@ module _ (depth total : ℕ) (ar : List Expr) (own : Expr) (pre : List ℕ) (b l
       many = omega (arith, o .many);
     }
 
-    opens-kept : b ≡ 40 → depth < depthLimit → Kept begun (suc depth) (suc total) (own ∷ ar) nothing (pre ++ b ∷ [])
-    opens-kept e l = let f : left ≡ suc (left - 1) = omega (arith, o .deep) in opens-at (left - 1) f e
+    opens-kept : {full : Bool} → b ≡ 40 → depth < depthLimit → full ≡ false
+        → Kept begun (suc depth) (suc total) (own ∷ ar) nothing (pre ++ b ∷ [])
+    opens-kept e l n = let f : left ≡ suc (left - 1) = omega (arith, o .deep) in opens-at (left - 1) f e
 
   -- where a term has ended: own is the expression so far
   parts-kept : behind ar ++ text own ≡ pre → Open depth total ar own left → 0 < terms own → b ≡ 32
@@ -153,36 +156,36 @@ module _ (r : Draft) (pre : List ℕ) (b : ℕ) where
         (allTerms-append own (symbol a nothing) ∙ sym (allTerms-append own (symbol (10 * a + x) nothing)));
   }
 
-  judged-kept : (s : Stand) → Inv s d n ar own pre → After s (judge s d b)
+  judged-kept : (full : Bool) (s : Stand) → Inv s d n ar own pre → After s (judge s d full b)
   unfolding After
-  judged-kept begun k =
+  judged-kept full begun k =
       let h : behind ar ++ (text own ++ gap own) ≡ pre = rw (k .shape) (rw (k .shape) at (k .bytes)) in
       let o = so-far begun d n ar own pre k in
       either (After begun) (eqb b 41)
       (λ e. later-cases (After begun) b (stop begun) d (closes-kept d n ar own pre b (k .left) (k .bytes) o)
       (λ c. absurd (omega (arith, eqb-true b 41 e, c))))
-      (λ e. first-cases (After begun) b (stop begun) d
+      (λ e. first-cases (After begun) b (stop begun) d full
       (begins-kept d n ar own pre b (k .left) h o) (opens-kept d n ar own pre b (k .left) h o))
-  judged-kept spaced k =
+  judged-kept full spaced k =
       let h : behind ar ++ (text own ++ gap own) ≡ pre = rw (gap-filled own (k .shape)) (k .bytes) in
       let o = so-far spaced d n ar own pre k in
-      first-cases (After spaced) b (stop spaced) d
+      first-cases (After spaced) b (stop spaced) d full
       (begins-kept d n ar own pre b (k .left) h o) (opens-kept d n ar own pre b (k .left) h o)
-  judged-kept (number a) k =
+  judged-kept full (number a) k =
       let f = append own (symbol a nothing) in
       let o = so-far (number a) d n ar own pre k in
       more-cases (After (number a)) b (stop (number a)) a d (grows-kept a k)
       (closes-kept d n ar f pre b (k .left) (k .bytes) o)
       (parts-kept d n ar f pre b (k .left) (k .bytes) o (omega (arith, terms-append own (symbol a nothing))))
-  judged-kept closed k =
+  judged-kept full closed k =
       let o = so-far closed d n ar own pre k in
       later-cases (After closed) b (stop closed) d (closes-kept d n ar own pre b (k .left) (k .bytes) o)
       (parts-kept d n ar own pre b (k .left) (k .bytes) o (k .shape))
-  judged-kept (stopped s) k = tt
+  judged-kept full (stopped s) k = tt
 
   read-inv : InvOf r pre → InvOf (read b r) (pre ++ b ∷ [])
   unfolding After read
-  read-inv k = judged-kept (r .place .stand) k
+  read-inv k = judged-kept (isFull (r .place)) (r .place .stand) k
 
 reads-inv : (bs : List ℕ) (r : Draft) (pre : List ℕ) → InvOf r pre → InvOf (reads r bs) (pre ++ bs)
 reads-inv [] r pre k = rw (append-nil pre) k

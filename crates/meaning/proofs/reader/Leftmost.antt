@@ -1,9 +1,9 @@
 -- Where bytes stop the reader: at the first that it refuses, and there it stays. In order:
---   StopsAt        byte k is the first to be refused, and with which status
---   GoesOn, way    bytes are read to their end, or stop the reader at one of them
---   whole-going    a reader that has read a whole text is not stopped
---   no-text        up to the byte that is refused no text begins so
---   Why, why       what is refused with each status;  zero-stops, large-stops, deep-stops  and that it is
+--   StopsAt                           byte k is the first to be refused, and with which status
+--   GoesOn, way                       bytes are read to their end, or stop the reader at one of them
+--   completed-free, completed-going   what begins a text does not stop the reader: freely, and unless it is full
+--   Why, why                          what is refused with each status
+--   zero-stops, deep-stops, many-stops, large-stops   and that it is
 -- Assumes nothing.
 use mathlib.Core.Path.{_≡_, refl, sym, ap, _∙_, subst}
 use mathlib.Core.Logic.{_⊎_, inl, inr}
@@ -13,27 +13,28 @@ use Prim.Native.Nat.{ℕ, suc, _+_, _≤_, _<_}
 use native.Mathlib.Omega.{arith}
 use lib.Dec.{ltb, eqb}
 use lib.ListN.{length, getD, take}
-use borrow.Author.Tests.{ltb-false, le-ltb, eqb-true, eqb-false}
-use Rattle.meaning.specs.Limits.{codeTest, depthLimit}
+use borrow.Author.Tests.{ltb-true, ltb-false, lt-ltb, le-ltb, eqb-true, eqb-false, ne-eqb}
+use Rattle.meaning.specs.Limits.{codeTest, depthLimit, termsLimit}
 use Rattle.meaning.specs.Text.{text}
 use Rattle.meaning.specs.Judge.{Stand, begun, spaced, number, closed, stopped}
 use Rattle.meaning.specs.Judge.{Move, stops, begins, grows, opens, closes, parts}
 use Rattle.meaning.specs.Judge.{isDigit, withDigit, firstMove, laterMove, moreMove, judge}
-use Rattle.meaning.specs.Reader.{Reader, reader, moved, advance, advances, atStart, isWhole, reads, blank}
+use Rattle.meaning.specs.Reader.{Reader, reader, moved, isFull, advance, advances, atStart, Draft, blank}
 use Rattle.meaning.proofs.sound.Cells.{range-code, zero-no-code}
 use Rattle.meaning.proofs.reader.Moves.{either, digit-range, first-digit, more-digit}
 use Rattle.meaning.proofs.reader.Forth.{reads-place}
-use Rattle.meaning.proofs.reader.Codes.{Ready}
-use Rattle.meaning.proofs.reader.Back.{read-back}
 use Rattle.meaning.proofs.reader.Completing.{Completed, Going}
-use Rattle.meaning.proofs.reader.Standing.{stays}
+use Rattle.meaning.proofs.reader.Freely.{stays, whole-going, advancesFree, readsFree, free-place, free-append}
+use Rattle.meaning.proofs.reader.Freely.{free-before, within-free}
+use Rattle.meaning.proofs.reader.Codes.{Ready}
+use Rattle.meaning.proofs.reader.Back.{read-freely}
 
 -- ---- where
 
 pub record StopsAt (bs : List ℕ) (r : Reader) (k s : ℕ) : Type 0 where
   pub inside : k < length bs
   pub going : Going (advances r (take k bs) .stand)
-  pub refused : judge (advances r (take k bs) .stand) (advances r (take k bs) .depth) (getD bs k 0) ≡ stops s
+  pub refused : (let q = advances r (take k bs) in judge (q .stand) (q .depth) (isFull q) (getD bs k 0) ≡ stops s)
   -- whatever comes behind it
   pub stand : (rest : List ℕ) → advances r (take (suc k) bs ++ rest) .stand ≡ stopped s
   pub offset : (rest : List ℕ) → advances r (take (suc k) bs ++ rest) .offset ≡ r .offset + k
@@ -46,7 +47,7 @@ abbrev Way : List ℕ → Reader → Type 0
 Way bs r = GoesOn bs r ⊎ ((k : ℕ) × (s : ℕ) × StopsAt bs r k s)
 
 module _ (b : ℕ) (bs : List ℕ) (r : Reader) (g : Going (r .stand)) where
-  stops-here : (s : ℕ) → judge (r .stand) (r .depth) b ≡ stops s → StopsAt (b ∷ bs) r 0 s
+  stops-here : (s : ℕ) → judge (r .stand) (r .depth) (isFull r) b ≡ stops s → StopsAt (b ∷ bs) r 0 s
   unfolding advance
   stops-here s e = record {
     inside = omega arith;
@@ -75,7 +76,7 @@ module _ (b : ℕ) (bs : List ℕ) (r : Reader) (g : Going (r .stand)) where
       )
 
   -- a byte that is not refused
-  onward : (m : Move) → judge (r .stand) (r .depth) b ≡ m → Going (moved m r .stand)
+  onward : (m : Move) → judge (r .stand) (r .depth) (isFull r) b ≡ m → Going (moved m r .stand)
       → moved m r .offset ≡ suc (r .offset) → (Going (advance b r .stand) → Way bs (advance b r)) → Way (b ∷ bs) r
   unfolding advance
   onward m e h n w =
@@ -84,9 +85,9 @@ module _ (b : ℕ) (bs : List ℕ) (r : Reader) (g : Going (r .stand)) where
 
 pub way : (bs : List ℕ) (r : Reader) → Going (r .stand) → Way bs r
 way [] r g = inl (record { going = g; offset = omega arith })
-way (b ∷ bs) r g = go (judge (r .stand) (r .depth) b) refl (way bs (advance b r))
+way (b ∷ bs) r g = go (judge (r .stand) (r .depth) (isFull r) b) refl (way bs (advance b r))
   where
-    go : (m : Move) → judge (r .stand) (r .depth) b ≡ m → (Going (advance b r .stand) → Way bs (advance b r))
+    go : (m : Move) → judge (r .stand) (r .depth) (isFull r) b ≡ m → (Going (advance b r .stand) → Way bs (advance b r))
         → Way (b ∷ bs) r
     go (stops s) e w = inr (0, s, stops-here b bs r g s e)
     go (begins a) e w = onward b bs r g (begins a) e tt refl w
@@ -95,39 +96,47 @@ way (b ∷ bs) r g = go (judge (r .stand) (r .depth) b) refl (way bs (advance b 
     go closes e w = onward b bs r g closes e tt refl w
     go parts e w = onward b bs r g parts e tt refl w
 
--- ---- up to there no text begins so
+-- ---- what begins a text
 
-stopped-part : (r : Reader) (s : ℕ) → r .stand ≡ stopped s → isWhole r ≡ false
-unfolding isWhole
-stopped-part r s e = rw e refl
-
-pub whole-going : (r : Reader) → isWhole r ≡ true → Going (r .stand)
-whole-going r w = go (r .stand) refl
-  where
-    go : (s : Stand) → r .stand ≡ s → Going s
-    go begun e = tt
-    go spaced e = tt
-    go (number a) e = tt
-    go closed e = tt
-    go (stopped s) e = false≢true (sym (stopped-part r s e) ∙ w)
-
-pub no-text : (bs : List ℕ) (k s : ℕ) → StopsAt bs atStart k s → Completed (take (suc k) bs) → ⊥
+-- freely, what begins a text does not stop the reader
+pub completed-free : (p : List ℕ) → Completed p → Going (advancesFree atStart p .stand)
 unfolding blank
-no-text bs k s w c =
-    let e : reads blank (text (c .whole)) .place ≡ advances atStart (take (suc k) bs ++ c .rest) =
-    reads-place (text (c .whole)) blank ∙ ap (advances atStart) (c .bytes) in
-    let f = stopped-part (advances atStart (take (suc k) bs ++ c .rest)) s (w .stand (c .rest)) in
-    false≢true (sym f ∙ (sym (ap isWhole e) ∙ read-back (c .whole) (c .readable) .whole))
+completed-free p c =
+    let t = text (c .whole) in
+    let e : readsFree blank t .place ≡ advancesFree (advancesFree atStart p) (c .rest) =
+    free-place t blank ∙ (ap (advancesFree atStart) (c .bytes) ∙ free-append p (c .rest) atStart) in
+    free-before (c .rest) (advancesFree atStart p)
+    (subst (λ (r : Reader). Going (r .stand)) e
+    (whole-going (readsFree blank t .place) (read-freely (c .whole) (c .readable) .whole)))
+
+-- nor does it where no more terms have begun than a text may have
+pub completed-going : (p : List ℕ) → Completed p → advancesFree atStart p .total ≤ termsLimit
+    → Going (advances atStart p .stand)
+unfolding blank
+completed-going p c l =
+    let g = completed-free p c in
+    let e = free-place p blank in
+    let f : advances atStart p ≡ advancesFree atStart p =
+    sym (reads-place p blank)
+    ∙ (ap (λ (r : Draft). r .place)
+    (within-free p blank (subst (λ (r : Reader). Going (r .stand)) (sym e) g)
+    (subst (λ (r : Reader). r .total ≤ termsLimit) (sym e) l)) ∙ e) in
+    subst (λ (r : Reader). Going (r .stand)) (sym f) g
 
 -- ---- why
 
--- a 0 where a term may begin;  a digit that takes a code over the limit;  a bracket that may stand there but is one too
--- many;  any other byte
-pub data Why (s : Stand) (depth b : ℕ) : ℕ → Type 0 where
-  zeroFirst : Ready s → b ≡ 48 → Why s depth b 13
-  overCode : (a : ℕ) → s ≡ number a → isDigit b ≡ true → codeTest (withDigit a b) ≡ false → Why s depth b 13
-  overDepth : Ready s → b ≡ 40 → depthLimit ≤ depth → Why s depth b 21
-  noMove : Why s depth b 23
+-- the byte is a digit, or a bracket that is not one too many
+abbrev pub Opening : ℕ → ℕ → Type 0
+Opening depth b = (isDigit b ≡ true) ⊎ ((b ≡ 40) × (depth < depthLimit))
+
+-- a bracket that may stand there but is one too many;  else a bracket or a digit where a term may begin and the text is
+-- full;  else a 0 where a term may begin;  a digit that takes a code over the limit;  any other byte
+pub data Why (s : Stand) (depth : ℕ) (full : Bool) (b : ℕ) : ℕ → Type 0 where
+  overDepth : Ready s → b ≡ 40 → depthLimit ≤ depth → Why s depth full b 21
+  overTerms : Ready s → Opening depth b → full ≡ true → Why s depth full b 24
+  zeroFirst : Ready s → b ≡ 48 → full ≡ false → Why s depth full b 13
+  overCode : (a : ℕ) → s ≡ number a → isDigit b ≡ true → codeTest (withDigit a b) ≡ false → Why s depth full b 13
+  noMove : Why s depth full b 23
 
 -- the one digit that is no code
 no-code-digit : (b : ℕ) → isDigit b ≡ true → codeTest (withDigit 0 b) ≡ false → b ≡ 48
@@ -141,22 +150,24 @@ no-code-digit b e f = go (eqb b 48) refl
         let i = digit-range b e in
         absurd (false≢true (sym f ∙ range-code (withDigit 0 b) (omega (arith, i .0, n)) (omega (arith, i .1))))
 
-module _ (s : Stand) (depth b : ℕ) where
+module _ (s : Stand) (depth : ℕ) (full : Bool) (b : ℕ) where
   abbrev Stopping : Move → Type 0
-  Stopping (stops t) = Why s depth b t
+  Stopping (stops t) = Why s depth full b t
   Stopping (begins a) = Unit {0}
   Stopping (grows a) = Unit {0}
   Stopping opens = Unit {0}
   Stopping closes = Unit {0}
   Stopping parts = Unit {0}
 
-  first-why : Ready s → Stopping (firstMove depth b)
+  first-why : Ready s → Stopping (firstMove depth full b)
   unfolding firstMove
   first-why r =
       either Stopping (isDigit b)
-      (λ e. either Stopping (codeTest (withDigit 0 b)) (λ _. tt) (λ f. zeroFirst r (no-code-digit b e f)))
+      (λ e. either Stopping full (λ f. overTerms r (inl e) f)
+      (λ n. either Stopping (codeTest (withDigit 0 b)) (λ _. tt) (λ f. zeroFirst r (no-code-digit b e f) n)))
       (λ _. either Stopping (eqb b 40)
-      (λ e. either Stopping (ltb depth depthLimit) (λ _. tt)
+      (λ e. either Stopping (ltb depth depthLimit)
+      (λ d. either Stopping full (λ f. overTerms r (inr (eqb-true b 40 e, ltb-true depth depthLimit d)) f) (λ _. tt))
       (λ f. overDepth r (eqb-true b 40 e) (ltb-false depth depthLimit f)))
       (λ _. noMove))
 
@@ -173,34 +184,48 @@ module _ (s : Stand) (depth b : ℕ) where
       (λ e. either Stopping (codeTest (withDigit a b)) (λ _. tt) (λ f. overCode a h e f))
       (λ _. later-why)
 
-judged-why : (s : Stand) (depth b : ℕ) → Going s → Stopping s depth b (judge s depth b)
-judged-why begun depth b g =
-    either (Stopping begun depth b) (eqb b 41) (λ _. later-why begun depth b) (λ _. first-why begun depth b tt)
-judged-why spaced depth b g = first-why spaced depth b tt
-judged-why (number a) depth b g = more-why (number a) depth b a refl
-judged-why closed depth b g = later-why closed depth b
-judged-why (stopped s) depth b g = absurd g
+judged-why : (s : Stand) (depth : ℕ) (full : Bool) (b : ℕ) → Going s → Stopping s depth full b (judge s depth full b)
+judged-why begun depth full b g =
+    either (Stopping begun depth full b) (eqb b 41) (λ _. later-why begun depth full b)
+    (λ _. first-why begun depth full b tt)
+judged-why spaced depth full b g = first-why spaced depth full b tt
+judged-why (number a) depth full b g = more-why (number a) depth full b a refl
+judged-why closed depth full b g = later-why closed depth full b
+judged-why (stopped s) depth full b g = absurd g
 
-pub why : (s : Stand) (depth b t : ℕ) → Going s → judge s depth b ≡ stops t → Why s depth b t
-why s depth b t g e = subst (λ (m : Move). Stopping s depth b m) e (judged-why s depth b g)
+pub why : (s : Stand) (depth : ℕ) (full : Bool) (b t : ℕ) → Going s → judge s depth full b ≡ stops t
+    → Why s depth full b t
+why s depth full b t g e = subst (λ (m : Move). Stopping s depth full b m) e (judged-why s depth full b g)
 
 -- each is refused so
-pub zero-stops : (s : Stand) (depth b : ℕ) → Ready s → b ≡ 48 → judge s depth b ≡ stops 13
-unfolding isDigit withDigit
-zero-stops begun depth b r e = rw e (first-digit depth 48 false refl zero-no-code)
-zero-stops spaced depth b r e = rw e (first-digit depth 48 false refl zero-no-code)
-zero-stops (number a) depth b r e = absurd r
-zero-stops closed depth b r e = absurd r
-zero-stops (stopped s) depth b r e = absurd r
+ready-first : (s : Stand) (depth : ℕ) (full : Bool) (b : ℕ) → Ready s → (b ≡ 41 → ⊥)
+    → judge s depth full b ≡ firstMove depth full b
+ready-first begun depth full b r n = rw (ne-eqb b 41 n) refl
+ready-first spaced depth full b r n = refl
+ready-first (number a) depth full b r n = absurd r
+ready-first closed depth full b r n = absurd r
+ready-first (stopped s) depth full b r n = absurd r
 
-pub large-stops : (a depth b : ℕ) → isDigit b ≡ true → codeTest (withDigit a b) ≡ false
-    → judge (number a) depth b ≡ stops 13
-large-stops a depth b e f = more-digit a depth b false e f
+module _ (s : Stand) (depth : ℕ) (full : Bool) (b : ℕ) (ready : Ready s) where
+  pub zero-stops : b ≡ 48 → full ≡ false → judge s depth full b ≡ stops 13
+  unfolding isDigit withDigit
+  zero-stops e f =
+      ready-first s depth full b ready (λ x. omega arith)
+      ∙ rw (e, f) (first-digit depth false 48 false refl zero-no-code)
 
-pub deep-stops : (s : Stand) (depth b : ℕ) → Ready s → b ≡ 40 → depthLimit ≤ depth → judge s depth b ≡ stops 21
-unfolding firstMove isDigit
-deep-stops begun depth b r e h = rw (e, le-ltb depth depthLimit h) refl
-deep-stops spaced depth b r e h = rw (e, le-ltb depth depthLimit h) refl
-deep-stops (number a) depth b r e h = absurd r
-deep-stops closed depth b r e h = absurd r
-deep-stops (stopped s) depth b r e h = absurd r
+  pub deep-stops : b ≡ 40 → depthLimit ≤ depth → judge s depth full b ≡ stops 21
+  unfolding firstMove isDigit
+  deep-stops e h =
+      ready-first s depth full b ready (λ x. omega arith) ∙ rw (e, le-ltb depth depthLimit h) refl
+
+  pub many-stops : Opening depth b → full ≡ true → judge s depth full b ≡ stops 24
+  unfolding firstMove isDigit
+  many-stops (inl e) f =
+      let i = digit-range b e in
+      ready-first s depth full b ready (λ x. omega (arith, i .0)) ∙ rw (f, e) refl
+  many-stops (inr (e, h)) f =
+      ready-first s depth full b ready (λ x. omega arith) ∙ rw (f, e, lt-ltb depth depthLimit h) refl
+
+pub large-stops : (a depth : ℕ) (full : Bool) (b : ℕ) → isDigit b ≡ true → codeTest (withDigit a b) ≡ false
+    → judge (number a) depth full b ≡ stops 13
+large-stops a depth full b e f = more-digit a depth b false e f

@@ -1,12 +1,11 @@
 -- Where the reader stands, by the bytes that it has read last. In order:
---   advances-append, stays      bytes behind bytes;  a reader that is stopped stays as it is
---   going-before                one that is not stopped was not stopped before
 --   EndsReady                   bytes behind which a term may begin: none, or the last is a space or an opening bracket
---   ready-after, code-after     where it stands behind such a byte, and behind a code
+--   ready-after, code-after     where it stands behind such a byte, freely, and behind a code
 --   ready-ends, code-ends       what it has read last, where a term may begin and where it stands in a number
 -- Assumes nothing.
 use mathlib.Core.Path.{_≡_, refl, sym, ap, _∙_, subst}
 use mathlib.Core.Logic.{_⊎_, inl, inr}
+use mathlib.Core.Bool.{false}
 use mathlib.Core.List.{List, [], _∷_, _++_, append-assoc}
 use Prim.Native.Nat.{ℕ, _+_}
 use native.Mathlib.Omega.{arith}
@@ -15,47 +14,25 @@ use Rattle.meaning.specs.Expr.{Expr, nothing, symbol, parens}
 use Rattle.meaning.specs.Sound.{IsCode}
 use Rattle.meaning.specs.Text.{gap, text}
 use Rattle.meaning.specs.Judge.{Stand, begun, spaced, number, closed, stopped, Move}
-use Rattle.meaning.specs.Reader.{Reader, reader, moved, advance, advances, atStart, Draft, reads, blank}
+use Rattle.meaning.specs.Reader.{Reader, moved, advances, atStart, Draft, reads, blank}
 use Rattle.meaning.proofs.text.Texts.{text-code}
 use Rattle.meaning.proofs.reader.Moves.{judge-cases}
 use Rattle.meaning.proofs.reader.Drafts.{behind, Kept, Inv}
 use Rattle.meaning.proofs.reader.Keeping.{bytes-inv}
 use Rattle.meaning.proofs.reader.Forth.{reads-place}
-use Rattle.meaning.proofs.reader.Codes.{Ready, code-read}
 use Rattle.meaning.proofs.reader.Completing.{Going}
-
-pub advances-append : (xs ys : List ℕ) (r : Reader) → advances r (xs ++ ys) ≡ advances (advances r xs) ys
-advances-append [] ys r = refl
-advances-append (x ∷ xs) ys r = advances-append xs ys (advance x r)
-
-pub stays : (bs : List ℕ) (s n d m : ℕ) → advances (reader (stopped s) n d m) bs ≡ reader (stopped s) n d m
-unfolding advance
-stays [] s n d m = refl
-stays (b ∷ bs) s n d m = stays bs s n d m
-
-pub going-before : (bs : List ℕ) (r : Reader) → Going (advances r bs .stand) → Going (r .stand)
-going-before bs r g = go (r .stand) refl
-  where
-    go : (s : Stand) → r .stand ≡ s → Going s
-    go begun e = tt
-    go spaced e = tt
-    go (number a) e = tt
-    go closed e = tt
-    go (stopped s) e =
-        let f : r ≡ reader (stopped s) (r .offset) (r .depth) (r .total) =
-        ap (λ (x : Stand). reader x (r .offset) (r .depth) (r .total)) e in
-        subst (λ (x : Reader). Going (x .stand))
-        (ap (λ (x : Reader). advances x bs) f ∙ stays bs s (r .offset) (r .depth) (r .total)) g
+use Rattle.meaning.proofs.reader.Freely.{freely, free-place, going-free}
+use Rattle.meaning.proofs.reader.Codes.{Ready, code-read}
 
 -- ---- by its last byte
 
-pub ready-after : (b : ℕ) (r : Reader) → (b ≡ 32) ⊎ (b ≡ 40) → Going (advance b r .stand) → Ready (advance b r .stand)
-unfolding advance
+pub ready-after : (b : ℕ) (r : Reader) → (b ≡ 32) ⊎ (b ≡ 40) → Going (moved (freely r b) r .stand)
+    → Ready (moved (freely r b) r .stand)
 ready-after b r h =
-    judge-cases (λ (m : Move). Going (moved m r .stand) → Ready (moved m r .stand)) b (r .depth)
+    judge-cases (λ (m : Move). Going (moved m r .stand) → Ready (moved m r .stand)) b (r .depth) false
     (λ s g. g)
-    (λ d e l c g. no-digit d e h)
-    (λ e l g. tt)
+    (λ d e l c n g. no-digit d e h)
+    (λ e l n g. tt)
     (λ a d e l c g. no-digit d e h)
     (λ e l g. no-close e h)
     (λ e g. tt)
@@ -69,10 +46,11 @@ ready-after b r h =
     no-close e (inl f) = omega arith
     no-close e (inr f) = omega arith
 
-pub code-after : (r : Reader) (a : ℕ) → Ready (r .stand) → IsCode a → advances r (decimal a) .stand ≡ number a
-code-after r a h l =
+pub code-after : (r : Reader) (a : ℕ) → Ready (r .stand) → IsCode a → Going (advances r (decimal a) .stand)
+    → advances r (decimal a) .stand ≡ number a
+code-after r a h l g =
     let q : Draft = record { place = r; around = []; own = nothing } in
-    ap (λ (x : Reader). x .stand) (sym (reads-place (decimal a) q))
+    ap (λ (x : Reader). x .stand) (going-free (decimal a) r g ∙ sym (free-place (decimal a) q))
     ∙ ap (λ (x : Draft). x .place .stand) (code-read q h a l)
 
 -- ---- by what it has kept

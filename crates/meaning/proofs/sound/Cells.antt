@@ -1,5 +1,5 @@
 -- What soundness says of a store's cells, apart from words; and back to words. In order:
---   limit-fits                  an address fits 28 bits
+--   limit-fits, limit-within    an address fits 28 bits;  a store has no more cells than a text may have terms
 --   code-range, range-code      what a code may be;  zero-no-code  0 is none;  code-fits  one fits 28 bits
 --   BracketIn, TermIn           a bracket, or any term, whose ends lie from F on and below a limit
 --   SoundCells                  what the cells of a sound store are
@@ -25,7 +25,7 @@ use lib.Dec.{ltb}
 use lib.ListN.{length, getD}
 use borrow.Author.Tests.{ltb-true, ltb-false, le-ltb}
 use Rattle.words.specs.Cell.{firstWord, secondWord}
-use Rattle.meaning.specs.Limits.{codeTest, limit}
+use Rattle.meaning.specs.Limits.{codeTest, limit, termsLimit}
 use Rattle.meaning.specs.Sound.{IsCode, Cell, code, empty, ends, fst, snd, bracketOf, cellOf, at, IsBracket}
 use Rattle.meaning.specs.Sound.{isEmpty, isFull, IsTerm, isSymbol, isBracket, capacity, Sound}
 use Rattle.meaning.proofs.Counting.{within, yes-within}
@@ -34,6 +34,11 @@ use Rattle.meaning.proofs.Counting.{within, yes-within}
 pub limit-fits : limit ≤ 268435456
 unfolding limit
 limit-fits = omega arith
+
+-- and all that proofs about texts do: no store has room for a text that has too many terms
+pub limit-within : limit ≤ termsLimit
+unfolding limit termsLimit
+limit-within = omega arith
 
 -- All that proofs know of codes: their range. No other proof looks into `codeTest`.
 pub code-range : (a : ℕ) → IsCode a → (1 ≤ a) × (a ≤ 268435455)

@@ -1,50 +1,62 @@
 -- A text read: what is read is what was written; a text is refused leftmost, and in one way. In order:
 --   reads-back, writes-back   the one way and the other
---   shorter                   fewer of the bytes that begin a text begin one
+--   shorter                   fewer of the bytes that may begin a text may begin one
 --   too-soon, at-byte         a text that ends too soon, and one that is refused at a byte;  stops-leftmost
---   status-once, one-refusal  one status at a byte, and one verdict
+--   status-once, one-refusal  one status at a byte, and one verdict;  whole-refused  none where it is read
 -- Assumes nothing.
 use mathlib.Core.Path.{_≡_, refl, sym, ap, ap₂, _∙_, subst}
 use mathlib.Core.Logic.{_⊎_, inl, inr}
 use mathlib.Core.Bool.{true, false, false≢true}
-use mathlib.Core.List.{List}
+use mathlib.Core.List.{List, [], _∷_, _++_, append-nil}
 use Prim.Native.Nat.{ℕ, suc, _≤_, _<_}
 use native.Mathlib.Omega.{arith}
-use lib.ListN.{length, take, drop, take-append-drop}
-use lib.Seq.{take-take}
+use lib.ListN.{length, getD, take, drop, take-append-drop}
+use lib.Seq.{take-take, take-suc}
+use Rattle.meaning.specs.Limits.{depthLimit, termsLimit}
+use Rattle.meaning.specs.Expr.{Expr}
+use Rattle.meaning.specs.Lay.{allTerms}
+use Rattle.meaning.specs.Text.{text, Readable}
 use Rattle.meaning.specs.Verdicts.{Verdict, valued}
 use Rattle.meaning.specs.Judge.{Stand, begun, spaced, number, closed, stopped}
-use Rattle.meaning.specs.Reader.{Reader, advances, atStart, isWhole, stopStatus, stopVerdict, reads, blank}
+use Rattle.meaning.specs.Judge.{Move, stops, begins, grows, opens, closes, parts, judge}
+use Rattle.meaning.specs.Reader.{Reader, moved, isFull, advance, advances, atStart, isWhole, stopStatus, stopVerdict}
+use Rattle.meaning.specs.Reader.{expression, reads, blank}
 use Rattle.meaning.proofs.Lists.{lt-or-ge}
 use Rattle.meaning.proofs.reader.Forth.{text-of-read, reads-place}
 use Rattle.meaning.proofs.reader.Back.{read-back}
-use Rattle.meaning.proofs.reader.Completing.{Completed, earlier, Going, begins-text}
-use Rattle.meaning.proofs.reader.Leftmost.{StopsAt, GoesOn, way, no-text}
-use Rattle.promises.specs.Reading.{BeginsText, ReadsBack, WritesBack, StopsWith, banned, large, deep, other}
+use Rattle.meaning.proofs.reader.Completing.{Going}
+use Rattle.meaning.proofs.reader.Freely.{advances-append, going-before, few-terms}
+use Rattle.meaning.proofs.reader.Leftmost.{StopsAt, GoesOn, way}
+use Rattle.promises.specs.Reading.{AreText, termsBegun, MayBegin, ReadsBack, WritesBack, StopsWith}
 use Rattle.promises.specs.Reading.{RefusedText, endsTooSoon, stopsAt, StopsLeftmost, OneRefusal}
-use Rattle.promises.proofs.reading.Stopping.{stops-with}
+use Rattle.promises.proofs.reading.Beginning.{going-may, may-going, terms-begin}
+use Rattle.promises.proofs.reading.Stopping.{status-judged, stops-with}
 
 -- ---- back and forth
 
 pub reads-back : ReadsBack
-reads-back e p = let b = read-back e p in (b .whole, b .means)
+reads-back e p l = let b = read-back e p l in (b .whole, b .means)
+
+-- what is read has no more terms than a text may have
+few-read : (bs : List ℕ) → reads blank bs .place .total ≤ termsLimit
+unfolding blank atStart
+few-read bs =
+    subst (λ (r : Reader). r .total ≤ termsLimit) (sym (reads-place bs blank)) (few-terms bs atStart (omega arith))
 
 pub writes-back : WritesBack
-writes-back bs w = let t = text-of-read bs w in (t .readable, t .bytes)
+writes-back bs w =
+    let t = text-of-read bs w in
+    (t .readable, subst (λ (n : ℕ). n ≤ termsLimit) (t .need) (few-read bs), t .bytes)
 
--- ---- bytes that begin a text
+-- ---- bytes that may begin a text
 
-begins-of : (p : List ℕ) → Completed p → BeginsText p
-begins-of p c = (c .whole, c .rest, c .readable, c .bytes)
-
-completed-of : (p : List ℕ) → BeginsText p → Completed p
-completed-of p b = record { whole = b .0; rest = b .1; readable = b .2; bytes = b .3 }
-
-shorter : (n : ℕ) (p : List ℕ) → BeginsText p → BeginsText (take n p)
-shorter n p b =
-    begins-of (take n p)
-    (earlier (take n p) (drop n p)
-    (subst (λ (t : List ℕ). Completed t) (sym (take-append-drop n p)) (completed-of p b)))
+shorter : (n : ℕ) (p : List ℕ) → MayBegin p → MayBegin (take n p)
+shorter n p m =
+    going-may (take n p)
+    (going-before (drop n p) (advances atStart (take n p))
+    (subst (λ (r : Reader). Going (r .stand))
+    (ap (advances atStart) (sym (take-append-drop n p)) ∙ advances-append (take n p) (drop n p) atStart)
+    (may-going p m)))
 
 -- ---- a text that is refused
 
@@ -62,10 +74,16 @@ module _ (bs : List ℕ) where
   too-soon w h =
       let e : stopVerdict (advances atStart bs) ≡ valued 23 (length bs) =
       ap₂ valued (going-status (advances atStart bs .stand) (h .going)) (h .offset ∙ omega arith) in
-      subst (λ (v : Verdict). RefusedText bs v) (sym e)
-      (endsTooSoon (begins-of bs (begins-text bs (h .going)))
-      (λ t. false≢true (sym w ∙ subst (λ (x : List ℕ). isWhole (reads blank x .place) ≡ true) (t .2)
-      (reads-back (t .0) (t .1) .0))))
+      subst (λ (v : Verdict). RefusedText bs v) (sym e) (endsTooSoon (going-may bs (h .going)) (no-text h))
+    where
+      -- a text of which the reader goes on has no more terms than it may have, and would be read whole
+      no-text : GoesOn bs atStart → AreText bs → ⊥
+      no-text h t =
+          let l : allTerms (t .0) ≤ termsLimit =
+          subst (λ (n : ℕ). n ≤ termsLimit) (ap termsBegun (sym (t .2)) ∙ terms-begin (t .0) (t .1))
+          (going-may bs (h .going) .1) in
+          false≢true (sym w ∙ subst (λ (x : List ℕ). isWhole (reads blank x .place) ≡ true) (t .2)
+          (reads-back (t .0) (t .1) l .0))
 
   at-byte : (k s : ℕ) → StopsAt bs atStart k s → RefusedText bs (stopVerdict (advances atStart bs))
   unfolding stopVerdict atStart
@@ -76,8 +94,10 @@ module _ (bs : List ℕ) where
       let n : advances atStart bs .offset ≡ k =
       ap (λ (x : List ℕ). advances atStart x .offset) (sym t) ∙ (h .offset (drop (suc k) bs) ∙ omega arith) in
       subst (λ (v : Verdict). RefusedText bs v) (sym (ap₂ valued (ap stopStatus a) n))
-      (stopsAt k s (h .inside) (begins-of (take k bs) (begins-text (take k bs) (h .going)))
-      (λ b. no-text bs k s h (completed-of (take (suc k) bs) b)) (stops-with bs k s h))
+      (stopsAt k s (h .inside) (going-may (take k bs) (h .going))
+      (λ m. subst Going
+      (ap (λ (x : List ℕ). advances atStart x .stand) (sym (append-nil (take (suc k) bs))) ∙ h .stand [])
+      (may-going (take (suc k) bs) m)) (stops-with bs k s h))
 
 pub stops-leftmost : StopsLeftmost
 unfolding blank atStart
@@ -91,32 +111,58 @@ stops-leftmost bs w =
 
 -- ---- one verdict
 
-status-once : (bs : List ℕ) (k s t : ℕ) → StopsWith bs k s → StopsWith bs k t → s ≡ t
-status-once bs k s t (banned z) (banned z′) = refl
-status-once bs k s t (banned z) (large c) = refl
-status-once bs k s t (banned z) (deep d) = absurd (omega (arith, z .1, d .1 .1))
-status-once bs k s t (banned z) (other x n m) = absurd (x z)
-status-once bs k s t (large c) (banned z) = refl
-status-once bs k s t (large c) (large c′) = refl
-status-once bs k s t (large c) (deep d) = absurd (omega (arith, c .digit .0, d .1 .1))
-status-once bs k s t (large c) (other x n m) = absurd (n c)
-status-once bs k s t (deep d) (banned z) = absurd (omega (arith, z .1, d .1 .1))
-status-once bs k s t (deep d) (large c) = absurd (omega (arith, c .digit .0, d .1 .1))
-status-once bs k s t (deep d) (deep d′) = refl
-status-once bs k s t (deep d) (other x n m) = absurd (m d)
-status-once bs k s t (other x n m) (banned z) = absurd (x z)
-status-once bs k s t (other x n m) (large c) = absurd (n c)
-status-once bs k s t (other x n m) (deep d) = absurd (m d)
-status-once bs k s t (other x n m) (other x′ n′ m′) = refl
+-- a byte with which bytes may not begin a text stops the reader
+module _ (bs : List ℕ) (k : ℕ) (l : k < length bs) where
+  abbrev at : Reader
+  at = advances atStart (take k bs)
 
--- a text that begins up to byte k′ is not refused before it
-not-before : (bs : List ℕ) (k k′ : ℕ) → (BeginsText (take (suc k) bs) → ⊥) → BeginsText (take k′ bs) → k′ ≤ k
+  abbrev judged : Move
+  judged = judge (at .stand) (at .depth) (isFull at) (getD bs k 0)
+
+  next-reader : advances atStart (take (suc k) bs) ≡ moved judged at
+  unfolding advance
+  next-reader = ap (advances atStart) (take-suc bs k 0 l) ∙ advances-append (take k bs) (getD bs k 0 ∷ []) atStart
+
+  stops-here : (MayBegin (take (suc k) bs) → ⊥) → (s : ℕ) × (judged ≡ stops s)
+  stops-here n = go judged refl
+    where
+      goes : Going (moved judged at .stand) → ⊥
+      goes g = n (going-may (take (suc k) bs) (subst (λ (r : Reader). Going (r .stand)) (sym next-reader) g))
+
+      on : (m : Move) → judged ≡ m → Going (moved m at .stand) → (s : ℕ) × (judged ≡ stops s)
+      on m e g = absurd (goes (subst (λ (x : Move). Going (moved x at .stand)) (sym e) g))
+
+      go : (m : Move) → judged ≡ m → (s : ℕ) × (judged ≡ stops s)
+      go (stops s) e = (s, e)
+      go (begins a) e = on (begins a) e tt
+      go (grows a) e = on (grows a) e tt
+      go opens e = on opens e tt
+      go closes e = on closes e tt
+      go parts e = on parts e tt
+
+  status-once : (s t : ℕ) → MayBegin (take k bs) → (MayBegin (take (suc k) bs) → ⊥) → StopsWith bs k s
+      → StopsWith bs k t → s ≡ t
+  status-once s t m n h h′ =
+      let g = may-going (take k bs) m in
+      let j = stops-here n in
+      status-judged bs k l g (j .0) (j .1) s h ∙ sym (status-judged bs k l g (j .0) (j .1) t h′)
+
+-- a text that may begin up to byte k′ is not refused before it
+not-before : (bs : List ℕ) (k k′ : ℕ) → (MayBegin (take (suc k) bs) → ⊥) → MayBegin (take k′ bs) → k′ ≤ k
 not-before bs k k′ n b = go (lt-or-ge k k′)
   where
     go : (k < k′) ⊎ (k′ ≤ k) → k′ ≤ k
     go (inl l) =
-        absurd (n (subst (λ (t : List ℕ). BeginsText t) (take-take (suc k) k′ bs l) (shorter (suc k) (take k′ bs) b)))
+        absurd (n (subst (λ (t : List ℕ). MayBegin t) (take-take (suc k) k′ bs l) (shorter (suc k) (take k′ bs) b)))
     go (inr l) = l
+
+-- a text of no more terms than it may have is not refused
+pub whole-refused : (bs : List ℕ) (e : Expr) → Readable depthLimit e → allTerms e ≤ termsLimit → text e ≡ bs
+    → (v : Verdict) → RefusedText bs v → ⊥
+whole-refused bs e p l t v (endsTooSoon b n) = n (e, p, t)
+whole-refused bs e p l t v (stopsAt k s i b n h) =
+    n (shorter (suc k) bs
+    ((e, [], p, t ∙ sym (append-nil bs)), omega (arith, ap termsBegun (sym t) ∙ terms-begin e p, l)))
 
 pub one-refusal : OneRefusal
 one-refusal bs v w (endsTooSoon b n) (endsTooSoon b′ n′) = refl
@@ -125,4 +171,4 @@ one-refusal bs v w (stopsAt k s l p m h) (endsTooSoon b n) = absurd (m (shorter 
 one-refusal bs v w (stopsAt k s l p m h) (stopsAt k′ s′ l′ p′ m′ h′) =
     let e : k ≡ k′ = omega (arith, not-before bs k k′ m p′, not-before bs k′ k m′ p) in
     ap₂ valued
-    (status-once bs k′ s s′ (subst (λ (i : ℕ). StopsWith bs i s) e h) h′) e
+    (status-once bs k′ l′ s s′ p′ m′ (subst (λ (i : ℕ). StopsWith bs i s) e h) h′) e

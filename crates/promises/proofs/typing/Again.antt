@@ -16,7 +16,7 @@ use lib.Seq.{take-at}
 use borrow.Author.Tests.{eq-eqb}
 use Rattle.bytes.specs.Space.{filled}
 use Rattle.bytes.proofs.Final.{filled-fits}
-use Rattle.meaning.specs.Limits.{depthLimit}
+use Rattle.meaning.specs.Limits.{depthLimit, termsLimit}
 use Rattle.meaning.specs.Expr.{Expr}
 use Rattle.meaning.specs.Sound.{capacity, Sound}
 use Rattle.meaning.specs.Meaning.{meaning}
@@ -26,14 +26,15 @@ use Rattle.meaning.specs.Lay.{allTerms}
 use Rattle.meaning.specs.Call.{sought}
 use Rattle.meaning.specs.Effect.{becomes}
 use Rattle.meaning.specs.Text.{text, Readable, trouble, Printed, printed, printIn}
-use Rattle.meaning.specs.Reader.{Reader, reads, blank}
+use Rattle.meaning.specs.Reader.{Reader, blank}
 use Rattle.meaning.specs.Typed.{typeIn}
+use Rattle.meaning.proofs.sound.Cells.{limit-within}
 use Rattle.meaning.proofs.lay.Coding.{coded-meaning}
 use Rattle.meaning.proofs.text.Printing.{print-register, whole}
 use Rattle.meaning.proofs.text.Troubles.{text-fits, text-readable}
-use Rattle.meaning.proofs.reader.Forth.{reads-place}
 use Rattle.meaning.proofs.reader.Completing.{Going}
-use Rattle.meaning.proofs.reader.Leftmost.{whole-going}
+use Rattle.meaning.proofs.reader.Freely.{readsFree, free-place, whole-going}
+use Rattle.meaning.proofs.reader.Back.{read-freely}
 use Rattle.meaning.proofs.typed.Cases.{TypeCases, type-cases}
 use Rattle.meaning.proofs.typed.Cases as cases
 use Rattle.promises.specs.Printing.{PrintedAs, unsound, noRegister, written}
@@ -45,7 +46,7 @@ use Rattle.promises.proofs.printing.Printed.{print-answers}
 use Rattle.promises.proofs.reading.Stopping.{no-zero}
 use Rattle.promises.proofs.reading.Refusing.{reads-back, writes-back, stops-leftmost}
 use Rattle.promises.proofs.unique.Texts.{says-once}
-use Rattle.promises.proofs.typing.Typing.{StopNumber, refused-number, types-do}
+use Rattle.promises.proofs.typing.Typing.{refused-number, stop-away, types-do}
 
 -- ---- a print that is done
 
@@ -85,7 +86,8 @@ text-typed : (F : ℕ) (v : List ℕ) (t : ℕ) → Sound F v t → (d : ℕ) �
     → F + live F (sought false d v) t + allTerms e ≤ capacity v
     → (typeIn F v t d (text e) .verdict .status ≡ 0) × (meaning (typeIn F v t d (text e) .words) d ≡ e)
 text-typed F v t s d h e q l =
-    let b = reads-back e q in
+    let few : allTerms e ≤ termsLimit = omega (arith, s .allowed .small, limit-within, l) in
+    let b = reads-back e q few in
     let x = types-do F v t s d (text e) in
     let room : F + live F (sought false d v) t + allTerms (said (text e)) ≤ capacity v = rw (b .1) l in
     let z : typeIn F v t d (text e) .verdict .status ≡ 0 =
@@ -99,17 +101,12 @@ printed-typed F ws top i n q v t s d h l =
 
 -- ---- typed in, and printed again
 
-stop-nonzero : (x : ℕ) → StopNumber x → x ≡ 0 → ⊥
-stop-nonzero x (inl e) z = omega arith
-stop-nonzero x (inr (inl e)) z = omega arith
-stop-nonzero x (inr (inr e)) z = omega arith
-
 pub type-done : (F : ℕ) (ws : List ℕ) (top d : ℕ) (bs : List ℕ) (r : Done) → TypeCases F ws top d bs r
     → r .verdict .status ≡ 0 → Sound F ws top × (d < F) × Whole bs
 type-done F ws top d bs r (cases.unsound n) q = absurd (n q)
 type-done F ws top d bs r (cases.none s h) q = absurd (omega arith)
 type-done F ws top d bs r (cases.stopped s h e) q =
-    absurd (stop-nonzero (r .verdict .status) (refused-number bs (r .verdict) (stops-leftmost bs e)) q)
+    absurd (stop-away (r .verdict .status) (refused-number bs (r .verdict) (stops-leftmost bs e)) .0 q)
 type-done F ws top d bs r (cases.whole s h w) q = (s, h, w)
 
 text-printed : (e : Expr) → Readable depthLimit e → (n : ℕ) → length (text e) ≤ n
@@ -122,21 +119,23 @@ typed-printed F ws top d bs q n l =
     let k = type-done F ws top d bs r (type-cases F ws top d bs) q in
     let x = types-do F ws top (k .0) d bs in
     let b = writes-back bs (k .2) in
-    let m : length (text (said bs)) ≤ n = rw (b .1) l in
+    let m : length (text (said bs)) ≤ n = rw (b .2) l in
     let p : printIn F (r .words) (r .top) d n ≡ record { verdict = only 0; size = length bs; space = filled n bs } =
     print-register F (r .words) (r .top) d n (x .sound) (k .1)
     ∙ (ap (λ (y : Expr). printed (text y) n) (said-done F ws top d bs r (k .1) x q)
     ∙ (text-printed (said bs) (b .0) n m
-    ∙ ap {B = Printed} (λ (y : List ℕ). record { verdict = only 0; size = length y; space = filled n y }) (b .1))) in
+    ∙ ap {B = Printed} (λ (y : List ℕ). record { verdict = only 0; size = length y; space = filled n y }) (b .2))) in
     rw p (refl, refl, filled-fits n bs l)
 
 -- ---- printed without a 0 that begins a term
 
+-- whatever the number of its terms, so freely
 pub prints-no-zero : PrintsNoZero
 unfolding blank
 prints-no-zero F ws top i n q k z =
     let bs = text (meaning ws i) in
-    let b = reads-back (meaning ws i) (print-readable F ws top i n q) in
+    let b = read-freely (meaning ws i) (print-readable F ws top i n q) in
     no-zero bs
-    (subst (λ (r : Reader). Going (r .stand)) (reads-place bs blank) (whole-going (reads blank bs .place) (b .0))) k
+    (subst (λ (r : Reader). Going (r .stand)) (free-place bs blank)
+    (whole-going (readsFree blank bs .place) (b .whole))) k
     (subst (λ (t : List ℕ). ZeroBegins t k) (printed-text F ws top i n q) z)

@@ -25,7 +25,7 @@ use Rattle.promises.proofs.unique.Outcomes.{judged-once, done-parts, un
 -- ---- every answer is from the table
 
 abbrev Numbers : ℕ → Type 0
-Numbers s = OneOf s (0 ∷ 1 ∷ 2 ∷ 3 ∷ 13 ∷ 16 ∷ 20 ∷ 21 ∷ 23 ∷ [])
+Numbers s = OneOf s (0 ∷ 1 ∷ 2 ∷ 3 ∷ 13 ∷ 16 ∷ 20 ∷ 21 ∷ 23 ∷ 24 ∷ [])
 
 -- the statuses whose value is 0
 abbrev Plain : ℕ → Type 0
@@ -35,20 +35,22 @@ module _ (s : ℕ) where
   stop-number-listed : StopNumber s → Numbers s
   stop-number-listed (inl e) = inr (inr (inr (inr (inl e))))
   stop-number-listed (inr (inl e)) = inr (inr (inr (inr (inr (inr (inr (inl e)))))))
-  stop-number-listed (inr (inr e)) = inr (inr (inr (inr (inr (inr (inr (inr (inl e))))))))
+  stop-number-listed (inr (inr (inl e))) = inr (inr (inr (inr (inr (inr (inr (inr (inl e))))))))
+  stop-number-listed (inr (inr (inr e))) = inr (inr (inr (inr (inr (inr (inr (inr (inr (inl e)))))))))
 
-  plain-away : Plain s → (s ≢ 3) × (s ≢ 13) × (s ≢ 21) × (s ≢ 23)
-  plain-away (inl e) = (omega arith, omega arith, omega arith, omega arith)
-  plain-away (inr (inl e)) = (omega arith, omega arith, omega arith, omega arith)
-  plain-away (inr (inr (inl e))) = (omega arith, omega arith, omega arith, omega arith)
-  plain-away (inr (inr (inr (inl e)))) = (omega arith, omega arith, omega arith, omega arith)
-  plain-away (inr (inr (inr (inr (inl e))))) = (omega arith, omega arith, omega arith, omega arith)
+  plain-away : Plain s → (s ≢ 3) × (s ≢ 13) × (s ≢ 21) × (s ≢ 23) × (s ≢ 24)
+  plain-away (inl e) = (omega arith, omega arith, omega arith, omega arith, omega arith)
+  plain-away (inr (inl e)) = (omega arith, omega arith, omega arith, omega arith, omega arith)
+  plain-away (inr (inr (inl e))) = (omega arith, omega arith, omega arith, omega arith, omega arith)
+  plain-away (inr (inr (inr (inl e)))) = (omega arith, omega arith, omega arith, omega arith, omega arith)
+  plain-away (inr (inr (inr (inr (inl e))))) = (omega arith, omega arith, omega arith, omega arith, omega arith)
   plain-away (inr (inr (inr (inr (inr e))))) = absurd e
 
   plain-stop : Plain s → StopNumber s → ⊥
   plain-stop o (inl e) = plain-away o .1 e
   plain-stop o (inr (inl e)) = plain-away o .2 e
-  plain-stop o (inr (inr e)) = plain-away o .3 e
+  plain-stop o (inr (inr (inl e))) = plain-away o .3 e
+  plain-stop o (inr (inr (inr e))) = plain-away o .4 e
 
 module _ (F : ℕ) (ws : List ℕ) (top d : ℕ) (bs : List ℕ) where
   says-number : (v : Verdict) → TypedAs F ws top d bs v → Numbers (v .status)
@@ -88,7 +90,7 @@ module _ (F : ℕ) (ws : List ℕ) (top d : ℕ) (bs : List ℕ) where
       let z : v .status ≢ 0 = (λ f. omega arith) in
       rw (type-unsound F ws top d bs z)
       (record {
-        number = judged-number F ws top (13 ∷ 16 ∷ 20 ∷ 21 ∷ 23 ∷ []) v j;
+        number = judged-number F ws top (13 ∷ 16 ∷ 20 ∷ 21 ∷ 23 ∷ 24 ∷ []) v j;
         value = λ o. judged-zero F ws top v j (plain-away (v .status) o .0) .0;
         rule = λ o. judged-zero F ws top v j o .1;
         types = λ s. absurd (unsound-check F ws top n e s);

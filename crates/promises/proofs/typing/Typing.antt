@@ -36,7 +36,7 @@ use Rattle.meaning.proofs.lay.Denoting.{laid-more, laid-at, laid-in}
 use Rattle.meaning.proofs.typed.Cases.{TypeCases, unsound, none, stopped, whole, type-cases}
 use Rattle.meaning.proofs.typed.Meeting.{coded-read, type-meets}
 use Rattle.promises.specs.Cells.{OnlyThere, laidOn, laidFrom}
-use Rattle.promises.specs.Reading.{banned, large, deep, other, RefusedText, endsTooSoon, stopsAt}
+use Rattle.promises.specs.Reading.{deep, many, banned, large, other, RefusedText, endsTooSoon, stopsAt}
 use Rattle.promises.specs.Typing.{said, Whole, TypedAs, noRegister, noText, noRoom, hasRoom, LeavesText, typedOn}
 use Rattle.promises.specs.Typing.{typedFrom, TypedIn, TypesDo}
 use Rattle.promises.proofs.Verdicts.{verdict-parts}
@@ -67,21 +67,23 @@ after-refused : (s : ℕ) → s ≢ 0 → (x : Effect) (e : ℕ → Expr) (i : �
 after-refused zero n x e i = absurd (n refl)
 after-refused (suc s) n x e i = refl
 
--- a text's refusal is 13, 21 or 23
+-- a text's refusal is 13, 21, 23 or 24
 abbrev pub StopNumber : ℕ → Type 0
-StopNumber s = (s ≡ 13) ⊎ ((s ≡ 21) ⊎ (s ≡ 23))
+StopNumber s = (s ≡ 13) ⊎ ((s ≡ 21) ⊎ ((s ≡ 23) ⊎ (s ≡ 24)))
 
 pub refused-number : (bs : List ℕ) (v : Verdict) → RefusedText bs v → StopNumber (v .status)
-refused-number bs v (endsTooSoon b n) = inr (inr refl)
-refused-number bs v (stopsAt k s l b n (banned z)) = inl refl
+refused-number bs v (endsTooSoon b n) = inr (inr (inl refl))
+refused-number bs v (stopsAt k s l b n (deep d)) = inr (inl refl)
+refused-number bs v (stopsAt k s l b n (many d m)) = inr (inr (inr refl))
+refused-number bs v (stopsAt k s l b n (banned m z)) = inl refl
 refused-number bs v (stopsAt k s l b n (large c)) = inl refl
-refused-number bs v (stopsAt k s l b n (deep c)) = inr (inl refl)
-refused-number bs v (stopsAt k s l b n (other z c m)) = inr (inr refl)
+refused-number bs v (stopsAt k s l b n (other d m z c)) = inr (inr (inl refl))
 
-stop-away : (x : ℕ) → StopNumber x → (x ≢ 0) × (x ≢ 16)
+pub stop-away : (x : ℕ) → StopNumber x → (x ≢ 0) × (x ≢ 16)
 stop-away x (inl e) = (omega arith, omega arith)
 stop-away x (inr (inl e)) = (omega arith, omega arith)
-stop-away x (inr (inr e)) = (omega arith, omega arith)
+stop-away x (inr (inr (inl e))) = (omega arith, omega arith)
+stop-away x (inr (inr (inr e))) = (omega arith, omega arith)
 
 module _ (F : ℕ) (ws : List ℕ) (top : ℕ) (s : Sound F ws top) (d : ℕ) (bs : List ℕ) where
   refusal : (v : Verdict) → TypedAs F ws top d bs v → v .status ≢ 0 → v .status ≢ 16
