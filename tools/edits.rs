@@ -16,6 +16,11 @@
 //     print R N       register R goes as text to a space of N bytes, each of them 7
 //     type R "TEXT"   the text between the quotes, which may have no bytes, is typed into register R;
 //                     a comma with a blank behind it would end the step
+//     start           a text that comes in pieces starts
+//     state S C O D T W M   its state becomes stand S, code C, offset O, depth D and T terms, W of
+//                     them in the innermost open expression and M the most of one; each count is 0
+//     feed "TEXT"     the text between the quotes, as for `type`, is its next piece
+//     end             that text ends
 //     save N          the store goes as a file to a space of N bytes, each of them 7
 //     byte I B, less N, more N    byte I of that file becomes B; N bytes less at its front; N bytes
 //                     more there, each of them 7
@@ -25,9 +30,10 @@
 // A batch answers with its status and value, `run`; if it is run, with those of each call; with the
 // words of the answer space after those, `answers`; and with `top`. `check`, `fresh`, `collect`, `type`
 // and `load` answer with status, value and `top`, a look with its two word numbers, a print with
-// status, value and length, then with the bytes of its space, `space`; `save` with status, value,
-// `top` and length, then with the bytes of its space, four to an answer, `bytes I`. After each answer
-// but a look's comes the rule of a damaged cell, `rule`. The cells come last.
+// status, value and length, then with the bytes of its space, `space`; `end` with status, value, terms
+// and most; `save` with status, value, `top` and length, then with the bytes of its space, four to an
+// answer, `bytes I`. After each answer but that of a look or an end comes the rule of a damaged cell,
+// `rule`. The cells come last.
 #![allow(warnings)]
 mod build;
 mod bytes;
@@ -36,6 +42,7 @@ mod capi;
 mod collect;
 mod file;
 mod meaning;
+mod pieces;
 mod reader;
 mod serve;
 mod store;
@@ -83,7 +90,25 @@ fn list(numbers: &[u32]) -> String {
     numbers.iter().map(|n| format!("{n} ∷ ")).collect::<String>() + "[]"
 }
 
-// What is lent, with the terms of the definitions for its words and its `top`.
+// A text's bytes, and the list of them.
+fn bytes_of(text: &str) -> (&[u8], String) {
+    (text.as_bytes(), list(&text.bytes().map(u32::from).collect::<Vec<_>>()))
+}
+
+// Where the reader of a text stands, by its number.
+fn standing(stand: u32, code: u32) -> String {
+    match stand {
+        0 => "begun".to_string(),
+        1 => "spaced".to_string(),
+        2 => format!("(number {code})"),
+        3 => "closed".to_string(),
+        13 | 21 | 24 => format!("(stopped {stand})"),
+        _ => "(stopped 23)".to_string(),
+    }
+}
+
+// What is lent, with the terms of the definitions for its words and its `top`; and the state of a text
+// that comes in pieces, with the term for it.
 struct Lent {
     words: Vec<u32>,
     top: usize,
@@ -91,6 +116,8 @@ struct Lent {
     t: String,
     space: Option<usize>,
     file: Vec<u8>,
+    state: pieces::Pieces,
+    p: String,
     batch: Vec<(String, Vec<u32>)>,
     said: Option<String>,
 }
@@ -228,11 +255,37 @@ impl Lent {
             }
             // Words of the text that are numbers are among the numbers too.
             ("type", &[r, ..]) => {
-                let typed = quoted(text).as_bytes();
+                let (typed, list) = bytes_of(quoted(text));
                 let a = capi::zelmotar_type(&mut self.words, self.top, r as usize, typed);
-                let typed: Vec<u32> = typed.iter().map(|&b| b as u32).collect();
-                let done = format!("(typeIn 16 {ws} {t} {r} ({}))", list(&typed));
+                let done = format!("(typeIn 16 {ws} {t} {r} ({list}))");
                 self.answered(text, [a.status, a.rule, a.value as u32], a.top, done);
+            }
+            ("start", []) => {
+                self.state = capi::zelmotar_text_start();
+                self.p = "noPieces".to_string();
+            }
+            ("state", &[stand, code, offset, depth, terms, own, most]) => {
+                let place = format!("reader {} {offset} {depth} {terms}", standing(stand, code));
+                let levels = format!("own = {own}; most = {most}; waiting = replicate 64 0");
+                self.p = format!("(record {{ place = {place}; {levels} }})");
+                let (offset, depth, terms) = (offset as usize, depth as usize, terms as usize);
+                let counts = [0; 64];
+                self.state =
+                    pieces::Pieces { stand, code, offset, depth, terms, own, most, counts };
+            }
+            ("feed", _) => {
+                let (piece, list) = bytes_of(quoted(text));
+                self.state = capi::zelmotar_text_feed(self.state, piece);
+                self.p = format!("(fed {} ({list}))", self.p);
+            }
+            ("end", []) => {
+                let a = capi::zelmotar_text_end(self.state);
+                let c = format!("(counted {})", self.p);
+                let term = format!(
+                    "{c} .verdict .status ∷ {c} .verdict .value ∷ {c} .need ∷ {c} .most ∷ []"
+                );
+                let numbers = [a.status, a.value as u32, a.terms as u32, a.most as u32];
+                self.say(text, &numbers, term);
             }
             ("save", &[n]) => self.save(text, n as usize),
             ("byte", &[i, b]) => self.file[i as usize] = b as u8,
@@ -292,9 +345,10 @@ fn program(n: usize, first: &[u32]) {
 fn main() {
     let mut args = std::env::args().skip(1);
     let input = args.next().expect("an input");
-    let (ws, t) = ("[]".to_string(), "16".to_string());
+    let (ws, t, p) = ("[]".to_string(), "16".to_string(), "noPieces".to_string());
     let (said, words, batch, file) = (args.next(), vec![], vec![], vec![]);
-    let mut lent = Lent { words, top: 16, ws, t, space: None, file, batch, said };
+    let state = capi::zelmotar_text_start();
+    let mut lent = Lent { words, top: 16, ws, t, space: None, file, state, p, batch, said };
     input.split(", ").for_each(|step| lent.step(step));
     lent.run();
     for (c, cell) in lent.words.chunks(2).enumerate() {
