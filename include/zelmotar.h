@@ -16,10 +16,10 @@
  * 16 and c. Cells from top on are zero, and no other cell has both words zero: a cell below top that was wiped is
  * damaged. A store that keeps all these rules is sound.
  *
- * What holds for all nine functions:
+ * What holds for all twelve functions:
  *
- *   - They take any words, any top, any register, any text and any file, and refuse by number what is not in order.
- *     A store need not be checked before it is lent; each function checks it.
+ *   - They take any words, any top, any register, any text, whole or in pieces, and any file, and refuse by number what
+ *     is not in order. A store need not be checked before it is lent; each function checks it.
  *   - A pointer must lead to as many words as its count says, aligned as uint32_t is; a pointer to bytes, to
  *     as many bytes, which may begin anywhere. It must not be null, not even where the count is 0; it may then
  *     lead anywhere.
@@ -27,26 +27,30 @@
  *   - They read and write nothing outside what is lent, keep no pointer, hold no state between calls, allocate
  *     nothing, do no input or output and call nothing back. Calls may run at the same time in different threads
  *     where neither writes what is lent to the other. zelmotar_check, zelmotar_look and zelmotar_print write no
- *     store.
+ *     store, and the three for a text in pieces are lent none: how far the text has come is a value that the caller
+ *     has, hands in and gets back.
  *   - Wherever the status is 1 to 5, no word is changed. zelmotar_print never changes a word, zelmotar_type changes
  *     words only where its status is 0 or 16, zelmotar_save only where it is 0 or 22, zelmotar_load only where it is 0.
  *     The bytes lent to zelmotar_print and zelmotar_save are all zero wherever the status is not 0, and those lent to
- *     zelmotar_type and zelmotar_load are never changed.
+ *     zelmotar_type, zelmotar_load and zelmotar_text_feed are never changed.
  *   - A collection uses no memory that grows with the store, neither beside it nor on the stack.
- *   - The archive asks the linker for memset and nothing else: the compiler puts it in for loops that write
- *     zeros. Where there is no C library, the caller brings one.
+ *   - The archive asks the linker for nothing but memset and memcpy: the compiler puts them in, the one for loops that
+ *     write zeros, the other for structs that are handed by value. Where there is no C library, the caller brings both.
  *
  * What they cost:
  *
- *   - Time. Each first goes over all n words: zelmotar_fresh writes them, the others check them, but for zelmotar_load,
- *     which checks the file and writes them last. So one batch of many calls costs less than many batches of one. What
- *     comes on top is said with each function. None takes longer because cells are shared, but for zelmotar_print,
- *     which writes a shared cell wherever it is held; its time keeps within what the text space allows.
+ *   - Time. Each that is lent words first goes over all n of them: zelmotar_fresh writes them, the others check them,
+ *     but for zelmotar_load, which checks the file and writes them last. So one batch of many calls costs less than
+ *     many batches of one. What comes on top is said with each function. None takes longer because cells are shared,
+ *     but for zelmotar_print, which writes a shared cell wherever it is held; its time keeps within what the text space
+ *     allows.
  *   - Stack. zelmotar_load uses under 17,408 bytes, most of them for a table of 4,096 words. Where 64 brackets are open
  *     zelmotar_print uses under 13,312 bytes and zelmotar_type under 11,264; for each that is not, 192 and 144 less.
- *     zelmotar_run uses under 512, zelmotar_collect and zelmotar_save under 256, zelmotar_fresh under 128, the others
- *     under 192, memset's own included: measured on x86-64 and 64-bit Arm by painting the stack (tests/c/stack.c). It
- *     does not grow with the store, nor with the length of a text or of a file.
+ *     zelmotar_text_feed uses under 1,024, zelmotar_run and zelmotar_text_end under 512, zelmotar_collect and
+ *     zelmotar_save under 256, zelmotar_fresh and zelmotar_text_start under 128, the others under 192, what memset and
+ *     memcpy use included: measured on x86-64 and 64-bit Arm by painting the stack (tests/c/stack.c). Structs that are
+ *     handed in and come back by value are the caller's, and not counted. It does not grow with the store, nor with the
+ *     length of a text or of a file.
  */
 #ifndef ZELMOTAR_H
 #define ZELMOTAR_H
@@ -60,9 +64,9 @@ extern "C" {
 
 /* The version of this file and of the library that it goes with: major, minor, patch. */
 #define ZELMOTAR_VERSION_MAJOR 0
-#define ZELMOTAR_VERSION_MINOR 2
+#define ZELMOTAR_VERSION_MINOR 3
 #define ZELMOTAR_VERSION_PATCH 0
-#define ZELMOTAR_VERSION "0.2.0"
+#define ZELMOTAR_VERSION "0.3.0"
 
 /* Put before a function whose answer must be looked at: compilers that can warn of an answer that is dropped
  * do so. Define it as nothing to have no such warnings. */
@@ -84,6 +88,7 @@ extern "C" {
 #define ZELMOTAR_MIN_CODE 1u          /* the least code of a symbol; 0 is none */
 #define ZELMOTAR_MAX_CODE 0x0fffffffu /* the largest code of a symbol, 268,435,455 */
 #define ZELMOTAR_MAX_DEPTH 64         /* the most brackets that may be open at one place of a text */
+#define ZELMOTAR_MAX_TERMS 65536      /* the most terms of a text, counted on all levels */
 #define ZELMOTAR_EDITION 1            /* the edition of a file, its last word */
 #define ZELMOTAR_TRAILER_BYTES 16     /* bytes of a file's trailer; a file of fewer is too short */
 
@@ -171,6 +176,34 @@ typedef struct {
     size_t length;
 } zelmotar_saved;
 
+/* How far a text in pieces has come: zelmotar_text_start gives the first, and zelmotar_text_feed takes one and gives
+ * the next. It is a value that goes from call to call, with no pointer in it; it may be kept and copied, and the same
+ * one fed more than once. A caller need not look into it, but may: a stand over 3 says that the text is refused, as
+ * soon as the byte at fault was fed. An expression is here the whole text or what a bracket holds, and its terms are
+ * those at its own level. */
+typedef struct {
+    uint32_t stand;                      /* 0 where an expression has begun, 1 behind a blank, 2 in a code, 3 behind a
+                                          * closing bracket; else the status with which the text is refused */
+    uint32_t code;                       /* the code so far where stand is 2, else 0 */
+    size_t offset;                       /* the bytes read so far, or the offset of the byte that is refused */
+    size_t depth;                        /* the brackets that are open */
+    size_t terms;                        /* the terms begun so far, on all levels */
+    uint32_t own;                        /* the terms begun in the innermost expression that is open */
+    uint32_t most;                       /* the most terms that any one expression has so far */
+    uint32_t counts[ZELMOTAR_MAX_DEPTH]; /* at i, for i under depth: the terms begun in the expression that i open
+                                          * brackets are around, the bracket that is open in it included */
+} zelmotar_pieces;
+
+/* What a text in pieces answers at its end: the status and the value that goes with it, which is the offset of a byte
+ * where the text is refused; how many terms the text has on all levels, each of which takes one cell where it is typed
+ * in; and the most that any one expression has, the whole text or what a bracket holds, at its own level. */
+typedef struct {
+    uint32_t status;
+    size_t value;
+    size_t terms;
+    size_t most;
+} zelmotar_counted;
+
 /* Status of a whole request. The first that applies is given. */
 enum {
     ZELMOTAR_DONE = 0,         /* done */
@@ -210,15 +243,20 @@ enum {
  * the byte farther left, and ZELMOTAR_TOO_DEEP where both hold at one byte.
  *
  * Status of a register typed in: the first that applies of ZELMOTAR_BAD_LENGTH to ZELMOTAR_DAMAGED, with its value and
- * rule; ZELMOTAR_NO_REGISTER with value 0; ZELMOTAR_BAD_CODE, ZELMOTAR_TOO_DEEP or ZELMOTAR_NOT_TEXT, whichever is at
- * the byte farthest left, with the offset of this byte as value, counted from 0; ZELMOTAR_NO_ROOM with value 0; and
- * ZELMOTAR_DONE with value 0. ZELMOTAR_BAD_CODE is at a 0 that begins a term, or at the digit that takes a code over
- * 268,435,455. */
+ * rule; ZELMOTAR_NO_REGISTER with value 0; ZELMOTAR_BAD_CODE, ZELMOTAR_TOO_DEEP, ZELMOTAR_NOT_TEXT or
+ * ZELMOTAR_TOO_MANY_TERMS, whichever is at the byte farthest left, with the offset of this byte as value, counted from
+ * 0; ZELMOTAR_NO_ROOM with value 0; and ZELMOTAR_DONE with value 0. ZELMOTAR_BAD_CODE is at a 0 that begins a term, or
+ * at the digit that takes a code over 268,435,455. At one byte ZELMOTAR_TOO_DEEP goes before ZELMOTAR_TOO_MANY_TERMS,
+ * and that before ZELMOTAR_BAD_CODE.
+ *
+ * Status of a text in pieces: one of the four that have an offset for a register typed in, with this offset, counted
+ * from the first byte of the first piece; and ZELMOTAR_DONE with value 0. */
 enum {
-    ZELMOTAR_NO_REGISTER = 20, /* the register is over 15; a store that is not sound is told first */
-    ZELMOTAR_TOO_DEEP = 21,    /* the next byte would open a 65th bracket */
-    ZELMOTAR_SHORT_SPACE = 22, /* the next byte does not fit into the text space, or the file not into its space */
-    ZELMOTAR_NOT_TEXT = 23     /* no text goes on with this byte, or the text ends too soon, at text_n */
+    ZELMOTAR_NO_REGISTER = 20,   /* the register is over 15; a store that is not sound is told first */
+    ZELMOTAR_TOO_DEEP = 21,      /* the next byte would open a 65th bracket */
+    ZELMOTAR_SHORT_SPACE = 22,   /* the next byte does not fit into the text space, or the file not into its space */
+    ZELMOTAR_NOT_TEXT = 23,      /* no text goes on with this byte, or the text ends too soon, at its length */
+    ZELMOTAR_TOO_MANY_TERMS = 24 /* the next byte would begin a 65,537th term */
 };
 
 /* Status of a store saved: the first that applies of ZELMOTAR_BAD_LENGTH to ZELMOTAR_DAMAGED, with its value and rule;
@@ -277,6 +315,7 @@ static inline const char *zelmotar_status_text(uint32_t status)
     case ZELMOTAR_TOO_DEEP: return "brackets are nested too deep";
     case ZELMOTAR_SHORT_SPACE: return "the space is too short";
     case ZELMOTAR_NOT_TEXT: return "no text of an expression";
+    case ZELMOTAR_TOO_MANY_TERMS: return "too many terms";
     case ZELMOTAR_SHORT_FILE: return "the file is too short";
     case ZELMOTAR_BAD_EDITION: return "the file is of no known edition";
     case ZELMOTAR_BAD_DISTANCE: return "the file's distance is wrong";
@@ -380,7 +419,9 @@ ZELMOTAR_USE_RESULT zelmotar_text zelmotar_print(const uint32_t *words, size_t n
 
 /* Types a register in: it becomes what a text of text_n bytes says. A text is what zelmotar_print writes and nothing
  * else: no code begins with 0, one blank stands between neighbours and none elsewhere, and no zero byte or end of
- * line is part of it. A text of no bytes makes the register empty.
+ * line is part of it. One of over 65,536 terms, which a register with shared cells may print, is refused for that; no
+ * store has room for as many. A text of no bytes makes the register empty. Whether a text is in order, and how many
+ * cells it takes, zelmotar_text_end says without a store.
  *
  * Reads the n words, and the text as far as it is in order. Writes the words of the new cells and of the register, and
  * all n where it collects; the text is not written.
@@ -393,12 +434,67 @@ ZELMOTAR_USE_RESULT zelmotar_text zelmotar_print(const uint32_t *words, size_t n
  * does, twice at most, where it collects.
  * Answers ZELMOTAR_DONE with value 0 and the new top. Else the register keeps its expression, and so does every other,
  * and the status is, in this order: ZELMOTAR_BAD_LENGTH, ZELMOTAR_BAD_TOP or ZELMOTAR_DAMAGED as zelmotar_check has it,
- * with its value and rule; ZELMOTAR_NO_REGISTER with value 0; ZELMOTAR_BAD_CODE, ZELMOTAR_TOO_DEEP or
- * ZELMOTAR_NOT_TEXT, with the offset of the first byte that is not in order as value, or text_n where the text ends
- * too soon; ZELMOTAR_NO_ROOM with value 0. That one leaves the store collected, with its top; the others change no
+ * with its value and rule; ZELMOTAR_NO_REGISTER with value 0; ZELMOTAR_BAD_CODE, ZELMOTAR_TOO_DEEP, ZELMOTAR_NOT_TEXT
+ * or ZELMOTAR_TOO_MANY_TERMS, with the offset of the first byte that is not in order as value, or text_n where the text
+ * ends too soon; ZELMOTAR_NO_ROOM with value 0. That one leaves the store collected, with its top; the others change no
  * word, and top comes back as it came. */
 ZELMOTAR_USE_RESULT zelmotar_typed zelmotar_type(uint32_t *words, size_t n, size_t top, size_t reg, const uint8_t *text,
                                                   size_t text_n);
+
+/* Starts a text that arrives in pieces, and gives how far it has come: nowhere, so every field is 0.
+ *
+ * A text in pieces is judged before anything is laid. After zelmotar_text_start, zelmotar_text_feed takes each piece as
+ * it arrives, and zelmotar_text_end says whether the text is in order, how many cells it takes where it is typed in,
+ * and how wide its widest expression is. However a text is cut, the answer is that for the whole.
+ *
+ * Reads and writes nothing, and takes the same time always. */
+ZELMOTAR_USE_RESULT zelmotar_pieces zelmotar_text_start(void);
+
+/* Feeds a text its next piece, of piece_n bytes. A text may be cut anywhere, inside a code too, and a piece may have no
+ * bytes.
+ *
+ * Reads the piece as far as the text is in order. Writes nothing: the state that is handed in stays with the caller as
+ * it is, and the piece is not written.
+ * It takes time with the bytes that it reads; what comes on top is the same for each piece, up to a step for each
+ * bracket that is open. So one long piece costs less than many short ones.
+ * Gives how far the text has come then. At the first byte that is not in order stand becomes ZELMOTAR_BAD_CODE,
+ * ZELMOTAR_TOO_DEEP, ZELMOTAR_NOT_TEXT or ZELMOTAR_TOO_MANY_TERMS and code 0, offset is that of this byte, and the
+ * other fields stay as they were before it. What is fed from then on changes no field.
+ *
+ * Any state may be handed in, also one that neither zelmotar_text_start nor this function gave. It goes on exactly if
+ * all of these hold, in numbers that do not wrap:
+ *
+ *   stand                     at most 3
+ *   code                      under 2^28 where stand is 2; else it is not looked at
+ *   depth                     at most 64
+ *   terms                     at most 65,536
+ *   own, most                 each at most terms
+ *   counts[i]                 at most terms, for each i under depth; the others are not looked at
+ *   offset + depth + ahead    at most 2^28 * terms + 1, where ahead is 1 for stand 0 and 3, 0 for stand 1, and
+ *                             2^28 - code for stand 2
+ *
+ * One that goes on is fed, and comes back with code 0 unless its stand is 2. To a code of 0, which no text leads to, a
+ * further 0 is refused as one that begins a term. Any other state comes back as it came, in every field, and the piece
+ * is not read. */
+ZELMOTAR_USE_RESULT zelmotar_pieces zelmotar_text_feed(zelmotar_pieces state, const uint8_t *piece, size_t piece_n);
+
+/* Ends a text: what comes of it if no more pieces follow. That may be asked after any piece, and the same state be fed
+ * further, as it stays with the caller.
+ *
+ * Reads nothing but the state, and writes nothing. It takes the same time always, up to a step for each bracket that is
+ * open.
+ * Answers ZELMOTAR_DONE with value 0, the number of terms and the most that any one expression has, both 0 for a text
+ * of no bytes. zelmotar_type then takes the same text wherever there is room for so many new cells, and needs no fewer.
+ * Else terms and most are 0, and the status is that with which zelmotar_type refuses the text whatever the store:
+ * ZELMOTAR_BAD_CODE, ZELMOTAR_TOO_DEEP, ZELMOTAR_NOT_TEXT or ZELMOTAR_TOO_MANY_TERMS. The value is the offset of the
+ * first byte that is not in order, counted from the first byte of the first piece, or the length of the text where it
+ * ends too soon.
+ *
+ * Of any state, also one that neither of the two others gave: ZELMOTAR_DONE with value 0 and its terms and most
+ * where it goes on, as zelmotar_text_feed has it, depth is 0, and stand is 0, 2 or 3. Else its stand as status where
+ * that is ZELMOTAR_BAD_CODE, ZELMOTAR_TOO_DEEP or ZELMOTAR_TOO_MANY_TERMS, and ZELMOTAR_NOT_TEXT where it is not; its
+ * offset as value; and 0 as terms and most. */
+ZELMOTAR_USE_RESULT zelmotar_counted zelmotar_text_end(zelmotar_pieces state);
 
 /* Saves a store: collects it as zelmotar_collect does, and writes its file into a space of file_n bytes. Loaded again
  * it is the collected store, word for word and with its top.

@@ -1,8 +1,8 @@
 /* A feed's readings in a store: a bracket of feed, unit and value for each, side by side in one register.
  *
  * Shows the functions in use, with every status looked at: that of each request and that of each call in it. Printing
- * is in print.c, typing in type.c, saving and loading in swap.c. The store is small on purpose, so that it collects
- * itself while the readings come in, and at last has no room for one more. */
+ * is in print.c, typing in type.c, what arrives in pieces in pieces.c, saving and loading in swap.c. The store is small
+ * on purpose, so that it collects itself while the readings come in, and at last has no room for one more. */
 #include <stdio.h>
 #include <stdlib.h>
 

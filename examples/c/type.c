@@ -26,7 +26,8 @@ static void demand(const char *what, uint32_t status, uint32_t expected)
 /* Whether the value that goes with a status is the offset of a byte of the line. */
 static int tells_offset(uint32_t status)
 {
-    return status == ZELMOTAR_BAD_CODE || status == ZELMOTAR_TOO_DEEP || status == ZELMOTAR_NOT_TEXT;
+    return status == ZELMOTAR_BAD_CODE || status == ZELMOTAR_TOO_DEEP || status == ZELMOTAR_NOT_TEXT ||
+           status == ZELMOTAR_TOO_MANY_TERMS;
 }
 
 /* Prints register 0 back. The byte after those that are lent is 0, so the text is a C string. */

@@ -1,5 +1,5 @@
-//! How long the library takes, measured against the ordinary stores of the model in the same run, and
-//! for [`files`] against a copy.
+//! How long the library takes, measured against the ordinary stores of the model in the same run, for
+//! [`files`] against a copy too, and for [`counts`] against an ordinary counter.
 //!
 //! Run it with `cargo bench --bench ratios`. It prints the tables of `docs/BENCHMARKS.md`; with
 //! `-- growth` behind, those of growth alone, and with `-- stores` all but those. The ordinary
@@ -9,6 +9,8 @@
 //! just before, and the least time of all rounds counts. Before anything is timed, all contenders
 //! must leave the same words and give the same answers.
 
+#[path = "ratios/counts.rs"]
+mod counts;
 #[path = "ratios/files.rs"]
 mod files;
 
@@ -640,6 +642,7 @@ fn main() {
         forced();
         prints();
         types();
+        counts::table();
         files::table();
     }
     if !told("stores") {

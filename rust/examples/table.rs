@@ -3,9 +3,10 @@
 
 use std::mem::{offset_of, size_of};
 
-use zelmotar::raw::{Reply, Saved, Span, Text, Typed};
+use zelmotar::raw::{Counted, Pieces, Reply, Saved, Span, Text, Typed};
 use zelmotar::{file_bytes, status_text, Call, Rule, Trailer};
-use zelmotar::{EDITION, MAX_CALLS, MAX_CELLS, MAX_CODE, MAX_DEPTH, MIN_CODE, REGISTERS, STATUSES};
+use zelmotar::{EDITION, MAX_CALLS, MAX_CELLS, MAX_CODE, MAX_DEPTH, MAX_TERMS, MIN_CODE};
+use zelmotar::{REGISTERS, STATUSES};
 
 /// A call of each operation, in order.
 fn operations() -> impl Iterator<Item = Call> {
@@ -36,6 +37,20 @@ fn print_layout() {
     print!(" value at {}", offset_of!(Saved, value));
     print!(" top at {}", offset_of!(Saved, top));
     println!(" length at {}", offset_of!(Saved, length));
+    print!("pieces of {} bytes:", size_of::<Pieces>());
+    print!(" stand at {}", offset_of!(Pieces, stand));
+    print!(" code at {}", offset_of!(Pieces, code));
+    print!(" offset at {}", offset_of!(Pieces, offset));
+    print!(" depth at {}", offset_of!(Pieces, depth));
+    print!(" terms at {}", offset_of!(Pieces, terms));
+    print!(" own at {}", offset_of!(Pieces, own));
+    print!(" most at {}", offset_of!(Pieces, most));
+    println!(" counts at {}", offset_of!(Pieces, counts));
+    print!("counted of {} bytes:", size_of::<Counted>());
+    print!(" status at {}", offset_of!(Counted, status));
+    print!(" value at {}", offset_of!(Counted, value));
+    print!(" terms at {}", offset_of!(Counted, terms));
+    println!(" most at {}", offset_of!(Counted, most));
 }
 
 /// How long files are, and for how many words their trailers ask.
@@ -59,6 +74,7 @@ fn main() {
     println!("least code {MIN_CODE}");
     println!("most code {MAX_CODE}");
     println!("most depth {MAX_DEPTH}");
+    println!("most terms {MAX_TERMS}");
     for status in STATUSES {
         println!("status {} {}: {}", status.number, status.name, status.text);
     }

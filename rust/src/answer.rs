@@ -3,7 +3,7 @@
 use core::error::Error;
 use core::fmt;
 
-use crate::ffi::{Reply, Saved, Text, Typed};
+use crate::ffi::{Counted, Reply, Saved, Text, Typed};
 use crate::{status_text, Call, Rule};
 
 /// The answer to one call of a batch.
@@ -171,7 +171,9 @@ pub enum Refusal {
     BadCalls,
     /// 5: the answer space is under two words a call.
     ShortAnswers,
-    /// 13: a term of a typed text begins with 0, or a digit takes a code over [`MAX_CODE`](crate::MAX_CODE).
+    /// 13: a term of a text begins with 0, or a digit takes a code over [`MAX_CODE`](crate::MAX_CODE). Here
+    /// and below, where a refusal has an offset, the text is one that is typed in or comes in
+    /// [`Pieces`](crate::Pieces).
     BadCode {
         /// The place of the digit in the text, from 0.
         offset: usize,
@@ -184,7 +186,7 @@ pub enum Refusal {
     /// 21: a bracket of a printed text would be one over the [`MAX_DEPTH`](crate::MAX_DEPTH) that may be
     /// open.
     TooDeep,
-    /// 21: a bracket of a typed text is one over the [`MAX_DEPTH`](crate::MAX_DEPTH) that may be open.
+    /// 21: a bracket of a text is one over the [`MAX_DEPTH`](crate::MAX_DEPTH) that may be open.
     TooDeepAt {
         /// The place of the bracket in the text, from 0.
         offset: usize,
@@ -192,10 +194,16 @@ pub enum Refusal {
     /// 22: a byte of the text does not fit into the text space, or the file does not fit into its
     /// space. For a file the store has been collected, and every register has its expression.
     ShortSpace,
-    /// 23: a typed text is that of no expression.
+    /// 23: a text is that of no expression.
     NotText {
         /// The place of the first byte that cannot stand there, from 0; the length where the text ends too
         /// soon.
+        offset: usize,
+    },
+    /// 24: a term of a text is one over the [`MAX_TERMS`](crate::MAX_TERMS) that it may have. At one byte
+    /// [`TooDeepAt`](Refusal::TooDeepAt) goes before it, and it before [`BadCode`](Refusal::BadCode).
+    TooManyTerms {
+        /// The place of the byte that begins the term, from 0.
         offset: usize,
     },
     /// 30: a file has fewer bytes than a trailer, [`Trailer::BYTES`](crate::Trailer::BYTES).
@@ -213,8 +221,8 @@ pub enum Refusal {
 }
 
 impl Refusal {
-    /// The status number of the refusal: 1 to 5, 20 to 22 for printing, 13, 16, 20, 21 and 23 for
-    /// typing, 22 for saving, 3 and 30 to 35 for loading.
+    /// The status number of the refusal: 1 to 5, 20 to 22 for printing, 13, 16, 20, 21, 23 and 24 for
+    /// typing, all but 16 and 20 of these for a text in pieces, 22 for saving, 3 and 30 to 35 for loading.
     pub const fn number(self) -> u32 {
         match self {
             Refusal::BadLength => 1,
@@ -228,6 +236,7 @@ impl Refusal {
             Refusal::TooDeep | Refusal::TooDeepAt { .. } => 21,
             Refusal::ShortSpace => 22,
             Refusal::NotText { .. } => 23,
+            Refusal::TooManyTerms { .. } => 24,
             Refusal::ShortFile => 30,
             Refusal::BadEdition => 31,
             Refusal::BadDistance => 32,
@@ -263,8 +272,8 @@ impl Refusal {
         }
     }
 
-    /// The place in a typed text that is refused, if a text is: the offset of a byte, or the length where
-    /// the text ends too soon.
+    /// The place in a text that is refused, if a text is: the offset of a byte, or the length where the text
+    /// ends too soon.
     ///
     /// ```
     /// use zelmotar::Store;
@@ -278,7 +287,8 @@ impl Refusal {
         match self {
             Refusal::BadCode { offset }
             | Refusal::TooDeepAt { offset }
-            | Refusal::NotText { offset } => Some(offset),
+            | Refusal::NotText { offset }
+            | Refusal::TooManyTerms { offset } => Some(offset),
             _ => None,
         }
     }
@@ -318,15 +328,36 @@ impl Refusal {
     ///
     /// As [`of`](Refusal::of).
     pub(crate) fn of_typed(typed: Typed) -> Result<(), Refusal> {
-        let offset = typed.value;
-        match typed.status {
-            13 => Err(Refusal::BadCode { offset }),
-            16 => Err(Refusal::NoRoom),
-            20 => Err(Refusal::NoRegister),
-            21 => Err(Refusal::TooDeepAt { offset }),
-            23 => Err(Refusal::NotText { offset }),
+        match (typed.status, Refusal::at(typed.status, typed.value)) {
+            (_, Some(refusal)) => Err(refusal),
+            (16, _) => Err(Refusal::NoRoom),
+            (20, _) => Err(Refusal::NoRegister),
             // The value is a cell, and so fits a word.
-            status => Refusal::of_store(status, typed.value as u32, typed.rule),
+            (status, _) => Refusal::of_store(status, typed.value as u32, typed.rule),
+        }
+    }
+
+    /// The refusal in what a text in pieces answers at its end, if it is one.
+    ///
+    /// # Panics
+    ///
+    /// As [`of`](Refusal::of).
+    pub(crate) fn of_counted(counted: Counted) -> Result<(), Refusal> {
+        match (counted.status, Refusal::at(counted.status, counted.value)) {
+            (0, _) => Ok(()),
+            (_, Some(refusal)) => Err(refusal),
+            (other, None) => no_status(other),
+        }
+    }
+
+    /// The refusal of a text with a status and an offset; `None` if the status is of something else.
+    pub(crate) fn at(status: u32, offset: usize) -> Option<Refusal> {
+        match status {
+            13 => Some(Refusal::BadCode { offset }),
+            21 => Some(Refusal::TooDeepAt { offset }),
+            23 => Some(Refusal::NotText { offset }),
+            24 => Some(Refusal::TooManyTerms { offset }),
+            _ => None,
         }
     }
 
@@ -428,6 +459,24 @@ mod tests {
             assert_eq!(refusals(3, rule.number()), [damaged; 5]);
         }
         assert_eq!(refusals(0, 0), [Ok(()); 5]);
+    }
+
+    #[test]
+    fn a_text_is_refused_alike_whether_it_is_typed_in_or_comes_in_pieces() {
+        let (rule, value, top, terms, most) = (0, 7, 20, 0, 0);
+        for status in [13, 21, 23, 24] {
+            let refusal = Refusal::of_typed(Typed { status, rule, value, top }).unwrap_err();
+            assert_eq!((refusal.number(), refusal.offset()), (status, Some(7)));
+            assert_eq!(Refusal::of_counted(Counted { status, value, terms, most }), Err(refusal));
+        }
+        let done = Counted { status: 0, value: 0, terms: 5, most: 3 };
+        assert_eq!(Refusal::of_counted(done), Ok(()));
+    }
+
+    #[test]
+    #[should_panic = "answers 16, which is no status"]
+    fn a_text_in_pieces_is_not_refused_for_room() {
+        let _ = Refusal::of_counted(Counted { status: 16, value: 0, terms: 0, most: 0 });
     }
 
     #[test]

@@ -86,6 +86,51 @@ pub struct Saved {
     pub length: usize,
 }
 
+/// A text that comes in pieces, as far as it is read, in numbers.
+///
+/// It is laid out as `zelmotar_pieces` of the C header. Any numbers may be in it: [`text_feed`] says which of
+/// them go on.
+#[repr(C)]
+#[derive(Clone, Copy, Debug, PartialEq, Eq)]
+#[must_use]
+pub struct Pieces {
+    /// Where the text stands: 0 where a level has begun, 1 after a blank, 2 in a number, 3 after a closing
+    /// bracket; or the status with which it is refused, 13, 21, 23 or 24.
+    pub stand: u32,
+    /// The number so far where `stand` is 2, else 0.
+    pub code: u32,
+    /// The bytes read so far, or the offset of the byte that is refused.
+    pub offset: usize,
+    /// The brackets that are open, at most 64.
+    pub depth: usize,
+    /// The terms begun on all levels, at most 65,536.
+    pub terms: usize,
+    /// The terms begun in the innermost open expression.
+    pub own: u32,
+    /// The most terms that any one expression had at its own level so far.
+    pub most: u32,
+    /// For each bracket that is open, the outermost first, the terms begun in the expression that it stands
+    /// in, itself included. Those behind them are left over, and say nothing.
+    pub counts: [u32; 64],
+}
+
+/// What a text that came in pieces answers at its end, in numbers.
+///
+/// It is laid out as `zelmotar_counted` of the C header.
+#[repr(C)]
+#[derive(Clone, Copy, Debug, PartialEq, Eq)]
+#[must_use = "the status says whether it is a text"]
+pub struct Counted {
+    /// 0 for done, else the number of the refusal.
+    pub status: u32,
+    /// The number that the status names: the offset of a byte of the text, or 0.
+    pub value: usize,
+    /// The terms on all levels, 0 where the text is refused.
+    pub terms: usize,
+    /// The most terms that any one expression has at its own level, 0 where the text is refused.
+    pub most: usize,
+}
+
 extern "C" {
     fn zelmotar_check(words: *const u32, n: usize, top: usize) -> Reply;
     fn zelmotar_fresh(words: *mut u32, n: usize) -> Reply;
@@ -118,6 +163,9 @@ extern "C" {
     ) -> Typed;
     fn zelmotar_save(words: *mut u32, n: usize, top: usize, file: *mut u8, file_n: usize) -> Saved;
     fn zelmotar_load(words: *mut u32, n: usize, file: *const u8, file_n: usize) -> Reply;
+    fn zelmotar_text_start() -> Pieces;
+    fn zelmotar_text_feed(state: Pieces, piece: *const u8, piece_n: usize) -> Pieces;
+    fn zelmotar_text_end(state: Pieces) -> Counted;
 }
 
 /// Checks a store: 0, or refusals 1 to 3. Nothing is written, and `top` comes back as it came.
@@ -188,8 +236,8 @@ pub fn print(words: &[u32], top: usize, register: usize, text: &mut [u8]) -> Tex
 /// Types `text` into a register; `text` is only read. In C this is `zelmotar_type`, a word that Rust keeps
 /// for itself.
 ///
-/// It answers 0 with the new `top`; or refuses with 1 to 3, 20, 13, 21 or 23, and then words and `top` are
-/// as they came; or refuses with 16, and then the store is collected and `top` is that of it.
+/// It answers 0 with the new `top`; or refuses with 1 to 3, 20, 13, 21, 23 or 24, and then words and `top`
+/// are as they came; or refuses with 16, and then the store is collected and `top` is that of it.
 pub fn type_in(words: &mut [u32], top: usize, register: usize, text: &[u8]) -> Typed {
     // SAFETY: each pointer and count are those of a live slice. `words` is borrowed alone, so the two do
     // not overlap, and the function writes u32 to it only, within its count. It takes every `top`, every
@@ -220,4 +268,37 @@ pub fn load(words: &mut [u32], file: &[u8]) -> Reply {
     // two do not overlap, and the function writes u32 to it only, within its count. It takes every
     // word and every byte.
     unsafe { zelmotar_load(words.as_mut_ptr(), words.len(), file.as_ptr(), file.len()) }
+}
+
+/// A text of which no byte has come yet: every field is 0.
+pub fn text_start() -> Pieces {
+    // SAFETY: the function takes nothing, and what it gives back are numbers.
+    unsafe { zelmotar_text_start() }
+}
+
+/// Reads one piece more of a text, of any length; `piece` is only read.
+///
+/// What comes back has `code` 0 unless `stand` is 2. A text that is refused already comes back as it came,
+/// field by field. So does every other struct that does not go on. One goes on if all of this holds:
+///
+/// - `stand` is at most 3, and where it is 2 `code` is below 2^28;
+/// - `depth` is at most 64 and `terms` at most 65,536;
+/// - `own`, `most` and the first `depth` of `counts` are at most `terms`;
+/// - `offset` + `depth` + `a` is at most 2^28 `terms` + 1, where `a` is 1 for `stand` 0 and 3, 0 for 1, and
+///   2^28 - `code` for 2.
+///
+/// Those that texts leave do.
+pub fn text_feed(state: Pieces, piece: &[u8]) -> Pieces {
+    // SAFETY: pointer and count are those of a live slice, which the function only reads and does not keep.
+    // It takes every byte, and every number in the struct.
+    unsafe { zelmotar_text_feed(state, piece.as_ptr(), piece.len()) }
+}
+
+/// What a text comes to if it ends here.
+///
+/// It answers 0 with value 0, the terms on all levels and the most at one; or refuses with 13, 21, 23 or 24 and
+/// the offset. A struct that does not go on and is not refused is refused with 23.
+pub fn text_end(state: Pieces) -> Counted {
+    // SAFETY: the function takes every number in the struct, and no pointer.
+    unsafe { zelmotar_text_end(state) }
 }

@@ -11,12 +11,14 @@
 //! - A **call** changes a register or asks something. Calls run in batches. Each has an [`Answer`].
 //! - A register is looked at where it lies, term by term, or printed as text into bytes that are lent.
 //!   Such a text can be typed into a register again.
+//! - A text that comes in [`Pieces`] is judged as it comes, and what it takes to type it in is known
+//!   before anything is laid.
 //! - A store is saved to a file, in bytes that are lent, and loaded from such bytes again.
 //! - A store that has no room for a call collects itself first. No answer shows when it did.
 //! - A damaged store is refused, with the first damaged cell and the [`Rule`] that it breaks.
 //!
 //! ```
-//! use zelmotar::{Answer, Call, Store};
+//! use zelmotar::{Answer, Call, Counted, Pieces, Store};
 //!
 //! # fn main() -> Result<(), Box<dyn std::error::Error>> {
 //! let mut store = Store::new(64)?;
@@ -31,6 +33,8 @@
 //! assert_eq!(answers[5], Answer::Value(2));
 //! assert_eq!(store.look(2).to_string(), "(65 66) 65");
 //! assert_eq!(store.print(2, &mut [0; 80])?, "(65 66) 65");
+//! let text = Pieces::new().feed(b"(65 6").feed(b"6) 65");
+//! assert_eq!(text.end()?, Counted { terms: 4, most: 2 });
 //! store.type_str(3, "(65 66) 65")?;
 //! assert_eq!(store.look(3), store.look(2));
 //! let file = store.to_file()?;
@@ -45,7 +49,10 @@
 //! What goes with it: `Store::new`, `Store::run`, `Store::run_all`, `Store::print_string`,
 //! `Store::to_file` and `Store::from_file`, and that terms are written out and compared. A store in
 //! lent words, [`Store::call`], [`Store::run_words`], [`Store::print`], [`Store::type_in`],
-//! [`Store::save`] and [`Store::load`] allocate nothing.
+//! [`Store::save`] and [`Store::load`] allocate nothing, nor does [`Pieces`].
+//!
+//! The standard library is used only with the feature `std`, which is off by default. Then [`Pieces`]
+//! is a `std::io::Write` too.
 //!
 //! # Linking
 //!
@@ -60,6 +67,8 @@
 
 #[cfg(feature = "alloc")]
 extern crate alloc;
+#[cfg(feature = "std")]
+extern crate std;
 
 mod answer;
 mod call;
@@ -67,6 +76,7 @@ mod call;
 mod equal;
 #[allow(unsafe_code)]
 mod ffi;
+mod pieces;
 mod rule;
 mod status;
 #[cfg(feature = "alloc")]
@@ -77,6 +87,7 @@ mod trailer;
 
 pub use answer::{Answer, Fault, Refusal};
 pub use call::Call;
+pub use pieces::{Counted, Pieces};
 pub use rule::Rule;
 pub use status::{status_text, Status, STATUSES};
 #[cfg(feature = "alloc")]
@@ -87,9 +98,10 @@ pub use trailer::{file_bytes, Trailer, EDITION};
 
 /// The functions of the library as they are: slices go in, numbers come out.
 ///
-/// They are what [`Store`] is made of, for those who keep words and `top` themselves. All take any
-/// words, any `top`, any register, any text and any file; what is wrong is refused by number. A
-/// damaged cell comes with the number of its [`Rule`].
+/// They are what [`Store`] and [`Pieces`] are made of, for those who keep words and `top`, or the
+/// numbers of a text in pieces, themselves. All take any words, any `top`, any register, any text, any
+/// file and any such numbers; what is wrong is refused by number. A damaged cell comes with the number
+/// of its [`Rule`].
 ///
 /// ```
 /// use zelmotar::raw;
@@ -118,10 +130,16 @@ pub use trailer::{file_bytes, Trailer, EDITION};
 /// words[36] = 18; // The left end of cell 18, which lies above the right one now.
 /// let reply = raw::check(&words, reply.top);
 /// assert_eq!((reply.status, reply.rule, reply.value), (3, 5, 18));
+/// let state = raw::text_feed(raw::text_start(), b"65 (6");
+/// assert_eq!((state.stand, state.code, state.offset, state.depth), (2, 6, 5, 1));
+/// assert_eq!((state.terms, state.own, state.most, state.counts[0]), (3, 1, 2, 2));
+/// let counted = raw::text_end(raw::text_feed(state, b"6)"));
+/// assert_eq!((counted.status, counted.terms, counted.most), (0, 3, 2));
 /// ```
 pub mod raw {
     pub use crate::ffi::{check, collect, fresh, load, look, print, run, save, type_in};
-    pub use crate::ffi::{Reply, Saved, Span, Text, Typed};
+    pub use crate::ffi::{text_end, text_feed, text_start};
+    pub use crate::ffi::{Counted, Pieces, Reply, Saved, Span, Text, Typed};
 }
 
 /// The number of registers.
@@ -144,3 +162,6 @@ pub const MAX_CODE: u32 = 0x0fff_ffff;
 
 /// The most brackets that may be open at one place of a text.
 pub const MAX_DEPTH: usize = 64;
+
+/// The most terms of a text, counted on all levels. No store has room for as many.
+pub const MAX_TERMS: usize = 65_536;

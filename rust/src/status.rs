@@ -21,9 +21,9 @@ const fn row(number: u32, name: &'static str, text: &'static str) -> Status {
 }
 
 /// Every status: done, the refusals of a whole request, those of one call, those of texts and those
-/// of files. A text that is typed in may be refused with 13 and 16 too, and a file that is written
-/// with 22.
-pub const STATUSES: [Status; 23] = [
+/// of files. A text that is typed in may be refused with 13 and 16 too, one that comes in pieces
+/// with 13, and a file that is written with 22.
+pub const STATUSES: [Status; 24] = [
     row(0, "DONE", "done"),
     row(1, "BAD_LENGTH", "no store has that capacity"),
     row(2, "BAD_TOP", "top is out of range"),
@@ -41,6 +41,7 @@ pub const STATUSES: [Status; 23] = [
     row(21, "TOO_DEEP", "brackets are nested too deep"),
     row(22, "SHORT_SPACE", "the space is too short"),
     row(23, "NOT_TEXT", "no text of an expression"),
+    row(24, "TOO_MANY_TERMS", "too many terms"),
     row(30, "SHORT_FILE", "the file is too short"),
     row(31, "BAD_EDITION", "the file is of no known edition"),
     row(32, "BAD_DISTANCE", "the file's distance is wrong"),

@@ -528,19 +528,21 @@ impl<W: AsRef<[u32]> + AsMut<[u32]>> Store<W> {
     /// new cells, one a term. It allocates nothing.
     ///
     /// Only a text as [`print`](Store::print) writes it is read: codes in decimal, none of which begins with 0,
-    /// one blank between two terms and none elsewhere, and at most [`MAX_DEPTH`](crate::MAX_DEPTH) brackets
-    /// open at one place. A text of no bytes makes the register empty. The store collects itself where the
-    /// new cells would not fit otherwise, and only there. What the register held does not count then and
-    /// goes, but for cells that another register reaches; so it need not be emptied first.
+    /// one blank between two terms and none elsewhere, at most [`MAX_DEPTH`](crate::MAX_DEPTH) brackets open
+    /// at one place, and at most [`MAX_TERMS`](crate::MAX_TERMS) terms. A text of no bytes makes the register
+    /// empty. The store collects itself where the new cells would not fit otherwise, and only there. What the
+    /// register held does not count then and goes, but for cells that another register reaches; so it need
+    /// not be emptied first. How many new cells a text takes, [`Pieces`](crate::Pieces) tells before.
     ///
     /// # Errors
     ///
     /// As for [`check`](Store::check), then [`Refusal::NoRegister`] if the register is over 15. Else what
     /// comes first in the text, with its offset: [`Refusal::NotText`] at a byte that cannot stand there or
     /// where the text ends too soon, [`Refusal::BadCode`] at a 0 that begins a term or a digit that takes a code
-    /// over [`MAX_CODE`](crate::MAX_CODE), [`Refusal::TooDeepAt`] at a bracket with which too many would be open.
-    /// The store is then as it was. Last [`Refusal::NoRoom`], and then the store has been collected and
-    /// every register has its expression.
+    /// over [`MAX_CODE`](crate::MAX_CODE), [`Refusal::TooDeepAt`] at a bracket with which too many would be open,
+    /// [`Refusal::TooManyTerms`] at a byte that begins a term with which there would be too many. At one byte
+    /// the bracket goes before the term, and the term before the 0. The store is then as it was. Last
+    /// [`Refusal::NoRoom`], and then the store has been collected and every register has its expression.
     ///
     /// # Panics
     ///
@@ -559,6 +561,8 @@ impl<W: AsRef<[u32]> + AsMut<[u32]>> Store<W> {
     /// assert_eq!(store.type_in(1, b"65  66"), Err(Refusal::NotText { offset: 3 }));
     /// assert_eq!(store.type_in(1, b"268435456"), Err(Refusal::BadCode { offset: 8 }));
     /// assert_eq!(store.type_in(1, b"10 0"), Err(Refusal::BadCode { offset: 3 }));
+    /// let long = b"1 ".repeat(65_537);
+    /// assert_eq!(store.type_in(1, &long), Err(Refusal::TooManyTerms { offset: 131_072 }));
     /// assert_eq!(store.type_in(2, b"65"), Err(Refusal::NoRoom));
     /// assert_eq!(store.type_in(16, b"65"), Err(Refusal::NoRegister));
     /// assert_eq!(store.type_in(1, b"1 2 3 4 5 6"), Err(Refusal::NoRoom));

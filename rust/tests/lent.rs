@@ -1,10 +1,11 @@
 //! A store in lent words, with nothing that allocates: what is left of the package without its feature
 //! `alloc`. The tests are run with it and without.
 
+use std::fmt::Write;
 use std::mem::offset_of;
 
-use zelmotar::{file_bytes, raw, status_text, Answer, Call, Fault, Refusal, Rule, Store, Term};
-use zelmotar::{Trailer, MAX_CODE};
+use zelmotar::{file_bytes, raw, status_text, Answer, Call, Counted, Fault, Pieces, Refusal, Rule};
+use zelmotar::{Store, Term, Trailer, MAX_CODE};
 
 #[test]
 fn a_store_in_an_array() {
@@ -62,6 +63,25 @@ fn a_text_typed_into_an_array() {
     assert_eq!(store.type_str(1, "1 2 3 4"), Err(Refusal::NoRoom));
     assert_eq!(store.type_str(1, "1 2 3"), Ok(()));
     assert_eq!((store.top(), store.print(1, &mut [7; 5])), (20, Ok("1 2 3")));
+}
+
+#[test]
+fn a_text_in_pieces_from_an_array() {
+    let text = Pieces::new().feed(b"(6").feed(b"").feed(b"5) (");
+    assert_eq!((text.refusal(), text.so_far()), (None, Counted { terms: 3, most: 2 }));
+    assert_eq!((text.offset(), text.depth()), (6, 1));
+    assert_eq!(text.end(), Err(Refusal::NotText { offset: 6 }));
+    let mut whole = text.feed(b")");
+    assert_eq!(whole.end(), Ok(Counted { terms: 3, most: 2 }));
+    assert_eq!(whole, ["(65)", " ()"].into_iter().collect());
+    let mut store = Store::fresh([0; 38]).expect("the length is allowed");
+    assert_eq!((store.type_in(0, b"(65) ()"), store.top()), (Ok(()), 19));
+    whole.write_str(" 01").expect("no write fails");
+    assert_eq!(whole.refusal(), Some(Refusal::BadCode { offset: 8 }));
+    assert_eq!((whole.feed(b" 1"), whole.end()), (whole, Err(Refusal::BadCode { offset: 8 })));
+    assert_eq!(Pieces::default().feed(&[b'('; 65]).end(), Err(Refusal::TooDeepAt { offset: 64 }));
+    let long = (0..65_536).fold(Pieces::new(), |text, _| text.feed(b"7 "));
+    assert_eq!(long.feed(b"0").end(), Err(Refusal::TooManyTerms { offset: 131_072 }));
 }
 
 #[test]
@@ -125,8 +145,8 @@ fn a_damaged_cell_in_an_array_and_its_rule() {
     );
 }
 
-/// A reply, a span, a text, a typed text and a save whose fields differ, each field read by its name and by
-/// its place.
+/// A reply, a span, a text, a typed text, a save, a text in pieces and its end whose fields differ, each field read by
+/// its name and by its place.
 #[test]
 fn each_field_of_an_answer_is_where_c_has_it() {
     let size = size_of::<usize>();
@@ -156,6 +176,20 @@ fn each_field_of_an_answer_is_where_c_has_it() {
     assert_eq!(offset_of!(raw::Saved, top), third);
     assert_eq!(offset_of!(raw::Saved, length), third + size);
     assert_eq!(size_of::<raw::Saved>(), third + 2 * size);
+    assert_eq!(offset_of!(raw::Pieces, stand), 0);
+    assert_eq!(offset_of!(raw::Pieces, code), 4);
+    assert_eq!(offset_of!(raw::Pieces, offset), 8);
+    assert_eq!(offset_of!(raw::Pieces, depth), 8 + size);
+    assert_eq!(offset_of!(raw::Pieces, terms), 8 + 2 * size);
+    assert_eq!(offset_of!(raw::Pieces, own), 8 + 3 * size);
+    assert_eq!(offset_of!(raw::Pieces, most), 12 + 3 * size);
+    assert_eq!(offset_of!(raw::Pieces, counts), 16 + 3 * size);
+    assert_eq!(size_of::<raw::Pieces>(), 272 + 3 * size);
+    assert_eq!(offset_of!(raw::Counted, status), 0);
+    assert_eq!(offset_of!(raw::Counted, value), size);
+    assert_eq!(offset_of!(raw::Counted, terms), 2 * size);
+    assert_eq!(offset_of!(raw::Counted, most), 3 * size);
+    assert_eq!(size_of::<raw::Counted>(), 4 * size);
 
     // Register 0 on cells 17 and 18, and a bracket around itself in cell 19.
     let mut words = [0; 48];
@@ -193,4 +227,21 @@ fn each_field_of_an_answer_is_where_c_has_it() {
     let saved = raw::save(&mut words, top, &mut [7; 200]);
     assert_eq!((saved.status, saved.rule, saved.value), (2, 0, 0));
     assert_eq!((saved.top, saved.length), (top, 0));
+
+    let state = raw::text_feed(raw::text_start(), b"1 2 3 (4 (567) 8 (9 (10");
+    assert_eq!((state.stand, state.code, state.offset, state.depth), (2, 10, 23, 3));
+    assert_eq!((state.terms, state.own, state.most), (12, 1, 4));
+    assert_eq!((&state.counts[..3], &state.counts[3..]), (&[4, 4, 2][..], &[0; 61][..]));
+    let counted = raw::text_end(raw::text_feed(state, b"))) 12"));
+    assert_eq!((counted.status, counted.value), (0, 0));
+    assert_eq!((counted.terms, counted.most), (13, 5));
+    // Every byte of every field crosses, both ways, of a text that does not go on.
+    let mut counts = [0; 64];
+    counts.iter_mut().zip(0x0102_0304..).for_each(|(count, number)| *count = number);
+    let (stand, code, own, most) = (0xa1a2_a3a4, 0xb1b2_b3b4, 0xc1c2_c3c4, 0xd1d2_d3d4);
+    let (offset, depth, terms) = (top, top - 1, top - 2);
+    let state = raw::Pieces { stand, code, offset, depth, terms, own, most, counts };
+    assert_eq!(raw::text_feed(state, b"1"), state);
+    let counted = raw::text_end(state);
+    assert_eq!((counted.status, counted.value, counted.terms, counted.most), (23, top, 0, 0));
 }

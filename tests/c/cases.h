@@ -1,10 +1,11 @@
-/* cases.h: random stores, call lists, spaces for answers, texts and files, texts and files, good and bad, for the tests
- * at the border.
+/* cases.h: random stores, call lists, spaces for answers, texts and files, texts, whole and in pieces, and files, good
+ * and bad, for the tests at the border.
  *
  * A store is made by the library itself, from a fresh one and random calls, then damaged in half of the cases.
  * The numbers are the same in every run. What the answers should be is not known here: the Rust tests hold them
  * against a model. Which rule a damaged cell breaks is in rules.h, what a text should be in texts.h, what comes of one
- * that is typed in typed.h, and what a file should be and what comes of one in files.h. */
+ * that is typed in typed.h and of one that is fed in pieces.h, and what a file should be and what comes of one in
+ * files.h. */
 #ifndef CASES_H
 #define CASES_H
 
@@ -13,6 +14,7 @@
 
 #include "expect.h"
 #include "files.h"
+#include "pieces.h"
 #include "rules.h"
 #include "zelmotar.h"
 
@@ -24,17 +26,23 @@
 #define MOST_BEFORE 64                  /* bytes before the first heap cell of a file */
 #define MOST_FILE (LONGEST_FILE + MOST_BEFORE)
 
-/* What goes into the nine functions. A store is saved to space_n bytes; a file is loaded into loaded_n words. */
+/* What goes into the twelve functions. A store is saved to space_n bytes; a file is loaded into loaded_n words; a state
+ * is fed piece_n bytes of the text that is typed, from byte piece on. */
 struct test_case {
     uint32_t words[MOST_STORE], calls[MOST_CALLS];
     uint8_t typed[MOST_TYPED], file[MOST_FILE];
-    size_t words_n, calls_n, answers_n, text_n, typed_n, top, reg, space_n, file_n, loaded_n;
+    size_t words_n, calls_n, answers_n, text_n, typed_n, top, reg, space_n, file_n, loaded_n, piece, piece_n;
+    zelmotar_pieces state;
 };
 
-/* How often each status came back, of whole requests, of calls and of prints; of what was typed in; of what was saved;
- * and of what was loaded. */
-static unsigned met[ZELMOTAR_SHORT_SPACE + 1], typed_met[ZELMOTAR_NOT_TEXT + 1];
+/* How often each status came back, of whole requests, of calls and of prints; of what was typed in, and fed in pieces;
+ * of what was saved; and of what was loaded. */
+static unsigned met[ZELMOTAR_SHORT_SPACE + 1];
+static unsigned typed_met[ZELMOTAR_TOO_MANY_TERMS + 1], ended_met[ZELMOTAR_TOO_MANY_TERMS + 1];
 static unsigned saved_met[ZELMOTAR_SHORT_SPACE + 1], loaded_met[ZELMOTAR_WRONG_SLICE + 1];
+
+/* How many states were fed that do not go on, and that do. */
+static unsigned fed_met[2];
 
 /* How often each rule came back from a check, and from a file that was loaded; 0 where no cell was damaged. */
 static unsigned rules_met[RULES], loaded_rules_met[RULES];
@@ -330,6 +338,74 @@ static inline void spoil_file(struct test_case *c)
     }
 }
 
+/* The largest offset with which a state goes on whose other fields are in order; one near 2^64 if there is none. */
+static inline size_t most_offset(const zelmotar_pieces *state)
+{
+    return (size_t)(((uint64_t)1 << 28) * state->terms + 1 - state->depth - ahead_of(state));
+}
+
+/* A number of terms that is no more than this one: none, as many, or any. */
+static inline uint32_t random_count(size_t terms)
+{
+    const size_t counts[3] = {0, terms, below(terms + 1)};
+    return (uint32_t)counts[below(3)];
+}
+
+/* A state that goes on as a rule, whether a text leads to it or not. Its numbers are next to their limits or anywhere
+ * below. */
+static inline void make_state(struct test_case *c)
+{
+    const uint32_t codes[5] = {0, 26843545, 26843546, ZELMOTAR_MAX_CODE, (uint32_t)below(1000)};
+    const size_t terms[6] = {0, 1, below(100), ZELMOTAR_MAX_TERMS - 1, ZELMOTAR_MAX_TERMS, below(ZELMOTAR_MAX_TERMS)};
+    const size_t depths[5] = {0, 1, ZELMOTAR_MAX_DEPTH - 1, ZELMOTAR_MAX_DEPTH, below(ZELMOTAR_MAX_DEPTH)};
+    zelmotar_pieces *state = &c->state;
+    size_t i;
+    state->stand = (uint32_t)below(4);
+    state->code = codes[below(5)];
+    state->terms = terms[below(6)];
+    state->depth = depths[below(5)];
+    state->own = random_count(state->terms), state->most = random_count(state->terms);
+    for (i = 0; i < ZELMOTAR_MAX_DEPTH; i++)
+        state->counts[i] = random_count(state->terms);
+    state->offset = below(3) ? below(1000) : most_offset(state) - below(3);
+}
+
+/* A state with one number over its limit, which still goes on where that number does not count. Sums and products with
+ * some of these would wrap. */
+static inline void spoil_state(struct test_case *c)
+{
+    const uint32_t stands[9] = {4, 12, ZELMOTAR_BAD_CODE, ZELMOTAR_TOO_DEEP, ZELMOTAR_SHORT_SPACE, ZELMOTAR_NOT_TEXT,
+                                ZELMOTAR_TOO_MANY_TERMS, ZELMOTAR_TOO_MANY_TERMS + 1, UINT32_MAX};
+    zelmotar_pieces *state = &c->state;
+    const uint32_t codes[3] = {ZELMOTAR_MAX_CODE + 1, ZELMOTAR_MAX_CODE + 2, UINT32_MAX};
+    const size_t depths[4] = {ZELMOTAR_MAX_DEPTH + 1, ZELMOTAR_MAX_DEPTH + 2, SIZE_MAX, SIZE_MAX - state->offset};
+    const size_t terms[3] = {ZELMOTAR_MAX_TERMS + 1, SIZE_MAX / ((size_t)1 << 28) + 1 + below(100), SIZE_MAX};
+    const uint32_t over[3] = {(uint32_t)state->terms + 1, ZELMOTAR_MAX_TERMS + 1, UINT32_MAX};
+    const size_t offsets[4] = {most_offset(state) + 1, SIZE_MAX, SIZE_MAX - state->depth, SIZE_MAX / 2};
+    switch (below(8)) {
+    case 0: state->stand = stands[below(9)]; break;
+    case 1: state->code = codes[below(3)]; break;
+    case 2: state->depth = depths[below(4)]; break;
+    case 3: state->terms = terms[below(3)]; break;
+    case 4: state->own = over[below(3)]; break;
+    case 5: state->most = over[below(3)]; break;
+    case 6: state->counts[below(ZELMOTAR_MAX_DEPTH)] = over[below(3)]; break;
+    default: state->offset = offsets[below(4)]; break;
+    }
+}
+
+/* A state, and a part of the case's text that is fed to it. */
+static inline void make_piece(struct test_case *c)
+{
+    make_state(c);
+    if (below(3) == 0)
+        spoil_state(c);
+    c->piece = below(c->typed_n + 1);
+    c->piece_n = below(c->typed_n - c->piece + 1);
+    if (below(2))
+        c->piece_n %= 12;
+}
+
 static inline void make_case(struct test_case *c)
 {
     memset(c, 0, sizeof *c);
@@ -344,6 +420,7 @@ static inline void make_case(struct test_case *c)
     make_text(c);
     if (below(2))
         spoil_text(c);
+    make_piece(c);
 }
 
 /* Counts the status of a run and those of its calls. */
@@ -365,7 +442,15 @@ static inline void expect_rules_met(void)
     }
 }
 
-/* Every status has been met, and no number that is none; so have those of typing, of saving and of loading. */
+/* Whether a text is refused with this status, whatever the store. */
+static inline int refuses_text(unsigned status)
+{
+    return status == ZELMOTAR_BAD_CODE || status == ZELMOTAR_TOO_DEEP || status == ZELMOTAR_NOT_TEXT ||
+           status == ZELMOTAR_TOO_MANY_TERMS;
+}
+
+/* Every status has been met, and no number that is none; so have those of typing, of texts in pieces, of saving and of
+ * loading. */
 static inline void expect_all_met(void)
 {
     unsigned status;
@@ -374,10 +459,12 @@ static inline void expect_all_met(void)
         EXPECT((met[status] > 0) == (status <= ZELMOTAR_SHORT_ANSWERS ||
                                      (status >= ZELMOTAR_BAD_OPERATION && status <= ZELMOTAR_NO_ROOM) ||
                                      status >= ZELMOTAR_NO_REGISTER));
-    for (status = 0; status <= ZELMOTAR_NOT_TEXT; status++)
-        EXPECT((typed_met[status] > 0) == (status <= ZELMOTAR_DAMAGED || status == ZELMOTAR_BAD_CODE ||
-                                           status == ZELMOTAR_NO_ROOM || status == ZELMOTAR_NO_REGISTER ||
-                                           status == ZELMOTAR_TOO_DEEP || status == ZELMOTAR_NOT_TEXT));
+    for (status = 0; status <= ZELMOTAR_TOO_MANY_TERMS; status++) {
+        EXPECT((typed_met[status] > 0) == (status <= ZELMOTAR_DAMAGED || refuses_text(status) ||
+                                           status == ZELMOTAR_NO_ROOM || status == ZELMOTAR_NO_REGISTER));
+        EXPECT((ended_met[status] > 0) == (status == ZELMOTAR_DONE || refuses_text(status)));
+    }
+    EXPECT(fed_met[0] > 0 && fed_met[1] > 0);
     for (status = 0; status <= ZELMOTAR_SHORT_SPACE; status++)
         EXPECT((saved_met[status] > 0) == (status <= ZELMOTAR_DAMAGED || status == ZELMOTAR_SHORT_SPACE));
     for (status = 0; status <= ZELMOTAR_WRONG_SLICE; status++)

@@ -3,9 +3,10 @@
  * usage: edges COUNT
  *
  * Each list stands once right after such a page and once right before one, and so does each list of a random
- * case, for all nine functions; a list that a function only reads stands in pages that cannot be written. All
- * have to answer and to leave what they do in plain memory. The rows of texts and of files of SCOPE 7.1 are tried there
- * too, every text of up to two bytes is typed, a file is cut at each byte, has each bit changed and stands at every
+ * case, for all functions that are lent any; a list that a function only reads stands in pages that cannot be written.
+ * All have to answer and to leave what they do in plain memory. The rows of texts and of files of SCOPE 7.1 are tried
+ * there too, every text of up to two bytes is typed and fed, texts are fed in pieces that are cut everywhere, pieces
+ * are fed to states to which no text leads, a file is cut at each byte, has each bit changed and stands at every
  * alignment, and calls are run for which room is short. That the pages do fault is tried first, in processes of their
  * own. For Linux and its like. */
 #define _DEFAULT_SOURCE
@@ -16,33 +17,37 @@
 #include <unistd.h>
 
 #include "cases.h"
+#include "pieces.h"
 #include "texts.h"
 #include "typed.h"
 
-#define MOST_LIST (MOST_FILE / sizeof(uint32_t) + 1) /* words of the longest list, which is a file */
+#define MOST_LONG (2 * ZELMOTAR_MAX_TERMS + 2 * ZELMOTAR_MAX_DEPTH) /* bytes of the texts with the most terms */
 
 enum place { LOW, HIGH }; /* right after the lower page that faults, right before the upper one */
-enum { STORE, CALLS, ANSWERS, TEXT, LISTS }; /* the bytes of a file stand where those of a text do */
+/* The bytes of a file stand where those of a text do, and so do those of a piece; but a long text has its own place. */
+enum { STORE, CALLS, ANSWERS, TEXT, LONG, LISTS };
 
-/* The bytes of one item of each list. */
-static const size_t item[LISTS] = {sizeof(uint32_t), sizeof(uint32_t), sizeof(uint32_t), 1};
+/* The bytes of one item of each list, and of the longest of all but the last, which is a file. */
+static const size_t item[LISTS] = {sizeof(uint32_t), sizeof(uint32_t), sizeof(uint32_t), 1, 1};
+static const size_t longest[LISTS] = {MOST_FILE, MOST_FILE, MOST_FILE, MOST_FILE, MOST_LONG};
 
-/* Pages for one list: `bytes` of them can be touched, with one that faults on either side. */
+/* Pages for each list: so many bytes of them can be touched, with a page that faults on either side. */
 static char *pages[LISTS];
-static size_t bytes, page;
+static size_t bytes[LISTS];
 
 static struct test_case c;
-static uint32_t plain[LISTS][MOST_LIST]; /* the same lists in plain memory */
+static uint32_t plain[LISTS][MOST_LONG / sizeof(uint32_t)]; /* the same lists in plain memory */
 static enum place place;
 static const char *doing = "nothing yet"; /* the function that is called, for the message on a fault */
 
 static void make_pages(void)
 {
+    const size_t page = (size_t)sysconf(_SC_PAGESIZE);
     size_t i;
-    page = (size_t)sysconf(_SC_PAGESIZE);
-    bytes = (MOST_LIST * sizeof(uint32_t) + page - 1) / page * page;
     for (i = 0; i < LISTS; i++) {
-        char *all = mmap(NULL, bytes + 2 * page, PROT_NONE, MAP_PRIVATE | MAP_ANONYMOUS, -1, 0);
+        char *all;
+        bytes[i] = (longest[i] + page - 1) / page * page;
+        all = mmap(NULL, bytes[i] + 2 * page, PROT_NONE, MAP_PRIVATE | MAP_ANONYMOUS, -1, 0);
         if (all == MAP_FAILED)
             exit(2);
         pages[i] = all + page;
@@ -50,11 +55,11 @@ static void make_pages(void)
 }
 
 /* Where a list of n items stands. One of none, before the upper page, stands at a byte that faults. */
-static void *at(size_t i, size_t n) { return pages[i] + (place == LOW ? 0 : bytes - n * item[i]); }
+static void *at(size_t i, size_t n) { return pages[i] + (place == LOW ? 0 : bytes[i] - n * item[i]); }
 
 static void allow(size_t i, int protection)
 {
-    if (mprotect(pages[i], bytes, protection) != 0)
+    if (mprotect(pages[i], bytes[i], protection) != 0)
         exit(2);
 }
 
@@ -63,7 +68,7 @@ static void *lend(size_t i, const void *items, size_t n, int protection)
 {
     void *list = at(i, n);
     allow(i, PROT_READ | PROT_WRITE);
-    memset(pages[i], 0x5a, bytes);
+    memset(pages[i], 0x5a, bytes[i]);
     if (items != NULL)
         memcpy(list, items, n * item[i]);
     memcpy(plain[i], list, n * item[i]);
@@ -77,7 +82,7 @@ static void expect_same(size_t i, size_t n)
     const char *list = at(i, n), *end = list + n * item[i], *p;
     size_t other = 0;
     EXPECT(memcmp(list, plain[i], n * item[i]) == 0);
-    for (p = pages[i]; p < pages[i] + bytes; p++)
+    for (p = pages[i]; p < pages[i] + bytes[i]; p++)
         other += (p < list || p >= end) && *p != 0x5a;
     EXPECT(other == 0);
 }
@@ -158,6 +163,42 @@ static void edges_type(void)
     expect_same(STORE, c.words_n), expect_same(TEXT, c.typed_n);
 }
 
+/* A piece fed where it stands next to a page that faults, and cannot be written. What was handed in is as it was. */
+static zelmotar_pieces feed(zelmotar_pieces state, const void *piece, size_t piece_n)
+{
+    const zelmotar_pieces kept = state;
+    const uint8_t *text = lend(TEXT, piece, piece_n, PROT_READ);
+    zelmotar_pieces here;
+    doing = "zelmotar_text_feed";
+    here = zelmotar_text_feed(state, text, piece_n);
+    EXPECT(same_pieces(state, kept));
+    expect_same(TEXT, piece_n);
+    return here;
+}
+
+/* What a state answers at its end. It is as it was afterwards. */
+static zelmotar_counted end(zelmotar_pieces state)
+{
+    const zelmotar_pieces kept = state;
+    zelmotar_counted here;
+    doing = "zelmotar_text_end";
+    here = zelmotar_text_end(state);
+    EXPECT(same_pieces(state, kept));
+    return here;
+}
+
+/* The case's state fed its piece, and the case's text fed whole. */
+static void edges_feed(void)
+{
+    zelmotar_pieces here = feed(c.state, c.typed + c.piece, c.piece_n);
+    EXPECT(same_pieces(here, expected_feed(c.state, c.typed + c.piece, c.piece_n)));
+    EXPECT(same_counted(end(c.state), expected_end(c.state)) && same_counted(end(here), expected_end(here)));
+    fed_met[goes_on(&c.state)]++;
+    here = feed(zelmotar_text_start(), c.typed, c.typed_n);
+    EXPECT(same_counted(end(here), expected_counted(c.typed, c.typed_n)));
+    ended_met[end(here).status]++;
+}
+
 static void edges_save(void)
 {
     uint32_t *words = lend(STORE, c.words, c.words_n, PROT_READ | PROT_WRITE);
@@ -192,6 +233,7 @@ static void edges(void)
         edges_run();
         edges_print();
         edges_type();
+        edges_feed();
         edges_save();
         edges_load();
     }
@@ -464,6 +506,385 @@ static void typed_rows_of_refusals(void)
     refuses(16, "x", 1, 0);
     start_with(17, 0, 16, 16), put(0, 0); /* T27 */
     refuses_damaged(0, "1", 4, 16), refuses_damaged(16, "0", 4, 16);
+}
+
+/* A text fed in two pieces, cut at every place, and byte by byte with a piece of no bytes before, between and behind:
+ * what it answers at its end. */
+static void ends_as(const char *text, size_t text_n, zelmotar_counted expected)
+{
+    zelmotar_pieces state;
+    size_t i;
+    for (place = LOW; place <= HIGH; place++) {
+        for (i = 0; i <= text_n; i++) {
+            state = feed(feed(zelmotar_text_start(), text, i), text + i, text_n - i);
+            EXPECT(same_counted(end(state), expected));
+        }
+        state = feed(zelmotar_text_start(), "", 0);
+        for (i = 0; i < text_n; i++)
+            state = feed(feed(state, text + i, 1), "", 0);
+        EXPECT(same_counted(end(state), expected));
+    }
+}
+
+/* A text in order with so many terms, and so many where the most are. */
+static void counts(const char *text, size_t terms, size_t most)
+{
+    ends_as(text, strlen(text), counted(ZELMOTAR_DONE, 0, terms, most));
+}
+
+/* A text that is refused. Where that is at a byte, and not at the end, nothing that is fed after it changes a field. */
+static void ends_bytes(const char *text, size_t text_n, uint32_t status, size_t value)
+{
+    static const char *const more[8] = {"", " ", "(", ")", "0", "7", "x", "7 (8) 9"};
+    zelmotar_pieces state;
+    size_t i;
+    ends_as(text, text_n, counted(status, value, 0, 0));
+    if (value == text_n)
+        return;
+    for (i = 0, place = HIGH; i < 8; i++) {
+        state = feed(zelmotar_text_start(), text, text_n);
+        EXPECT(state.stand == status && state.code == 0 && state.offset == value);
+        EXPECT(same_pieces(feed(state, more[i], strlen(more[i])), state));
+    }
+}
+
+static void ends(const char *text, uint32_t status, size_t value) { ends_bytes(text, strlen(text), status, value); }
+
+static void pieces_rows_of_terms(void)
+{
+    const zelmotar_pieces nowhere = {0, 0, 0, 0, 0, 0, 0, {0}};
+    EXPECT(same_pieces(zelmotar_text_start(), nowhere));
+    EXPECT(same_counted(end(zelmotar_text_start()), counted(0, 0, 0, 0))); /* no pieces */
+    counts("", 0, 0);
+    counts("1", 1, 1), counts("()", 1, 1), counts("10", 1, 1), counts("100 20", 2, 2), counts("268435455", 1, 1);
+    counts("65 (66 67) ()", 5, 3), counts("1 (2 (3) 4) 5 ()", 8, 4);
+    counts("1 (2 3 4) 5", 6, 3);                /* as many inside as outside */
+    counts("(1 2) (3 4 5 (6 7 8 9)) 1", 13, 4); /* the most inside, on two levels */
+    counts("((1 2 3 4 5)) 6", 8, 5), counts("(1 2 3) 4 5 6", 7, 4), counts("1 2 3 (4)", 5, 4);
+    counts("() () ()", 3, 3), counts("(())", 2, 1), counts("((()) 1)", 4, 2), counts("(1) (2 3) ()", 6, 3);
+}
+
+static void pieces_rows_of_bytes(void)
+{
+    ends(" ", 23, 0), ends(")", 23, 0), ends("x", 23, 0), ends("1)", 23, 1), ends("1(", 23, 1), ends("1  2", 23, 2);
+    ends("( )", 23, 1), ends("(1 )", 23, 3), ends("()1", 23, 2), ends("())", 23, 2), ends("()(", 23, 2);
+    ends("1 ", 23, 2), ends("(", 23, 1), ends("(1", 23, 2), ends("() ", 23, 3), ends("(1 (2) 3", 23, 8);
+    ends("268435456", 13, 8), ends("99999999999", 13, 8), ends("(268435456", 13, 9), ends("1 4294967297", 13, 10);
+    ends("0", 13, 0), ends("01", 13, 0), ends("0x", 13, 0), ends("10 0", 13, 3), ends("(0)", 13, 1);
+    ends("(1 0", 13, 3), ends("1 0 x", 13, 2), ends("()0", 23, 2), ends("1\n", 23, 1), ends("1\t2", 23, 1);
+    ends_bytes("1\0", 2, 23, 1), ends_bytes("(1\xff", 3, 23, 2); /* the byte that ends a C string, and the largest */
+}
+
+static void pieces_rows_of_depth(void)
+{
+    char closed[66] = "";
+    memset(closed, ')', 64);
+    counts(brackets(64, closed), 64, 1);
+    ends(brackets(70, ""), 21, 64), ends(brackets(65, ""), 21, 64), ends(brackets(64, ""), 23, 64);
+    ends(brackets(64, "1("), 23, 65), ends(brackets(64, "1 ("), 21, 66), ends(brackets(64, ") (("), 21, 67);
+    closed[64] = 'x';
+    ends(brackets(64, closed), 23, 128);
+}
+
+/* At any place of a text its end may be asked for, and it goes on as if it had not been. */
+static void pieces_rows_of_ends(void)
+{
+    static const char text[] = "65 (66 67) ()";
+    const size_t done[4] = {1, 2, 10, 13}; /* the places at which the text may end, and the terms up to there */
+    const size_t terms[4] = {1, 1, 4, 5}, most[4] = {1, 1, 2, 3};
+    zelmotar_pieces state = zelmotar_text_start();
+    size_t i, next = 0;
+    for (i = 1, place = HIGH; i < sizeof text; i++) {
+        state = feed(state, text + i - 1, 1);
+        if (next < 4 && done[next] == i)
+            EXPECT(same_counted(end(state), counted(0, 0, terms[next], most[next]))), next++;
+        else
+            EXPECT(same_counted(end(state), counted(23, i, 0, 0)));
+    }
+    EXPECT(next == 4);
+}
+
+/* Every way to cut a text into pieces, each right before the page that faults. */
+static void every_cut(const char *text)
+{
+    const size_t text_n = strlen(text);
+    const zelmotar_counted expected = expected_counted((const uint8_t *)text, text_n);
+    unsigned long way;
+    place = HIGH;
+    allow(TEXT, PROT_READ | PROT_WRITE);
+    doing = "zelmotar_text_feed";
+    for (way = 0; way >> (text_n - 1) == 0; way++) {
+        zelmotar_pieces state = zelmotar_text_start();
+        size_t from = 0, to;
+        for (to = 1; to <= text_n; to++)
+            if (to == text_n || way >> (to - 1) & 1) {
+                state = zelmotar_text_feed(state, memcpy(at(TEXT, to - from), text + from, to - from), to - from);
+                from = to;
+            }
+        EXPECT(same_counted(zelmotar_text_end(state), expected));
+    }
+}
+
+static void every_way(void)
+{
+    every_cut("65 (66 67) ()"), every_cut("(1 (2 3) ()) 4"), every_cut("1 268435455"), every_cut("268435456 (1");
+    every_cut("1 (10 20) 0 ("), every_cut("1 (10 20) 3 ("), every_cut("12 (34 56))7");
+}
+
+/* A text that is longer than any store has room for. */
+static uint8_t many[MOST_LONG];
+static size_t many_n;
+
+/* So many brackets open, symbols up to so many terms on all levels, and what stands behind them. */
+static void make_many(size_t opened, size_t terms, const char *behind)
+{
+    size_t i;
+    memset(many, '(', opened);
+    many_n = opened;
+    for (i = opened; i < terms; i++)
+        many_n += (size_t)sprintf((char *)many + many_n, i == opened ? "7" : " 7");
+    many_n += (size_t)sprintf((char *)many + many_n, "%s", behind);
+}
+
+/* The long text whole, in pieces of some thousand bytes, and cut about its end: what it answers there. What is typed is
+ * refused in the same way, or for want of room, and nothing changes. */
+static void ends_many(uint32_t status, size_t value, size_t terms, size_t most)
+{
+    const zelmotar_counted expected = counted(status, value, terms, most);
+    const zelmotar_typed typed = typed_answer(status == ZELMOTAR_DONE ? ZELMOTAR_NO_ROOM : status, value, c.top);
+    for (place = LOW; place <= HIGH; place++) {
+        uint32_t *words = lend(STORE, c.words, c.words_n, PROT_READ | PROT_WRITE);
+        const uint8_t *text = lend(LONG, many, many_n, PROT_READ);
+        zelmotar_pieces state = zelmotar_text_start();
+        size_t from, n;
+        for (from = 0; from < many_n; from += n) {
+            n = many_n - from < 30011 ? many_n - from : 30011;
+            state = feed(state, many + from, n);
+        }
+        EXPECT(same_counted(end(state), expected));
+        for (n = 0; n < 5; n++) {
+            doing = "zelmotar_text_feed";
+            state = zelmotar_text_feed(zelmotar_text_start(), text, many_n - n);
+            EXPECT(same_counted(end(feed(state, many + many_n - n, n)), expected));
+        }
+        doing = "zelmotar_type";
+        EXPECT(same_typed(zelmotar_type(words, c.words_n, c.top, 0, text, many_n), typed));
+        expect_same(STORE, c.words_n), expect_same(LONG, many_n);
+        typed_met[typed.status]++, ended_met[status]++;
+    }
+}
+
+/* 65,536 terms, and one more: 2 * 65,536 - 1 bytes where none is in a bracket, and one byte fewer for each that is open
+ * before them. */
+static void pieces_rows_of_many(void)
+{
+    char closed[65] = "";
+    memset(closed, ')', 64);
+    start_with(17, 0, 16, 16), put(7, 0); /* a store without room */
+    make_many(0, 65536, ""), ends_many(0, 0, 65536, 65536);
+    make_many(0, 65536, " 7"), ends_many(24, 131072, 0, 0);
+    make_many(0, 65536, " ("), ends_many(24, 131072, 0, 0);
+    make_many(0, 65536, " 0"), ends_many(24, 131072, 0, 0); /* and not 13 */
+    make_many(0, 65536, " x"), ends_many(23, 131072, 0, 0);
+    make_many(0, 65536, "("), ends_many(23, 131071, 0, 0);
+    make_many(0, 65536, "77"), ends_many(0, 0, 65536, 65536);
+    make_many(0, 65535, " 0"), ends_many(13, 131070, 0, 0);
+    make_many(0, 65535, " ()"), ends_many(0, 0, 65536, 65536);
+    make_many(0, 65535, " (7"), ends_many(24, 131071, 0, 0);
+    make_many(64, 65536, closed), ends_many(0, 0, 65536, 65472);
+    make_many(64, 65536, ""), ends_many(23, 131007, 0, 0);
+    make_many(64, 65536, " ("), ends_many(21, 131008, 0, 0); /* and not 24 */
+    make_many(64, 65536, " 7"), ends_many(24, 131008, 0, 0);
+    make_many(64, 65536, " 0"), ends_many(24, 131008, 0, 0);
+    make_many(64, 65536, ") ("), ends_many(24, 131009, 0, 0);
+    make_many(63, 65535, " (("), ends_many(21, 131008, 0, 0);
+    make_many(62, 65535, " (("), ends_many(24, 131009, 0, 0);
+    make_many(1, 65536, ") 7"), ends_many(24, 131072, 0, 0);
+}
+
+/* A state with so many brackets open and so many terms, all else 0. */
+static zelmotar_pieces made(uint32_t stand, size_t depth, size_t terms)
+{
+    zelmotar_pieces state = {0, 0, 0, 0, 0, 0, 0, {0}};
+    state.stand = stand, state.depth = depth, state.terms = terms;
+    return state;
+}
+
+/* A state that goes on: it comes back with no code where that does not count, a blank is judged, and so is its end. */
+static void goes(zelmotar_pieces state)
+{
+    const int ended = state.stand == CODE || state.stand == CLOSED, whole = state.depth == 0 && state.stand != BLANK;
+    const zelmotar_counted too_soon = counted(23, state.offset, 0, 0), done = counted(0, 0, state.terms, state.most);
+    zelmotar_pieces same = state, behind = state;
+    if (state.stand != CODE)
+        same.code = 0;
+    behind.code = 0, behind.stand = ended ? BLANK : ZELMOTAR_NOT_TEXT, behind.offset += (size_t)ended;
+    for (place = LOW; place <= HIGH; place++) {
+        EXPECT(same_pieces(feed(state, "", 0), same));
+        EXPECT(same_pieces(feed(state, " ", 1), behind));
+        EXPECT(same_counted(end(state), whole ? done : too_soon));
+    }
+}
+
+/* A state that does not go on: it comes back as it came, whatever is fed, and has this status at its end. */
+static void stays(zelmotar_pieces state, uint32_t status)
+{
+    static const char *const more[7] = {"", " ", "(", ")", "0", "7", "7 (8) 9"};
+    size_t i;
+    for (place = LOW; place <= HIGH; place++) {
+        for (i = 0; i < 7; i++)
+            EXPECT(same_pieces(feed(state, more[i], strlen(more[i])), state));
+        EXPECT(same_counted(end(state), counted(status, state.offset, 0, 0)));
+    }
+}
+
+static void states_by_stand(void)
+{
+    static const uint32_t others[12] = {4, 5, 12, 14, 16, 20, 22, 23, 25, 256, 0x80000000u, UINT32_MAX};
+    zelmotar_pieces state;
+    uint32_t stand;
+    size_t i;
+    for (stand = BEGUN; stand <= CLOSED; stand++) {
+        state = made(stand, 0, 2), state.own = 1, state.most = 2, goes(state);
+        state.code = 268435455, goes(state);
+        state.depth = 1, state.counts[0] = 2, goes(state);
+    }
+    for (i = 0; i < 12; i++)
+        stays(made(others[i], 0, 2), 23), stays(made(others[i], 2, 2), 23);
+    stays(made(13, 0, 2), 13), stays(made(21, 0, 2), 21), stays(made(24, 0, 2), 24), stays(made(24, 65, SIZE_MAX), 24);
+}
+
+static void states_by_code(void)
+{
+    static const uint32_t over[3] = {268435456, 0x80000000u, UINT32_MAX};
+    zelmotar_pieces state;
+    uint32_t stand;
+    size_t i;
+    for (i = 0; i < 3; i++)
+        for (stand = BEGUN; stand <= CLOSED; stand++) {
+            state = made(stand, 1, 9), state.code = over[i];
+            if (stand == CODE)
+                stays(state, 23);
+            else
+                goes(state);
+        }
+    state = made(CODE, 0, 1), goes(state); /* a code that no digit gives */
+    state.code = 1, goes(state), state.code = 268435455, goes(state);
+}
+
+static void states_by_number(void)
+{
+    const size_t wrap = SIZE_MAX / 268435456 + 1; /* 2^28 times this is 2^64 */
+    zelmotar_pieces state;
+    goes(made(CLOSED, 64, 65536)), stays(made(CLOSED, 65, 65536), 23), stays(made(CLOSED, SIZE_MAX, 65536), 23);
+    state = made(CLOSED, SIZE_MAX, 65536), state.offset = 3, stays(state, 23);
+    goes(made(CLOSED, 0, 65536)), stays(made(CLOSED, 0, 65537), 23), stays(made(CLOSED, 0, SIZE_MAX), 23);
+    stays(made(CLOSED, 0, wrap), 23), stays(made(CLOSED, 0, wrap + 9), 23), stays(made(CLOSED, 0, 2 * wrap), 23);
+    state = made(CLOSED, 0, 9), state.own = 9, goes(state), state.own = 10, stays(state, 23);
+    state.own = UINT32_MAX, stays(state, 23);
+    state = made(CLOSED, 0, 9), state.most = 9, goes(state), state.most = 10, stays(state, 23);
+    state.most = UINT32_MAX, stays(state, 23);
+}
+
+/* The counts of the brackets that are open, and of none. */
+static void states_by_count(void)
+{
+    static const size_t depths[4] = {1, 2, 63, 64};
+    zelmotar_pieces state;
+    size_t i, at_depth;
+    for (i = 0; i < 4; i++)
+        for (at_depth = 0; at_depth < 64; at_depth++) {
+            state = made(BEGUN, depths[i], 9), state.counts[at_depth] = 9, goes(state);
+            state.counts[at_depth] = 10;
+            if (at_depth < depths[i])
+                stays(state, 23);
+            else
+                goes(state);
+        }
+    state = made(BEGUN, 0, 9), state.counts[0] = UINT32_MAX, goes(state);
+}
+
+/* An offset that is as large as it may be; one more; and some whose sums wrap. */
+static void goes_to(zelmotar_pieces state, size_t ahead)
+{
+    state.offset = (size_t)268435456 * state.terms + 1 - state.depth - ahead, goes(state);
+    state.offset++, stays(state, 23);
+    state.offset = SIZE_MAX / 2, stays(state, 23);
+    state.offset = SIZE_MAX, stays(state, 23);
+    state.offset = SIZE_MAX - (state.depth + ahead) / 2, stays(state, 23);
+}
+
+static void states_by_offset(void)
+{
+    static const size_t terms[4] = {1, 2, 65535, 65536}, depths[3] = {0, 1, 64};
+    zelmotar_pieces state;
+    size_t i, j;
+    for (i = 0; i < 4; i++)
+        for (j = 0; j < 3; j++) {
+            goes_to(made(BEGUN, depths[j], terms[i]), 1), goes_to(made(BLANK, depths[j], terms[i]), 0);
+            goes_to(made(CLOSED, depths[j], terms[i]), 1);
+            state = made(CODE, depths[j], terms[i]), state.code = 268435455, goes_to(state, 1);
+            state.code = 268435000, goes_to(state, 456);
+        }
+    state = made(CODE, 0, 2), state.code = 1, goes_to(state, 268435455);
+    goes_to(made(BEGUN, 0, 0), 1), goes_to(made(CLOSED, 0, 0), 1); /* without a term hardly any goes on */
+    goes_to(made(BLANK, 0, 0), 0), goes_to(made(BLANK, 1, 0), 0), stays(made(BLANK, 2, 0), 23);
+    stays(made(BEGUN, 1, 0), 23), stays(made(CLOSED, 1, 0), 23), stays(made(CODE, 0, 0), 23);
+    state = made(CODE, 0, 0), state.code = 268435455, goes_to(state, 1), state.code = 268435454, stays(state, 23);
+}
+
+/* A byte fed to a state that is refused with this status: the other fields stay. */
+static void refuses_byte(zelmotar_pieces state, const char *byte, uint32_t status)
+{
+    zelmotar_pieces expected = state;
+    expected.stand = status, expected.code = 0;
+    for (place = LOW; place <= HIGH; place++)
+        EXPECT(same_pieces(feed(state, byte, 1), expected));
+}
+
+/* A byte fed to a state that takes it and becomes this one, one byte on. */
+static void takes_byte(zelmotar_pieces state, const char *byte, zelmotar_pieces expected)
+{
+    expected.offset = state.offset + 1;
+    for (place = LOW; place <= HIGH; place++)
+        EXPECT(same_pieces(feed(state, byte, 1), expected));
+}
+
+/* With the most terms or the most brackets, or one fewer: which of them is told, and what is still taken. */
+static void states_at_limits(void)
+{
+    zelmotar_pieces state, then;
+    uint32_t stand;
+    for (stand = BEGUN; stand <= BLANK; stand++) {
+        refuses_byte(made(stand, 63, 65536), "(", 24), refuses_byte(made(stand, 64, 65536), "(", 21);
+        refuses_byte(made(stand, 64, 65535), "(", 21), refuses_byte(made(stand, 64, 65535), "0", 13);
+        refuses_byte(made(stand, 64, 65536), "7", 24), refuses_byte(made(stand, 0, 65536), "0", 24);
+        refuses_byte(made(stand, 0, 65536), " ", 23), refuses_byte(made(stand, 0, 65536), "x", 23);
+        state = made(stand, 63, 65535), state.own = state.most = 65535;
+        then = made(BEGUN, 64, 65536), then.most = then.counts[63] = 65536, takes_byte(state, "(", then);
+        then = made(CODE, 63, 65536), then.code = 7, then.own = then.most = 65536, takes_byte(state, "7", then);
+        state.own = 65533; /* no more than there are elsewhere */
+        then = made(BEGUN, 64, 65536), then.most = 65535, then.counts[63] = 65534, takes_byte(state, "(", then);
+        then = made(CODE, 63, 65536), then.code = 7, then.own = 65534, then.most = 65535, takes_byte(state, "7", then);
+    }
+}
+
+/* Brackets closed, and codes that go on, in states to which no text leads. */
+static void states_of_bytes(void)
+{
+    zelmotar_pieces state = made(CLOSED, 2, 9), then = made(CLOSED, 1, 9);
+    state.own = 3, state.counts[0] = 4, state.counts[1] = 5, state.counts[2] = 6;
+    then.own = 5, then.counts[0] = 4, then.counts[1] = 5, then.counts[2] = 6;
+    takes_byte(state, ")", then);
+    state.stand = BEGUN, takes_byte(state, ")", then), state.stand = CODE, takes_byte(state, ")", then);
+    state.stand = BLANK, refuses_byte(state, ")", 23), refuses_byte(made(CLOSED, 0, 9), ")", 23);
+    state = made(CODE, 0, 9), then = made(CODE, 0, 9); /* a code that no digit gives is followed by one, not by 0 */
+    then.code = 7, takes_byte(state, "7", then), refuses_byte(state, "0", 13);
+    state.code = 26843545, then.code = 268435455, takes_byte(state, "5", then), refuses_byte(state, "6", 13);
+    state.code = 26843546, refuses_byte(state, "0", 13), refuses_byte(state, "(", 23);
+    state.code = 268435455, refuses_byte(state, "0", 13), refuses_byte(state, "x", 23);
+    then = made(BLANK, 0, 9), takes_byte(state, " ", then);
+    refuses_byte(made(CLOSED, 0, 9), "7", 23), refuses_byte(made(CLOSED, 0, 9), "(", 23);
 }
 
 /* A call on a store: its status, with value 0, and the case's store as the one that it leaves. */
@@ -783,6 +1204,22 @@ static void type_short(const uint8_t *given, size_t text_n)
     EXPECT(memcmp(words, expected, sizeof words) == 0 && memcmp(text, given, text_n) == 0);
 }
 
+/* Feeds the same text, cut at every place, and holds what it answers at its end against the second judge. */
+static void feed_short(const uint8_t *given, size_t text_n)
+{
+    const zelmotar_counted expected = expected_counted(given, text_n);
+    size_t i;
+    doing = "zelmotar_text_feed";
+    for (i = 0; i <= text_n; i++) {
+        const size_t rest = text_n - i;
+        zelmotar_pieces state = zelmotar_text_feed(zelmotar_text_start(), memcpy(at(TEXT, i), given, i), i);
+        state = zelmotar_text_feed(state, memcpy(at(TEXT, rest), given + i, rest), rest);
+        EXPECT(same_counted(zelmotar_text_end(state), expected));
+    }
+}
+
+static void try_short(const uint8_t *given, size_t text_n) { type_short(given, text_n), feed_short(given, text_n); }
+
 /* Every text of one byte and of two, and every one of up to seven of the bytes that texts have, with two digits. */
 static void every_short_text(void)
 {
@@ -794,15 +1231,15 @@ static void every_short_text(void)
     allow(TEXT, PROT_READ | PROT_WRITE);
     for (number = 0; number < 65536; number++) {
         text[0] = (uint8_t)(number % 256), text[1] = (uint8_t)(number / 256);
-        type_short(text, 2);
+        try_short(text, 2);
         if (number < 256)
-            type_short(text, 1);
+            try_short(text, 1);
     }
     for (n = 0; n <= sizeof text; n++, count *= sizeof of - 1)
         for (number = 0; number < count; number++) {
             for (i = 0, rest = number; i < n; i++, rest /= sizeof of - 1)
                 text[i] = (uint8_t)of[rest % (sizeof of - 1)];
-            type_short(text, n);
+            try_short(text, n);
         }
 }
 
@@ -861,6 +1298,13 @@ static void type_unwritable(void)
     touched = zelmotar_type(lend(STORE, c.words, 40, PROT_READ), 40, 16, 0, (const uint8_t *)"12", 2).status;
 }
 
+/* A piece one byte shorter than it is told. */
+static void feed_beyond(void)
+{
+    place = HIGH;
+    touched = zelmotar_text_feed(zelmotar_text_start(), lend(TEXT, "12", 2, PROT_READ), 3).stand;
+}
+
 /* A store saved to one byte fewer than it is told, and to bytes that it may only read. */
 static void save_beyond(void)
 {
@@ -892,7 +1336,7 @@ static void expect_faults(void)
     EXPECT(faults(touch_before) && faults(touch_after) && faults(touch_written) && !faults(touch_nothing));
     EXPECT(faults(check_beyond) && faults(fresh_unwritable));
     EXPECT(faults(print_beyond) && faults(print_unwritable));
-    EXPECT(faults(type_beyond) && faults(type_unwritable));
+    EXPECT(faults(type_beyond) && faults(type_unwritable) && faults(feed_beyond));
     EXPECT(faults(save_beyond) && faults(save_unwritable));
     EXPECT(faults(load_beyond) && faults(load_unwritable));
 }
@@ -924,6 +1368,19 @@ int main(int count_given, char **list)
     typed_rows_of_overwriting();
     typed_rows_of_bytes();
     typed_rows_of_refusals();
+    pieces_rows_of_terms();
+    pieces_rows_of_bytes();
+    pieces_rows_of_depth();
+    pieces_rows_of_ends();
+    pieces_rows_of_many();
+    every_way();
+    states_by_stand();
+    states_by_code();
+    states_by_number();
+    states_by_count();
+    states_by_offset();
+    states_at_limits();
+    states_of_bytes();
     rows_of_symbols();
     rows_of_brackets();
     rows_of_joins();

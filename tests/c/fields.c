@@ -1,6 +1,6 @@
-/* fields: the layout of the five structs that come back. Each field has its place and size, and is read by
- * name and by its bytes from answers whose fields all differ. Every function that tells of a damaged cell hands on the
- * rule that it breaks, and the rule is 0 with every other status. */
+/* fields: the layout of the seven structs that come back, one of which is handed in too. Each field has its place and
+ * size, and is read by name and by its bytes from answers whose fields all differ. Every function that tells of a
+ * damaged cell hands on the rule that it breaks, and the rule is 0 with every other status. */
 #include <string.h>
 
 #include "expect.h"
@@ -21,6 +21,12 @@ enum { offsetof_status = 0, offsetof_rule = 4, offsetof_value = 8, offsetof_top 
 enum { offsetof_length = 8 + sizeof(size_t) };           /* of a text */
 enum { offsetof_saved_length = 8 + 2 * sizeof(size_t) }; /* of saving, behind top */
 enum { offsetof_from = 0, offsetof_to = sizeof(size_t) };
+/* Of a text in pieces, and of its end. */
+enum { offsetof_stand = 0, offsetof_code = 4, offsetof_offset = 8, offsetof_depth = 8 + sizeof(size_t) };
+enum { offsetof_terms = 8 + 2 * sizeof(size_t), offsetof_own = 8 + 3 * sizeof(size_t) };
+enum { offsetof_most = 12 + 3 * sizeof(size_t), offsetof_counts = 16 + 3 * sizeof(size_t) };
+enum { offsetof_counted_value = sizeof(size_t), offsetof_counted_terms = 2 * sizeof(size_t) };
+enum { offsetof_counted_most = 3 * sizeof(size_t) };
 
 /* Whether a field of a struct has this place and this size. */
 #define STANDS(type, field, place, size) (offsetof(type, field) == (place) && sizeof(((type *)0)->field) == (size))
@@ -42,6 +48,23 @@ static void layout(void)
     EXPECT(BEGINS(zelmotar_saved) && sizeof(zelmotar_saved) == 8 + 3 * wide);
     EXPECT(STANDS(zelmotar_saved, value, offsetof_value, 4) && STANDS(zelmotar_saved, top, offsetof_top, wide));
     EXPECT(STANDS(zelmotar_saved, length, offsetof_saved_length, wide));
+}
+
+static void layout_of_pieces(void)
+{
+    const size_t wide = sizeof(size_t);
+    EXPECT(STANDS(zelmotar_pieces, stand, offsetof_stand, 4) && STANDS(zelmotar_pieces, code, offsetof_code, 4));
+    EXPECT(STANDS(zelmotar_pieces, offset, offsetof_offset, wide));
+    EXPECT(STANDS(zelmotar_pieces, depth, offsetof_depth, wide));
+    EXPECT(STANDS(zelmotar_pieces, terms, offsetof_terms, wide));
+    EXPECT(STANDS(zelmotar_pieces, own, offsetof_own, 4) && STANDS(zelmotar_pieces, most, offsetof_most, 4));
+    EXPECT(STANDS(zelmotar_pieces, counts, offsetof_counts, 4 * 64));
+    EXPECT(sizeof(zelmotar_pieces) == 16 + 3 * wide + 4 * 64 && (wide != 8 || sizeof(zelmotar_pieces) == 296));
+    EXPECT(STANDS(zelmotar_counted, status, offsetof_status, 4));
+    EXPECT(STANDS(zelmotar_counted, value, offsetof_counted_value, wide));
+    EXPECT(STANDS(zelmotar_counted, terms, offsetof_counted_terms, wide));
+    EXPECT(STANDS(zelmotar_counted, most, offsetof_counted_most, wide));
+    EXPECT(sizeof(zelmotar_counted) == 4 * wide);
 }
 
 /* An answer, field by field: by name and by bytes. */
@@ -180,6 +203,76 @@ static void typings(void)
     reads_typed(zelmotar_type(words, WORDS, 18, 0, text, 65), 21, 0, 64, 18);
 }
 
+/* A text in pieces, field by field: by name and by bytes. */
+static void reads_pieces(zelmotar_pieces state, zelmotar_pieces expected)
+{
+    EXPECT(state.stand == expected.stand && AT(state, stand, expected.stand));
+    EXPECT(state.code == expected.code && AT(state, code, expected.code));
+    EXPECT(state.offset == expected.offset && AT(state, offset, expected.offset));
+    EXPECT(state.depth == expected.depth && AT(state, depth, expected.depth));
+    EXPECT(state.terms == expected.terms && AT(state, terms, expected.terms));
+    EXPECT(state.own == expected.own && AT(state, own, expected.own));
+    EXPECT(state.most == expected.most && AT(state, most, expected.most));
+    EXPECT(memcmp(state.counts, expected.counts, sizeof expected.counts) == 0 && AT(state, counts, expected.counts));
+}
+
+/* What it answers at its end, in the same way. */
+static void reads_counted(zelmotar_counted answer, uint32_t status, size_t value, size_t terms, size_t most)
+{
+    EXPECT(answer.status == status && AT(answer, status, status));
+    EXPECT(answer.value == value && AT(answer, counted_value, value));
+    EXPECT(answer.terms == terms && AT(answer, counted_terms, terms));
+    EXPECT(answer.most == most && AT(answer, counted_most, most));
+}
+
+static zelmotar_pieces feed(zelmotar_pieces state, const char *piece)
+{
+    return zelmotar_text_feed(state, (const uint8_t *)piece, strlen(piece));
+}
+
+/* A text with three brackets open and one closed, cut inside a code, and refused at last. */
+static void pieces(void)
+{
+    zelmotar_pieces expected = {0, 0, 0, 0, 0, 0, 0, {0}}, state = zelmotar_text_start();
+    reads_pieces(state, expected);
+    reads_counted(zelmotar_text_end(state), 0, 0, 0, 0);
+    state = feed(state, "1 2 3 4 (5 (6 7) (8 9 10 11 12 (13 12");
+    expected.stand = 2, expected.code = 12, expected.offset = 37, expected.depth = 3;
+    expected.terms = 18, expected.own = 2, expected.most = 6;
+    expected.counts[0] = 5, expected.counts[1] = 3, expected.counts[2] = 6;
+    reads_pieces(state, expected);
+    reads_counted(zelmotar_text_end(state), 23, 37, 0, 0);
+    state = feed(state, "3)");
+    expected.stand = 3, expected.code = 0, expected.offset = 39, expected.depth = 2, expected.own = 6;
+    reads_pieces(state, expected);
+    reads_counted(zelmotar_text_end(feed(state, "))")), 0, 0, 18, 6);
+    state = feed(state, " 26843545678");
+    expected.stand = 13, expected.offset = 48, expected.terms = 19, expected.own = expected.most = 7;
+    reads_pieces(state, expected);
+    reads_counted(zelmotar_text_end(state), 13, 48, 0, 0);
+}
+
+/* A state whose bytes all differ from those beside them, as it goes in and comes back; and one that goes on, with
+ * numbers that two bytes and more have to count. */
+static void states(void)
+{
+    zelmotar_pieces state, kept;
+    size_t i;
+    for (i = 0; i < sizeof state; i++)
+        ((unsigned char *)&state)[i] = (unsigned char)(1 + i % 251);
+    kept = state;
+    reads_pieces(feed(state, "7"), kept);
+    reads_counted(zelmotar_text_end(state), 23, kept.offset, 0, 0);
+    reads_pieces(state, kept);
+    state = zelmotar_text_start();
+    state.stand = 3, state.offset = 0xedcba98765, state.terms = 0xfedc, state.own = 0x1234, state.most = 0xba98;
+    reads_counted(zelmotar_text_end(state), 0, 0, 0xfedc, 0xba98);
+    state.depth = 1, state.counts[0] = 0x4321, kept = feed(state, ")");
+    reads_counted(zelmotar_text_end(kept), 0, 0, 0xfedc, 0xba98);
+    state.offset++, state.depth = 0, state.own = 0x4321;
+    reads_pieces(kept, state);
+}
+
 /* What saving answers, field by field: by name and by bytes. */
 static void reads_saved(zelmotar_saved answer, uint32_t status, uint32_t rule, uint32_t value, size_t top,
                         size_t length)
@@ -244,10 +337,13 @@ static void rules(void)
 int main(void)
 {
     layout();
+    layout_of_pieces();
     answers();
     spans();
     texts();
     typings();
+    pieces();
+    states();
     files();
     rules();
     return expect_end();

@@ -1,6 +1,6 @@
 /* numbers: every number of zelmotar.h, held against what the library does with it.
  *
- * usage: numbers VERSION, where VERSION is the Rust package's, as 0.2.0
+ * usage: numbers VERSION, where VERSION is the Rust package's, as 0.3.0
  *
  * tools/header-test changes each number by one and sees this test fail. So a status is not only compared with
  * what a call answers: each operation has an effect here that no other has, each limit passes and fails one
@@ -15,7 +15,8 @@
 static uint32_t words[ZELMOTAR_MAX_WORDS + 4], calls[ZELMOTAR_MAX_CALL_WORDS + 8];
 static uint32_t answers[ZELMOTAR_MAX_CALL_WORDS + 8];
 static size_t top;
-static uint32_t value; /* of the last call */
+static uint32_t value;     /* of the last call */
+static size_t terms, most; /* of the last text that was fed */
 static uint8_t text[4 * ZELMOTAR_MAX_DEPTH];
 static uint8_t file[20 * CELLS];
 static size_t length; /* of the last file that was saved */
@@ -167,6 +168,54 @@ static void statuses_of_typing(void)
     EXPECT(type(1, typed) == ZELMOTAR_TOO_DEEP && value == ZELMOTAR_MAX_DEPTH);
     for (n = 0; n < ZELMOTAR_REGISTERS; n++)
         EXPECT(type(n, "") == ZELMOTAR_DONE && ZELMOTAR_IS_EMPTY(words, n));
+}
+
+/* So many terms, as a string. */
+static const char *terms_of(size_t count)
+{
+    static char typed[2 * (ZELMOTAR_MAX_TERMS + 2)];
+    size_t i;
+    for (i = 0; i < 2 * count; i++)
+        typed[i] = i % 2 == 0 ? '7' : ' ';
+    typed[2 * count - 1] = '\0';
+    return typed;
+}
+
+/* Feeds a text in two pieces, the first of them so long, and gives the status at its end. */
+static uint32_t feed(const char *typed, size_t first)
+{
+    const uint8_t *bytes = (const uint8_t *)typed;
+    zelmotar_pieces state = zelmotar_text_feed(zelmotar_text_start(), bytes, first);
+    zelmotar_counted answer = zelmotar_text_end(zelmotar_text_feed(state, bytes + first, strlen(typed) - first));
+    EXPECT(answer.status == ZELMOTAR_DONE ? answer.value == 0 : answer.terms == 0 && answer.most == 0);
+    value = (uint32_t)answer.value;
+    terms = answer.terms, most = answer.most;
+    return answer.status;
+}
+
+/* Each status of a text in pieces, and the most terms that a text has, in pieces and typed in: as many are in order,
+ * though no store has room for them, and one more is not. */
+static void statuses_of_pieces(void)
+{
+    char typed[2 * ZELMOTAR_MAX_DEPTH + 2] = "";
+    start();
+    EXPECT(feed("7 (8 9) ()", 4) == ZELMOTAR_DONE && terms == 5 && most == 3);
+    EXPECT(feed("7 (8 9) ", 4) == ZELMOTAR_NOT_TEXT && value == 8);
+    snprintf(typed, sizeof typed, "7 %lu", (unsigned long)ZELMOTAR_MAX_CODE);
+    EXPECT(feed(typed, 4) == ZELMOTAR_DONE && terms == 2 && most == 2);
+    snprintf(typed, sizeof typed, "7 %lu", (unsigned long)ZELMOTAR_MAX_CODE + 1);
+    EXPECT(feed(typed, 4) == ZELMOTAR_BAD_CODE && value == strlen(typed) - 1);
+    EXPECT(feed("7 0", 2) == ZELMOTAR_BAD_CODE && value == 2);
+    memset(typed, '(', ZELMOTAR_MAX_DEPTH), memset(typed + ZELMOTAR_MAX_DEPTH, ')', ZELMOTAR_MAX_DEPTH);
+    typed[2 * ZELMOTAR_MAX_DEPTH] = '\0';
+    EXPECT(feed(typed, 4) == ZELMOTAR_DONE && terms == ZELMOTAR_MAX_DEPTH && most == 1);
+    memset(typed, '(', sizeof typed - 1);
+    EXPECT(feed(typed, 4) == ZELMOTAR_TOO_DEEP && value == ZELMOTAR_MAX_DEPTH);
+    EXPECT(feed(terms_of(ZELMOTAR_MAX_TERMS), 4) == ZELMOTAR_DONE);
+    EXPECT(terms == ZELMOTAR_MAX_TERMS && most == ZELMOTAR_MAX_TERMS);
+    EXPECT(type(0, terms_of(ZELMOTAR_MAX_TERMS)) == ZELMOTAR_NO_ROOM && value == 0);
+    EXPECT(feed(terms_of(ZELMOTAR_MAX_TERMS + 1), 4) == ZELMOTAR_TOO_MANY_TERMS && value == 2 * ZELMOTAR_MAX_TERMS);
+    EXPECT(type(0, terms_of(ZELMOTAR_MAX_TERMS + 1)) == ZELMOTAR_TOO_MANY_TERMS && value == 2 * ZELMOTAR_MAX_TERMS);
 }
 
 /* Saves the store to so many bytes and gives the status. */
@@ -450,6 +499,7 @@ int main(int count, char **list)
     statuses_of_a_request();
     statuses_of_a_print();
     statuses_of_typing();
+    statuses_of_pieces();
     statuses_of_saving();
     statuses_of_loading();
     words_for_files();

@@ -1,14 +1,16 @@
-/* stress: the nine functions on random cases, in memory that is exactly as long as what is lent.
+/* stress: the twelve functions on random cases, in memory that is exactly as long as what is lent.
  *
  * usage: stress COUNT
  *
  * It is made for valgrind, which sees each byte that is touched outside, and each decision that hangs on a word
  * that nobody wrote: a fresh store, the words for a file and all spaces are lent as malloc gives them. What the check
  * says is held against a second judge of cells (rules.h), what is printed against a second printer (texts.h), what is
- * typed in, word by word, against a second reader and layer (typed.h), and what is saved and loaded, byte by byte and
- * word by word, against a second writer and reader of files (files.h). What is typed in is printed again, and what is
- * printed is typed in again; what is saved is loaded again, and what is loaded is saved again. */
+ * typed in, word by word, against a second reader and layer (typed.h), what is fed in pieces, field by field, against
+ * two judges of such texts (pieces.h), and what is saved and loaded, byte by byte and word by word, against a second
+ * writer and reader of files (files.h). What is typed in is printed again, and what is printed is typed in again; what
+ * is fed in pieces is typed in as a whole; what is saved is loaded again, and what is loaded is saved again. */
 #include "cases.h"
+#include "pieces.h"
 #include "rules.h"
 #include "texts.h"
 #include "typed.h"
@@ -17,6 +19,8 @@ static struct test_case c;
 /* Texts laid in a store as it was, in one that was collected for them, and in one that has room only without what their
  * register held; and those for which there was none, though their register held something. */
 static unsigned roomy, collected, replacing, kept;
+/* Pieces fed to a text that was refused before. */
+static unsigned fed_after;
 /* Stores saved from which dead cells went, and files loaded with bytes before their first heap cell. */
 static unsigned shrunk, preceded;
 
@@ -187,6 +191,76 @@ static zelmotar_typed stress_type(void)
     return answer;
 }
 
+/* A piece of its own, fed to a state: every field, and the piece as it was. The state that was handed in is as it was,
+ * and answers at its end what it should. */
+static zelmotar_pieces stress_feed(zelmotar_pieces state, const uint8_t *bytes, size_t n)
+{
+    const zelmotar_pieces before = state;
+    uint8_t *piece = lend_bytes(bytes, n);
+    zelmotar_pieces next = zelmotar_text_feed(state, piece, n);
+    EXPECT(same_pieces(next, expected_feed(before, bytes, n)) && memcmp(piece, bytes, n) == 0);
+    EXPECT(same_counted(zelmotar_text_end(state), expected_end(before)) && same_pieces(state, before));
+    fed_met[goes_on(&before)]++;
+    free(piece);
+    return next;
+}
+
+/* What a text answers at its end is what the whole judge says, and what comes of it where it is typed into the largest
+ * store. */
+static void expect_ended(zelmotar_pieces state, const uint8_t *text, size_t text_n)
+{
+    static uint32_t words[ZELMOTAR_MAX_WORDS], fresh[ZELMOTAR_MAX_WORDS];
+    const size_t room = ZELMOTAR_MAX_WORDS / 2 - ZELMOTAR_REGISTERS;
+    zelmotar_counted answer = zelmotar_text_end(state);
+    zelmotar_typed typed;
+    EXPECT(same_counted(answer, expected_counted(text, text_n)));
+    ended_met[answer.status]++;
+    EXPECT(zelmotar_fresh(words, ZELMOTAR_MAX_WORDS).status == ZELMOTAR_DONE);
+    memcpy(fresh, words, sizeof words);
+    typed = zelmotar_type(words, ZELMOTAR_MAX_WORDS, ZELMOTAR_REGISTERS, 0, text, text_n);
+    if (answer.status == ZELMOTAR_DONE && answer.terms <= room) {
+        EXPECT(same_typed(typed, typed_answer(ZELMOTAR_DONE, 0, ZELMOTAR_REGISTERS + answer.terms)));
+        return;
+    }
+    if (answer.status == ZELMOTAR_DONE)
+        answer.status = ZELMOTAR_NO_ROOM;
+    EXPECT(same_typed(typed, typed_answer(answer.status, answer.value, ZELMOTAR_REGISTERS)));
+    EXPECT(memcmp(words, fresh, sizeof words) == 0);
+    typed_met[typed.status]++;
+}
+
+/* A text fed in pieces of up to so many bytes, none too. Now and then what came so far is judged as a whole. */
+static void stress_pieces(const uint8_t *text, size_t text_n, size_t longest)
+{
+    zelmotar_pieces state = zelmotar_text_start();
+    size_t from = 0, n;
+    EXPECT(same_counted(zelmotar_text_end(state), counted(ZELMOTAR_DONE, 0, 0, 0)));
+    do {
+        n = below(longest + 1);
+        if (n > text_n - from)
+            n = text_n - from;
+        fed_after += state.stand > CLOSED && n > 0;
+        state = stress_feed(state, text + from, n);
+        from += n;
+        if (below(16) == 0)
+            EXPECT(same_counted(zelmotar_text_end(state), expected_counted(text, from)));
+    } while (from < text_n || below(3) == 0);
+    expect_ended(state, text, text_n);
+}
+
+/* The case's text in pieces, long or short, but none of single bytes where they would be too many; and its state, to
+ * which as a rule no text leads, fed a part of the text, at once and cut in two. */
+static void stress_fed(void)
+{
+    static const size_t longest[4] = {MOST_TYPED, 200, 20, 1};
+    const uint8_t *part = c.typed + c.piece;
+    zelmotar_pieces at_once = stress_feed(c.state, part, c.piece_n);
+    size_t cut = below(c.piece_n + 1);
+    zelmotar_pieces in_two = stress_feed(stress_feed(c.state, part, cut), part + cut, c.piece_n - cut);
+    EXPECT(same_pieces(at_once, in_two) && same_counted(zelmotar_text_end(at_once), expected_end(at_once)));
+    stress_pieces(c.typed, c.typed_n, longest[below(c.typed_n < 300 ? 4 : 3)]);
+}
+
 /* A file is loaded with these words. */
 static void expect_loaded(const uint8_t *file, size_t file_n, const uint32_t *expected, size_t n, size_t top)
 {
@@ -349,6 +423,35 @@ static void stress_full(void)
     EXPECT(stress_load().status == ZELMOTAR_DONE);
 }
 
+/* A text in order again and again, with blanks between, up to so many bytes; one of them is changed as a rule. Gives
+ * its length. */
+static size_t repeat_text(uint8_t *text, size_t most)
+{
+    static const char bytes[] = "() 07x";
+    size_t length;
+    do
+        make_text(&c);
+    while (c.typed_n == 0 || judge_text(c.typed, c.typed_n).status != ZELMOTAR_DONE);
+    memcpy(text, c.typed, c.typed_n);
+    for (length = c.typed_n; length + 1 + c.typed_n <= most; length += 1 + c.typed_n)
+        text[length] = ' ', memcpy(text + length + 1, c.typed, c.typed_n);
+    if (below(4))
+        text[below(length)] = (uint8_t)bytes[below(sizeof bytes - 1)];
+    return length;
+}
+
+/* Texts about as long as those with the most terms, and longer. */
+static void stress_long(void)
+{
+    static uint8_t text[8 * ZELMOTAR_MAX_TERMS];
+    static const size_t longest[3] = {3000, 40000, sizeof text};
+    size_t round, length;
+    for (round = 0; round < 30; round++) {
+        length = repeat_text(text, sizeof text / 16 * (1 + below(16)));
+        stress_pieces(text, length, longest[round % 3]);
+    }
+}
+
 int main(int count_given, char **list)
 {
     long left = count_given == 2 ? atol(list[1]) : 0;
@@ -359,6 +462,7 @@ int main(int count_given, char **list)
     stress_cells();
     stress_endless();
     stress_full();
+    stress_long();
     for (; left > 0; left--) {
         make_case(&c);
         stress_reading();
@@ -367,11 +471,12 @@ int main(int count_given, char **list)
         stress_run();
         stress_prints();
         (void)stress_type();
+        stress_fed();
         stress_saves();
         (void)stress_load();
     }
     expect_all_met();
     EXPECT(roomy > 0 && collected > 0 && replacing > 0 && kept > 0);
-    EXPECT(shrunk > 0 && preceded > 0);
+    EXPECT(shrunk > 0 && preceded > 0 && fed_after > 0);
     return expect_end();
 }

@@ -18,6 +18,7 @@ static void print_limits(void)
     printf("least code %u\n", (unsigned)ZELMOTAR_MIN_CODE);
     printf("most code %u\n", (unsigned)ZELMOTAR_MAX_CODE);
     printf("most depth %u\n", (unsigned)ZELMOTAR_MAX_DEPTH);
+    printf("most terms %u\n", (unsigned)ZELMOTAR_MAX_TERMS);
 }
 
 static void print_statuses(void)
@@ -39,6 +40,7 @@ static void print_statuses(void)
     STATUS(TOO_DEEP);
     STATUS(SHORT_SPACE);
     STATUS(NOT_TEXT);
+    STATUS(TOO_MANY_TERMS);
     STATUS(SHORT_FILE);
     STATUS(BAD_EDITION);
     STATUS(BAD_DISTANCE);
@@ -134,6 +136,26 @@ static void print_layout(void)
     printf("\n");
 }
 
+/* The two structs of a text in pieces. */
+static void print_pieces(void)
+{
+    printf("pieces of %u bytes:", (unsigned)sizeof(zelmotar_pieces));
+    PLACE(zelmotar_pieces, stand);
+    PLACE(zelmotar_pieces, code);
+    PLACE(zelmotar_pieces, offset);
+    PLACE(zelmotar_pieces, depth);
+    PLACE(zelmotar_pieces, terms);
+    PLACE(zelmotar_pieces, own);
+    PLACE(zelmotar_pieces, most);
+    PLACE(zelmotar_pieces, counts);
+    printf("\ncounted of %u bytes:", (unsigned)sizeof(zelmotar_counted));
+    PLACE(zelmotar_counted, status);
+    PLACE(zelmotar_counted, value);
+    PLACE(zelmotar_counted, terms);
+    PLACE(zelmotar_counted, most);
+    printf("\n");
+}
+
 int main(void)
 {
     print_limits();
@@ -143,5 +165,6 @@ int main(void)
     print_texts();
     print_files();
     print_layout();
+    print_pieces();
     return 0;
 }

@@ -1,10 +1,10 @@
 /* typed.h: what typing a register in should give, by a second reader and a second layer that are written apart from the
  * library, from SCOPE 5.8.
  *
- * Neither is recursive. The reader judges a byte by the one to its left, the brackets that are open there and the code
- * that it goes on with. The layer keeps the terms that have no cell yet in a list, and lays those of a bracket when it
- * closes. Whether there is room is told by a count of the cells that are reached, and whether the store is sound by the
- * second judge (rules.h). What a collection leaves of it is the library's own. */
+ * Neither is recursive. The reader judges a byte by the one to its left, the brackets that are open there, the terms
+ * before it and the code that it goes on with. The layer keeps the terms that have no cell yet in a list, and lays
+ * those of a bracket when it closes. Whether there is room is told by a count of the cells that are reached, and
+ * whether the store is sound by the second judge (rules.h). What a collection leaves of it is the library's own. */
 #ifndef TYPED_H
 #define TYPED_H
 
@@ -26,6 +26,12 @@ static inline int may_follow(int left, int byte)
     }
 }
 
+/* Whether a term begins at byte i of a text that is in order up to there. */
+static inline int begins_term(const uint8_t *text, size_t i)
+{
+    return text[i] == '(' || (is_digit(text[i]) && (i == 0 || !is_digit(text[i - 1])));
+}
+
 /* A text's refusal, or ZELMOTAR_DONE, and the offset that goes with it. */
 struct judgement {
     uint32_t status;
@@ -42,27 +48,23 @@ static inline struct judgement judged(uint32_t status, size_t at)
 static inline struct judgement judge_text(const uint8_t *text, size_t text_n)
 {
     uint32_t code = 0; /* of the digits to the left, where there are any */
-    size_t open = 0, i;
+    size_t open = 0, terms = 0, i;
     int left = 0, byte;
     for (i = 0; i < text_n; i++, left = byte) {
         byte = text[i];
         if (!may_follow(left, byte) || (byte == ')' && open == 0))
             return judged(ZELMOTAR_NOT_TEXT, i);
+        if (byte == '(' && open++ == ZELMOTAR_MAX_DEPTH)
+            return judged(ZELMOTAR_TOO_DEEP, i);
+        if (begins_term(text, i) && terms++ == ZELMOTAR_MAX_TERMS)
+            return judged(ZELMOTAR_TOO_MANY_TERMS, i);
         if (is_digit(byte))
             code = 10 * (is_digit(left) ? code : 0) + (uint32_t)(byte - '0');
         if (is_digit(byte) && (code < ZELMOTAR_MIN_CODE || code > ZELMOTAR_MAX_CODE))
             return judged(ZELMOTAR_BAD_CODE, i);
-        if (byte == '(' && open++ == ZELMOTAR_MAX_DEPTH)
-            return judged(ZELMOTAR_TOO_DEEP, i);
         open -= byte == ')';
     }
     return open > 0 || left == ' ' ? judged(ZELMOTAR_NOT_TEXT, text_n) : judged(ZELMOTAR_DONE, 0);
-}
-
-/* Whether a term begins at byte i of a text that is in order. */
-static inline int begins_term(const uint8_t *text, size_t i)
-{
-    return text[i] == '(' || (is_digit(text[i]) && (i == 0 || !is_digit(text[i - 1])));
 }
 
 /* The cells that a text in order needs. */

@@ -1,6 +1,6 @@
 -- Texts in pieces to try (SCOPE 7.1, C1 to C12), as one table with one test of a row. Assumes nothing.
 use mathlib.Core.Bool.{Bool, true, _&&_}
-use mathlib.Core.List.{List, [], _∷_, _++_}
+use mathlib.Core.List.{List, [], _∷_}
 use Prim.Native.Nat.{ℕ}
 use lib.Dec.{eqb, T}
 use lib.ListN.{replicate}

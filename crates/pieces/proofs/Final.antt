@@ -1,7 +1,6 @@
 -- The claims of specs/Unique.antt. An answer is got back from what it says. Assumes nothing.
 use mathlib.Core.Path.{sym, ap, _∙_}
 use Rattle.meaning.specs.Pieces.{Count}
-use Rattle.pieces.specs.States.{countIs}
 use Rattle.pieces.specs.Unique.{OneStart, OneFeed, OneEnd}
 use Rattle.pieces.specs.declared.Counted.{Counted}
 

@@ -4,24 +4,20 @@
 --   from-struct               a struct as the state that bytes are fed to
 --   to-struct, in-numbers     and that state as a struct
 -- Assumes nothing.
-use mathlib.Core.Path.{_≡_, refl, sym, ap, _∙_, subst}
+use mathlib.Core.Path.{_≡_, refl, ap, _∙_, subst}
 use mathlib.Core.Bool.{Bool, true, false, cond}
 use mathlib.Core.List.{List}
 use Prim.Native.Nat.{ℕ, _^_, _<_}
 use native.Mathlib.Omega.{arith}
 use lib.Dec.{eqb}
 use borrow.Author.Tests.{ltb-true, eqb-true}
-use Rattle.meaning.specs.Judge as said
 use Rattle.meaning.specs.Judge.{begun, spaced, number, closed, stopped}
-use Rattle.meaning.specs.Reader.{reader}
-use Rattle.meaning.specs.Pieces as said-pieces
-use Rattle.meaning.specs.Pieces.{standFits, fits}
-use Rattle.meaning.proofs.pieces.Fitting.{fits-yes}
+use Rattle.meaning.specs.Pieces.{standFits}
 use Rattle.reader.specs.Readers.{standOf, readerOf}
 use Rattle.reader.specs.declared.judging.Fault.the-variants as fault
 use Rattle.reader.specs.declared.judging.Stand.{Stand}
 use Rattle.reader.specs.declared.judging.Stand.the-variants as stand
-use Rattle.pieces.specs.States.{refusalFrom, standFrom, numberOf, keptCode, codeOf, stateOf, structOf}
+use Rattle.pieces.specs.States.{refusalFrom, standFrom, numberOf, keptCode, codeOf, structOf}
 use Rattle.pieces.specs.States.{StandsFor, IsNumber}
 use Rattle.pieces.specs.Feeding.{stateIs}
 use Rattle.pieces.specs.declared.Pieces.{Pieces}

@@ -1,16 +1,21 @@
 // A text counted as it arrives in pieces (SCOPE 5.11): how many terms it has, which are the cells that it needs, and
 // the most of one level. The state goes from piece to piece as a struct by value, in numbers alone, so that it can
-// cross to C; a struct that no start made is taken too. The bytes are judged and read by crate `reader`.
+// cross to C; a struct that no start made is taken too. Each byte is judged and read by crate `reader`. A whole text is
+// read here too, for crate `typing`.
 ghost use mathlib.Core.Path.{_≡_};
 ghost use mathlib.Core.Bool.{_&&_};
-ghost use Rattle.meaning.specs.Reader.{isWhole};
+ghost use Rattle.meaning.specs.Reader.{advances, atStart, isWhole};
 ghost use Rattle.meaning.specs.Pieces.{fits};
+ghost use Rattle.reader.specs.Readers.{Finds};
 ghost use Rattle.pieces.specs.States.{stateOf, Starts, Feeds, Ends};
 use crate::numbers::kept_code;
 use crate::numbers::number_of;
 use crate::numbers::stand_of;
+use reader::Found;
 use reader::Reader;
+use reader::finish;
 use reader::is_whole;
+use reader::judging::Stand;
 use reader::judging::fault_number;
 use reader::stop_fault;
 
@@ -122,4 +127,27 @@ pub fn end(s: Pieces) -> Counted
         terms: 0,
         most: 0,
     }
+}
+
+// A whole text read, as one piece, for crate `typing`: the number of its terms, or its refusal. Both have one loop over
+// the bytes: the compiler puts the judgement of a byte into a loop only where there is no other, and a call for each
+// byte nearly doubles the time of typing.
+pub fn read(text: &[u8]) -> Found
+    ensures { λ f. ⌜ Finds (advances atStart (now (text .entry))) f ⌝ }
+{
+    let mut counts = [0; meaning::DEPTH_LIMIT];
+    let from = feeding::State {
+        place: Reader {
+            stand: Stand::Begun,
+            code: 0,
+            offset: 0,
+            depth: 0,
+            total: 0,
+        },
+        own: 0,
+        most: 0,
+    };
+    let to = feeding::feed_bytes(from, text, &mut counts);
+    let place = to.place;
+    finish(place)
 }

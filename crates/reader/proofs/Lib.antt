@@ -1,4 +1,4 @@
 -- Laws that belong to no one function. In order:
---   Ranges  what stays in range as a text is read, a byte a turn
+--   Ranges  what a byte is, by its move and by what is asked of it
 -- Assumes nothing.
 mod Ranges

@@ -1,9 +1,9 @@
-// A text read byte by byte, in one pass (SCOPE 5.8): where the reader stands decides what a byte does, and a byte that
-// cannot go on stops it for good. The state is a struct by value. Nothing is laid here: reading tells how many terms a
-// text has, or why it is none. Crate `pieces` goes the same way, a piece at a time.
+// A text read, one byte (SCOPE 5.8): where the reader stands decides what a byte does, and a byte that cannot go on stops
+// it for good. The state is a struct by value. Nothing is laid here: at its end the reader tells how many terms a text
+// has, or why it is none. The loop over bytes is in crate `pieces`.
 ghost use mathlib.Core.Path.{_≡_};
 ghost use Rattle.meaning.specs.Judge.{judge};
-ghost use Rattle.meaning.specs.Reader.{moved, isFull, advance, advances, atStart};
+ghost use Rattle.meaning.specs.Reader.{moved, isFull};
 ghost use Rattle.reader.specs.Readers.{moveOf, standOf, readerOf, CanGo, CanRead, Reads, MayEnd, IsWhole};
 ghost use Rattle.reader.specs.Readers.{StopsFor, IsStopped, Finds};
 use crate::judging::Fault;
@@ -89,14 +89,6 @@ pub fn judge_byte(r: Reader, b: u8) -> Move
     judge(stand, r.code, r.depth, meaning::TERMS_LIMIT <= r.total, b)
 }
 
-// One byte read.
-pub fn read_byte(r: Reader, b: u8) -> Reader
-    requires { ⌜ CanRead r ⌝ }
-    ensures { λ q. ⌜ Reads q (advance b (readerOf r)) ⌝ }
-{
-    go(judge_byte(r, b), b, r)
-}
-
 // Whether a text may end where the reader stands; and with no bracket open.
 fn may_end(stand: Stand) -> bool
     ensures { λ r. ⌜ MayEnd stand r ⌝ }
@@ -152,7 +144,7 @@ pub enum Found {
 }
 
 // The end of the text.
-fn finish(r: Reader) -> Found
+pub fn finish(r: Reader) -> Found
     ensures { λ f. ⌜ Finds (readerOf r) f ⌝ }
 {
     let stand = r.stand;
@@ -160,27 +152,4 @@ fn finish(r: Reader) -> Found
         return Found::Whole(r.total);
     }
     Found::Bad(stop_fault(stand), r.offset)
-}
-
-// A whole text read, up to the byte that stops it.
-pub fn read(text: &[u8]) -> Found
-    ensures { λ f. ⌜ Finds (advances atStart (now (text .entry))) f ⌝ }
-{
-    let mut r = Reader {
-        stand: Stand::Begun,
-        code: 0,
-        offset: 0,
-        depth: 0,
-        total: 0,
-    };
-    let mut i: usize = 0;
-    while i < text.len() {
-        r = read_byte(r, text[i]);
-        let stand = r.stand;
-        if is_stopped(stand) {
-            return finish(r);
-        }
-        i += 1;
-    }
-    finish(r)
 }

@@ -64,7 +64,7 @@ fn type_register(ws: &mut [u32], top: usize, d: usize, text: &[u8]) -> Typed
     ensures { λ r. ⌜ typedIn r top (now (ws .exit))
         ≡ typedOf firstHeapCell (now (ws .entry)) top d (reads blank (now (text .entry))) ⌝ }
 {
-    match reader::read(text) {
+    match pieces::read(text) {
         Found::Whole(n) => type_whole(ws, top, d, text, n),
         Found::Bad(fault, offset) => Typed::BadText(fault, offset),
     }

@@ -1,4 +1,4 @@
-//! Files and standard input, read whole up to a limit; files, written whole.
+//! Files and standard input, read whole up to a limit or as they come; files, written whole.
 
 use std::ffi::OsStr;
 use std::fs::{self, File};
@@ -23,27 +23,41 @@ pub struct Input {
 ///
 /// [`Stop::Usage`] if it is a folder or cannot be read, [`Stop::Refused`] if it is too long.
 pub fn read(name: &OsStr) -> Result<Input, Stop> {
+    let (name, bytes) = read_with(name, take)?;
+    if bytes.len() > MOST_BYTES {
+        return Err(Stop::Refused(format!("{name} has more than {MOST_BYTES} bytes")));
+    }
+    Ok(Input { name, bytes })
+}
+
+/// Hands the file with a name, or standard input for `-`, to a reader, and gives the name to cite it by with what
+/// the reader makes of it. So nothing need be held that is read.
+///
+/// # Errors
+///
+/// [`Stop::Usage`] if it is a folder or cannot be read.
+pub fn read_with<T>(
+    name: &OsStr,
+    reader: impl FnOnce(&mut dyn Read) -> io::Result<T>,
+) -> Result<(String, T), Stop> {
     let shown = name.to_string_lossy().into_owned();
     let unread = |why: &dyn std::fmt::Display| Stop::Usage(format!("cannot read {shown}: {why}"));
-    let bytes = if name == "-" {
-        take(io::stdin().lock())
+    let made = if name == "-" {
+        reader(&mut io::stdin().lock())
     } else if fs::metadata(name).is_ok_and(|about| about.is_dir()) {
         return Err(unread(&"it is a folder"));
     } else {
-        File::open(name).and_then(take)
+        File::open(name).and_then(|mut file| reader(&mut file))
     };
-    let bytes = bytes.map_err(|error| match error.kind() {
+    let made = made.map_err(|error| match error.kind() {
         io::ErrorKind::NotFound => unread(&"no such file"),
         _ => unread(&error),
     })?;
-    if bytes.len() > MOST_BYTES {
-        return Err(Stop::Refused(format!("{shown} has more than {MOST_BYTES} bytes")));
-    }
-    Ok(Input { name: shown, bytes })
+    Ok((shown, made))
 }
 
 /// What `from` has, and at most one byte over the limit.
-fn take(from: impl Read) -> io::Result<Vec<u8>> {
+fn take(from: &mut dyn Read) -> io::Result<Vec<u8>> {
     let mut bytes = Vec::new();
     from.take(MOST_BYTES as u64 + 1).read_to_end(&mut bytes)?;
     Ok(bytes)
@@ -85,14 +99,19 @@ pub fn words(line: &[u8]) -> Vec<&[u8]> {
 /// What is behind the first `count` words of a line and one blank after them, byte for byte up to the line's
 /// end. A comment is none here.
 pub fn behind(line: &[u8], count: usize) -> &[u8] {
-    let line = line.strip_suffix(b"\n").unwrap_or(line);
-    let mut rest = line.strip_suffix(b"\r").unwrap_or(line);
+    let mut rest = unended(line);
     for _ in 0..count {
         rest = rest.trim_ascii_start();
         let end = rest.iter().position(u8::is_ascii_whitespace).unwrap_or(rest.len());
         rest = &rest[end..];
     }
     rest.get(1..).unwrap_or(rest)
+}
+
+/// A line without its end, `\n` or `\r\n`, and without a `\r` that stands there alone.
+pub fn unended(line: &[u8]) -> &[u8] {
+    let line = line.strip_suffix(b"\n").unwrap_or(line);
+    line.strip_suffix(b"\r").unwrap_or(line)
 }
 
 /// A word in quotes for a sentence: cut if it is long, and nothing in it that moves a terminal.
@@ -136,6 +155,16 @@ mod tests {
         assert_eq!(behind(b"TYPE\t0\t", 2), b"");
         assert_eq!(behind(b"TYPE 0\n", 2), b"");
         assert_eq!(behind(b"TYPE", 2), b"");
+    }
+
+    #[test]
+    fn one_line_end_goes() {
+        for line in [&b"1 2"[..], b"1 2\n", b"1 2\r\n", b"1 2\r"] {
+            assert_eq!(unended(line), b"1 2");
+        }
+        for (line, rest) in [(&b"1\n\n"[..], &b"1\n"[..]), (b"1\n\r", b"1\n"), (b"\r\r\n", b"\r")] {
+            assert_eq!(unended(line), rest);
+        }
     }
 
     #[test]

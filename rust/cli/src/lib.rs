@@ -6,8 +6,8 @@
 //! - [`args`], [`input`], [`outcome`]: arguments, files, and how a command ends
 //! - [`call`], [`batch`]: calls and batches as they are written; [`steps`] runs them one by one
 //! - [`dump`]: a store in a file; [`cells`]: what the words of a cell say
-//! - [`run`], [`ask`], [`show`], [`mod@print`], [`typing`], [`check`], [`draw`], [`save`], [`load`]:
-//!   a command each
+//! - [`run`], [`ask`], [`show`], [`mod@print`], [`typing`], [`count`], [`check`], [`draw`], [`save`],
+//!   [`load`]: a command each
 //! - [`svg`], [`plots`]: drawings, and those of docs/BENCHMARKS.md
 
 #![warn(missing_docs)]
@@ -19,6 +19,7 @@ pub mod batch;
 pub mod call;
 pub mod cells;
 pub mod check;
+pub mod count;
 pub mod draw;
 pub mod dump;
 pub mod expression;

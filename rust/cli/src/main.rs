@@ -7,7 +7,7 @@ use std::io::{self, BufWriter, Write};
 use std::process::ExitCode;
 
 use zelmotar_cli::outcome::{Ended, Outcome, Stop};
-use zelmotar_cli::{ask, check, draw, load, print, run, save, show, typing};
+use zelmotar_cli::{ask, check, count, draw, load, print, run, save, show, typing};
 
 const HELP: &str = include_str!("help.txt");
 
@@ -19,7 +19,7 @@ fn command(words: &[OsString], out: &mut dyn Write) -> Ended {
     }
     let Some((name, rest)) = words.split_first() else {
         return Err(Stop::Usage(
-            "which command? run, ask, show, print, type, draw, check, save or load \
+            "which command? run, ask, show, print, type, count, draw, check, save or load \
              (zelmotar-cli --help)"
                 .into(),
         ));
@@ -30,6 +30,7 @@ fn command(words: &[OsString], out: &mut dyn Write) -> Ended {
         Some("show") => show::command(rest, out),
         Some("print") => print::command(rest, out),
         Some("type") => typing::command(rest, out),
+        Some("count") => count::command(rest, out),
         Some("draw") => draw::command(rest, out),
         Some("check") => check::command(rest, out),
         Some("save") => save::command(rest, out),

@@ -3,7 +3,7 @@
 use std::ffi::OsString;
 use std::io::Write;
 
-use zelmotar::{status_text, Refusal, Store, MAX_CODE, MAX_DEPTH, MIN_CODE, REGISTERS};
+use zelmotar::{status_text, Refusal, Store, MAX_CODE, MAX_DEPTH, MAX_TERMS, MIN_CODE, REGISTERS};
 
 use crate::args::{self, Args, Takes};
 use crate::check::damage;
@@ -42,24 +42,36 @@ pub fn command(words: &[OsString], out: &mut dyn Write) -> Ended {
 /// The sentence that says why the library does not type a text into a register; the store is the one that it
 /// left.
 pub fn sentence(store: &Store, register: usize, text: &[u8], refusal: Refusal) -> String {
+    if let Some(offset) = refusal.offset() {
+        let before = offset.checked_sub(1).map(|place| text[place]);
+        return sentence_at(offset, before, text.get(offset).copied(), refusal);
+    }
     let why = match refusal {
-        Refusal::BadCode { offset } => no_code(text, offset),
         Refusal::NoRoom => {
             let (need, free) = (steps::terms(text), room(store, register));
             format!("the text needs {need} new cells, and {free} can be had")
         }
         Refusal::NoRegister => format!("{register}, and they are 0 to {}", REGISTERS - 1),
-        Refusal::TooDeepAt { .. } => format!("over {MAX_DEPTH} would be open here"),
-        Refusal::NotText { offset } => cannot_stand(text.get(offset)),
         _ => return damage(store).unwrap_or_else(|| refusal.to_string()),
     };
-    match refusal.offset() {
-        Some(offset) => {
-            let number = refusal.number();
-            format!("{number} at byte {offset}: {}: {why}", status_text(number))
-        }
-        None => format!("{refusal}: {why}"),
-    }
+    format!("{refusal}: {why}")
+}
+
+/// The sentence about a place of a text at which it is refused, by the bytes before it and at it, if there are any.
+pub fn sentence_at(
+    offset: usize,
+    before: Option<u8>,
+    byte: Option<u8>,
+    refusal: Refusal,
+) -> String {
+    let why = match refusal {
+        Refusal::BadCode { .. } => no_code(before),
+        Refusal::TooDeepAt { .. } => format!("over {MAX_DEPTH} would be open here"),
+        Refusal::TooManyTerms { .. } => format!("over {MAX_TERMS} would have begun here"),
+        _ => cannot_stand(byte),
+    };
+    let number = refusal.number();
+    format!("{number} at byte {offset}: {}: {why}", status_text(number))
 }
 
 /// How many new cells can be had for a text in a register of a sound store: what the register holds does not
@@ -71,21 +83,21 @@ fn room(store: &Store, register: usize) -> usize {
     without.capacity() - without.top()
 }
 
-/// What is wrong with a code, by the digit at which it is refused: it begins with 0, or grows too large.
-fn no_code(text: &[u8], offset: usize) -> String {
-    let begun = offset > 0 && text[offset - 1].is_ascii_digit();
-    match begun {
+/// What is wrong with a code, by the byte before the digit at which it is refused: it begins with 0, or grows too
+/// large.
+fn no_code(before: Option<u8>) -> String {
+    match before.is_some_and(|byte| byte.is_ascii_digit()) {
         false => format!("a code begins with no 0, and the least is {MIN_CODE}"),
         true => format!("it is over {MAX_CODE}"),
     }
 }
 
 /// What is wrong with a text that is none: a byte of it, or that it has no more.
-fn cannot_stand(byte: Option<&u8>) -> String {
+fn cannot_stand(byte: Option<u8>) -> String {
     match byte {
         None => "the text ends too soon".to_string(),
         Some(b' ') => "no space can stand here".to_string(),
-        Some(&byte @ b'!'..=b'~') => format!("`{}` cannot stand here", char::from(byte)),
+        Some(byte @ b'!'..=b'~') => format!("`{}` cannot stand here", char::from(byte)),
         Some(byte) => format!("the byte {byte} stands in no text"),
     }
 }
@@ -126,6 +138,10 @@ mod tests {
         assert_eq!(
             says(0, &[b'('; 70]),
             "21 at byte 64: brackets are nested too deep: over 64 would be open here"
+        );
+        assert_eq!(
+            says(0, &b"1 ".repeat(70_000)),
+            "24 at byte 131072: too many terms: over 65536 would have begun here"
         );
     }
 

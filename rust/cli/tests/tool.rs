@@ -373,6 +373,69 @@ fn a_text_that_is_refused_leaves_no_dump() {
 }
 
 #[test]
+fn a_text_is_counted() {
+    let file = made("counted.text", "65 (66 67) ()\n");
+    let counted = tool(&[&"count", &file]);
+    ends(&counted, 0, "");
+    assert_eq!(counted.stdout, b"The text needs 5 new cells; its widest level has 3 terms.\n");
+    assert_eq!(fed(b"65 (66 67) ()", &[&"count", &"-"]).stdout, counted.stdout);
+    for (text, said) in [
+        ("", "The text needs 0 new cells; its widest level has 0 terms.\n"),
+        ("7\r\n", "The text needs 1 new cell; its widest level has 1 term.\n"),
+        ("(1 2 3 4) 5", "The text needs 6 new cells; its widest level has 4 terms.\n"),
+    ] {
+        ends(&fed(text.as_bytes(), &[&"count", &"-"]), 0, said);
+    }
+    // As many cells as it takes to type in what was printed.
+    let printed = tool(&[&"print", &tracked("examples/p2.dump"), &"0"]).stdout;
+    let sentence = "The text needs 8 new cells; its widest level has 3 terms.\n";
+    ends(&fed(&printed, &[&"count", &"-"]), 0, sentence);
+    let most = vec!["()"; 65_536].join(" ");
+    let sentence = "The text needs 65536 new cells; its widest level has 65536 terms.\n";
+    ends(&fed(most.as_bytes(), &[&"count", &"-"]), 0, sentence);
+}
+
+#[test]
+fn a_text_that_is_refused_is_not_counted() {
+    // In the first piece, at the border of two, and far behind it.
+    let long = "7 ".repeat(32_768);
+    for (text, sentence) in [
+        ("5 x".to_string(), "23 at byte 2: no text of an expression: `x` cannot stand here\n"),
+        ("(5\n".into(), "23 at byte 2: no text of an expression: the text ends too soon\n"),
+        (
+            "5\n6\n".into(),
+            "23 at byte 1: no text of an expression: the byte 10 stands in no text\n",
+        ),
+        (long.clone() + "x", "23 at byte 65536: no text of an expression: `x` cannot stand here\n"),
+        (long[1..].to_string() + "x", "23 at byte 0: no text of an expression: no space can stand"),
+        (
+            long[..65_530].to_string() + "268435456",
+            "13 at byte 65538: the code is 0 or too large: it is over 268435455\n",
+        ),
+        (
+            long.clone() + "0",
+            "13 at byte 65536: the code is 0 or too large: a code begins with no 0, and the least",
+        ),
+        (
+            long.clone() + &"(".repeat(65),
+            "21 at byte 65600: brackets are nested too deep: over 64 would be open here\n",
+        ),
+        (long.repeat(300), "24 at byte 131072: too many terms: over 65536 would have begun here\n"),
+    ] {
+        let output = fed(text.as_bytes(), &[&"count", &"-"]);
+        ends(&output, 3, &format!("zelmotar-cli: -: {sentence}"));
+        assert!(output.stdout.is_empty());
+        let file = made("refused.text", text);
+        ends(&tool(&[&"count", &file]), 3, &format!("refused.text: {sentence}"));
+    }
+    ends(&tool(&[&"count"]), 2, "count takes one text file, and here are 0");
+    ends(&tool(&[&"count", &"a", &"b"]), 2, "count takes one text file, and here are 2");
+    ends(&tool(&[&"count", &"--top", &"1", &"a"]), 2, "count knows no --top");
+    ends(&tool(&[&"count", &"no-such.text"]), 2, "cannot read no-such.text: no such file");
+    ends(&tool(&[&"count", &tracked("examples")]), 2, "it is a folder");
+}
+
+#[test]
 fn a_text_too_deep_or_too_long_is_refused() {
     let dump = made("deep.dump", "");
     let batch = format!("CAPACITY 200\n{}", "WRAP 0 0\n".repeat(65));

@@ -1,5 +1,5 @@
 //! Random stores, damage, call lists, text spaces, texts and, in [`files`], files. Cells that break a certain
-//! rule are in [`rules`].
+//! rule are in [`rules`], and texts cut into pieces, with what may be kept of them, in [`pieces`].
 //!
 //! Stores are made cell by cell and not by calls, so that they have overlapping runs, dead cells
 //! between live ones and brackets that no call would lay. Small capacities are the most frequent:
@@ -10,6 +10,7 @@
 //! them, or just not.
 
 pub mod files;
+pub mod pieces;
 pub mod rules;
 
 use crate::plain::{

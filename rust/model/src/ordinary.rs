@@ -3,17 +3,20 @@
 //! It is what one writes who may use memory beside the store: marks in a side table, a table of new
 //! addresses and a copy of what is loaded, all kept from call to call so that nothing is allocated
 //! twice. A store chooses how it [checks](Checks) and how it [marks](Marks), and nothing else
-//! differs. There are three: [`Usual`], [`WithBits`] and [`Better`].
+//! differs. There are three: [`Usual`], [`WithBits`] and [`Better`]. A text that is only counted
+//! needs none of them but a [`Counter`].
 //!
 //! Statuses, values and words are those of [`plain`](crate::plain), and of [`files`](crate::files);
 //! tests hold them equal.
 
 mod checks;
+mod counts;
 mod files;
 mod marks;
 mod texts;
 
 pub use checks::{ByBlocks, Checks, OneByOne};
+pub use counts::Counter;
 pub use marks::{BitSet, ByteSet, Linear, Marks, Set, Walk};
 
 use texts::Tree;

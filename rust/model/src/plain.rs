@@ -19,6 +19,8 @@ pub const MAX_CODE: u32 = (1 << 28) - 1;
 pub const BRACKET: u32 = 1 << 31;
 /// The most brackets that may be open at one place of a text.
 pub const MAX_DEPTH: usize = 64;
+/// The most terms of a text, on all levels.
+pub const MAX_TERMS: usize = 1 << 16;
 
 /// What a function of the store answers.
 #[derive(Clone, Copy, Debug, PartialEq, Eq)]
@@ -539,6 +541,8 @@ struct Reading {
     laid: Vec<Cell>,
     /// The own terms of the whole text, then those of each open bracket, the innermost last.
     open: Vec<Vec<Cell>>,
+    /// How many terms have begun, on all levels.
+    begun: usize,
 }
 
 impl Reading {
@@ -567,20 +571,34 @@ impl Reading {
         }
     }
 
+    /// Begins a term with a digit or an opening bracket, or gives the status that refuses it, the first of the
+    /// list that applies.
+    fn begin(&mut self, byte: u8, brackets: usize) -> Result<(), u32> {
+        let applies = [
+            (21, byte == b'(' && brackets == MAX_DEPTH),
+            (24, self.begun == MAX_TERMS),
+            (13, byte == b'0'),
+        ];
+        self.begun += 1;
+        applies.into_iter().find(|&(_, applies)| applies).map_or(Ok(()), |(status, _)| Err(status))
+    }
+
     /// Reads one byte more, or gives the status that refuses it.
     fn take(&mut self, byte: u8) -> Result<(), u32> {
         let ends_a_term = matches!(self.behind, Behind::Digits(_) | Behind::Close);
         // The whole text stands below the brackets.
         let brackets = self.open.len() - 1;
         self.behind = match (byte, self.behind) {
-            (b'0', Behind::Start | Behind::Space) => return Err(13),
-            (b'1'..=b'9', Behind::Start | Behind::Space) => Behind::Digits(u32::from(byte - b'0')),
+            (b'0'..=b'9', Behind::Start | Behind::Space) => {
+                self.begin(byte, brackets)?;
+                Behind::Digits(u32::from(byte - b'0'))
+            }
             (b'0'..=b'9', Behind::Digits(code)) => match code * 10 + u32::from(byte - b'0') {
                 code if is_code(code) => Behind::Digits(code),
                 _ => return Err(13),
             },
-            (b'(', Behind::Start | Behind::Space) if brackets == MAX_DEPTH => return Err(21),
             (b'(', Behind::Start | Behind::Space) => {
+                self.begin(byte, brackets)?;
                 self.open.push(Vec::new());
                 Behind::Start
             }
@@ -605,9 +623,10 @@ impl Reading {
 ///
 /// # Errors
 ///
-/// 13, 21 or 23, with an offset.
+/// 13, 21, 23 or 24, with an offset.
 pub fn read(text: &[u8]) -> Result<(Vec<Cell>, Cell), (u32, usize)> {
-    let mut reading = Reading { behind: Behind::Start, laid: Vec::new(), open: vec![Vec::new()] };
+    let (laid, open) = (Vec::new(), vec![Vec::new()]);
+    let mut reading = Reading { behind: Behind::Start, laid, open, begun: 0 };
     for (offset, &byte) in text.iter().enumerate() {
         reading.take(byte).map_err(|status| (status, offset))?;
     }

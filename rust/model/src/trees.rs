@@ -5,7 +5,9 @@
 //! terms stand once in a [`Pool`] and are written by name: equal names are equal terms. A name says
 //! nothing of where a cell lies.
 //!
-//! A text is read by descent: an expression is terms, a term may be a bracket, and in it is an expression.
+//! A text is read by descent: an expression is terms, a term may be a bracket, and in it is an expression. That
+//! it has too many terms is seen from the places where they begin, and what it takes is counted over the
+//! expression once it is read.
 
 use std::collections::HashMap;
 
@@ -99,8 +101,29 @@ impl Pool {
     ///
     /// # Errors
     ///
-    /// 13, 21 or 23, and the offset at which the text is refused.
+    /// 13, 21, 23 or 24, and the offset at which the text is refused.
     pub fn read(&mut self, text: &[u8]) -> Result<Expression, (u32, usize)> {
+        let read = self.read_any(text);
+        let (status, at) = read.as_ref().err().copied().unwrap_or((0, text.len()));
+        match begun(text).nth(65_536) {
+            // What is refused before it decides, and so does 21 at it.
+            Some(place) if place < at || place == at && status == 13 => Err((24, place)),
+            _ => read,
+        }
+    }
+
+    /// What a text comes to: the number of terms on all levels, and the most on one.
+    ///
+    /// # Errors
+    ///
+    /// As for [`read`](Pool::read).
+    pub fn counted(&mut self, text: &[u8]) -> Result<(usize, usize), (u32, usize)> {
+        let expression = self.read(text)?;
+        Ok((self.all_terms(&expression), self.widest(&expression)))
+    }
+
+    /// The expression of which this is the text, however many terms it has.
+    fn read_any(&mut self, text: &[u8]) -> Result<Expression, (u32, usize)> {
         let mut reader = Reader { pool: self, text, at: 0 };
         let expression = reader.expression(64)?;
         match reader.next() {
@@ -117,6 +140,15 @@ impl Pool {
             Term::Parens(inside) => self.all_terms(inside),
         };
         expression.len() + expression.iter().map(inside).sum::<usize>()
+    }
+
+    /// The most terms that an expression, or one in it, has at its own level.
+    pub fn widest(&self, expression: &[Name]) -> usize {
+        let inside = |&name: &Name| match self.term(name) {
+            Term::Symbol(_) => 0,
+            Term::Parens(inside) => self.widest(inside),
+        };
+        expression.iter().map(inside).max().unwrap_or(0).max(expression.len())
     }
 
     /// Where in an expression's text the first bracket opens with which more than `most` are open.
@@ -143,6 +175,15 @@ impl Pool {
         }
         names[left..=right].to_vec()
     }
+}
+
+/// Where terms begin in a text, as far as it is in order: at each opening bracket, and at each digit that follows
+/// none.
+fn begun(text: &[u8]) -> impl Iterator<Item = usize> + '_ {
+    let digit = |at: usize| text[at].is_ascii_digit();
+    let begins =
+        move |&at: &usize| text[at] == b'(' || digit(at) && !at.checked_sub(1).is_some_and(digit);
+    (0..text.len()).filter(begins)
 }
 
 /// A text that is read by descent, and the offset of its next byte. What is read is a prefix of some text,

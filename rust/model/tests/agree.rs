@@ -1,10 +1,10 @@
 //! The three parts of the model, held against each other and against the rules said word for word.
 
-use zelmotar_model::ordinary::{self, Better, Checks, Marks, Ordinary, Usual, WithBits};
+use zelmotar_model::ordinary::{self, Better, Checks, Counter, Marks, Ordinary, Usual, WithBits};
 use zelmotar_model::plain::{self, Cell, Typed, FIRST_HEAP_CELL};
 use zelmotar_model::random::Random;
 use zelmotar_model::trees::{Live, Name, Pool, Term, Trees};
-use zelmotar_model::{make, make::Runs};
+use zelmotar_model::{make, make::pieces::Cut, make::Runs};
 
 /// Cells reached by the words of the definition: registers first, then whatever lies between the
 /// ends of something reached, until nothing is new.
@@ -429,6 +429,27 @@ fn the_quick_typing_is_the_plain_one() {
     }
 }
 
+/// What the quick counter says of a text that comes in pieces.
+fn quick_count(pieces: &[&[u8]]) -> Result<(usize, usize), (u32, usize)> {
+    let mut counter = Counter::default();
+    pieces.iter().for_each(|piece| counter.feed(piece));
+    counter.end()
+}
+
+#[test]
+fn the_quick_count_is_that_of_trees() {
+    let mut random = Random::of("quick counts");
+    let mut met = [0; 2];
+    for _ in 0..20_000 {
+        let (.., text) = typeable(&mut random);
+        let pieces = random.pick(&Cut::ALL).pieces(&mut random, &text);
+        let counted = Pool::default().counted(&text);
+        assert_eq!(quick_count(&pieces), counted, "{}", String::from_utf8_lossy(&text));
+        met[usize::from(counted.is_ok())] += 1;
+    }
+    assert!(met.iter().all(|&count| count > 2_000), "{met:?}");
+}
+
 #[test]
 fn a_text_is_read_as_the_rules_say() {
     let nest = |brackets| "(".repeat(brackets);
@@ -468,6 +489,80 @@ fn a_text_is_read_as_the_rules_say() {
     assert_eq!(cells[4..], [symbol(1), Cell::Bracket(1, 3), symbol(5), Cell::Empty]);
     assert_eq!(register, Cell::Bracket(4, 7));
     assert_eq!(plain::read(b""), Ok((vec![], Cell::Empty)));
+}
+
+/// A text of so many symbols side by side.
+fn symbols(count: usize) -> String {
+    vec!["1"; count].join(" ")
+}
+
+#[test]
+fn as_many_terms_as_may_be_and_one_more() {
+    const MOST: usize = 65_536;
+    let (open, shut) = ("(".repeat(64), ")".repeat(64));
+    let brackets = vec!["()"; MOST].join(" ");
+    let deep = format!("{open}{}", symbols(MOST - 64));
+    for (text, terms, most) in [
+        (symbols(MOST), MOST, MOST),
+        (brackets.clone(), MOST, MOST),
+        (format!("({})", symbols(MOST - 1)), MOST, MOST - 1),
+        (format!("{deep}{shut}"), MOST, MOST - 64),
+        (format!("1 {open}{shut} {}", symbols(1_000)), 1_065, 1_002),
+        (format!("1 {open}{}{shut} 2", symbols(10)), 76, 10),
+    ] {
+        assert_eq!(plain::read(text.as_bytes()).map(|(cells, _)| cells.len()), Ok(terms));
+        assert_eq!(Pool::default().counted(text.as_bytes()), Ok((terms, most)));
+        assert_eq!(quick_count(&[text.as_bytes()]), Ok((terms, most)));
+    }
+    let long = symbols(MOST) + " ";
+    for (text, status, offset) in [
+        (long.clone(), 23, long.len()),
+        (format!("{long}1"), 24, long.len()),
+        (format!("{long}0"), 24, long.len()),
+        (format!("{long}("), 24, long.len()),
+        (format!("{long}x"), 23, long.len()),
+        (format!("{long} "), 23, long.len()),
+        (format!("{long}1 2 x"), 24, long.len()),
+        (format!("{}268435456", &long[..long.len() - 2]), 13, long.len() + 6),
+        (format!("{brackets} ("), 24, brackets.len() + 1),
+        (format!("{brackets}("), 23, brackets.len()),
+        (format!("{deep} 1"), 24, deep.len() + 1),
+        (format!("{deep} 0"), 24, deep.len() + 1),
+        (format!("{deep} ("), 21, deep.len() + 1),
+        (format!("{deep}) ("), 24, deep.len() + 2),
+    ] {
+        let (text, refused) = (text.as_bytes(), (status, offset));
+        assert_eq!(plain::read(text), Err(refused), "{refused:?}");
+        assert_eq!(Pool::default().counted(text), Err(refused), "{refused:?}");
+        assert_eq!(quick_count(&[text]), Err(refused), "{refused:?}");
+        // Nothing changes, whatever the room is.
+        let mut words = vec![0; 32];
+        let top = plain::fresh(&mut words).top;
+        let (told, before) = (Typed { status, rule: 0, value: offset, top }, words.clone());
+        assert_eq!(plain::type_in(&mut words, top, 0, text), told);
+        assert_eq!(Usual::default().type_in(&mut words, top, 0, text), told);
+        assert_eq!(Better::default().type_in(&mut words, top, 0, text), told);
+        assert_eq!(words, before, "{refused:?}");
+    }
+}
+
+#[test]
+fn long_texts_are_read_alike() {
+    let mut random = Random::of("long texts");
+    let (mut usual, mut met) = (Usual::default(), [0; 25]);
+    let mut words = vec![0; 32];
+    let top = plain::fresh(&mut words).top;
+    for _ in 0..200 {
+        let text = make::pieces::long(&mut random);
+        let read = plain::read(&text).map(|(cells, _)| cells.len());
+        assert_eq!(Pool::default().counted(&text).map(|(terms, _)| terms), read);
+        assert_eq!(quick_count(&[&text]), Pool::default().counted(&text));
+        let (status, value) = read.err().unwrap_or((16, 0));
+        let told = Typed { status, rule: 0, value, top };
+        assert_eq!(usual.type_in(&mut words, top, 0, &text), told);
+        met[status as usize] += 1;
+    }
+    assert!([13, 16, 21, 23, 24].iter().all(|&status| met[status] > 0), "{met:?}");
 }
 
 /// Holds the quick store against the plain one: one batch, collecting alone, check and looks.

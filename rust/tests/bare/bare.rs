@@ -9,7 +9,7 @@
 
 use core::panic::PanicInfo;
 
-use zelmotar::{Answer, Call, Refusal, Rule, Store, Term};
+use zelmotar::{Answer, Call, Counted, Pieces, Refusal, Rule, Store, Term};
 
 #[panic_handler]
 fn panic(_: &PanicInfo) -> ! {
@@ -56,6 +56,13 @@ fn steps() -> i32 {
     match Store::from_parts(words, top).check() {
         Err(Refusal::Damaged { cell: 0, rule: Rule::NotBracket, .. }) => {}
         _ => return 14,
+    }
+    let text = Pieces::new().feed(b"(6").feed(b"5) 7");
+    if text.end() != Ok(Counted { terms: 3, most: 2 }) {
+        return 15;
+    }
+    if text.feed(b" x").feed(b"8").end() != Err(Refusal::NotText { offset: 7 }) {
+        return 16;
     }
     0
 }

@@ -12,9 +12,9 @@ use crate::shrink::{lessened, shrunk};
 /// a rule.
 const LETTERS: [u8; 16] = *b"(0123456789) () ";
 
-/// What goes into the nine functions of the library. The answer space serves as text space too, four
-/// bytes a word, as the space that the store is saved into, and as the file that is loaded into its words.
-/// Those bytes up to the first 255 are the text that is typed in, each for one of [`LETTERS`].
+/// What goes into the nine functions of the library on stores and files. The answer space serves as text space
+/// too, four bytes a word, as the space that the store is saved into, and as the file that is loaded into its
+/// words. Those bytes up to the first 255 are the text that is typed in, each for one of [`LETTERS`].
 #[derive(Clone, Debug)]
 pub struct Case {
     pub words: Vec<u32>,

@@ -2,8 +2,8 @@
 //! refusal, texts printed and typed in, and files.
 
 use zelmotar::{
-    file_bytes, raw, status_text, Answer, Call, Fault, Refusal, Rule, Stopped, Store, Trailer,
-    EDITION, MAX_CALLS, MAX_CELLS, MAX_CODE, MAX_DEPTH, STATUSES,
+    file_bytes, raw, status_text, Answer, Call, Fault, Pieces, Refusal, Rule, Stopped, Store,
+    Trailer, EDITION, MAX_CALLS, MAX_CELLS, MAX_CODE, MAX_DEPTH, MAX_TERMS, STATUSES,
 };
 use zelmotar_model::files;
 use zelmotar_model::make::files::{file, Kind};
@@ -124,9 +124,9 @@ fn every_status_has_its_own_number_name_and_text() {
         }
     }
     let numbers: Vec<u32> = STATUSES.iter().map(|status| status.number).collect();
-    let expected = [0..=5, 10..=16, 20..=23, 30..=35].into_iter().flatten();
+    let expected = [0..=5, 10..=16, 20..=24, 30..=35].into_iter().flatten();
     assert_eq!(numbers, expected.collect::<Vec<u32>>());
-    for number in [6, 9, 17, 19, 24, 29, 36, u32::MAX] {
+    for number in [6, 9, 17, 19, 25, 29, 36, u32::MAX] {
         assert_eq!(status_text(number), "no such status");
     }
 }
@@ -444,7 +444,8 @@ fn the_longest_text_that_shares_nothing() {
 #[test]
 fn every_refusal_of_a_text_by_name() {
     let damaged = Store::from_parts(vec![0; 32], 16);
-    let deep = "(".repeat(MAX_DEPTH + 1);
+    let (deep, long) = ("(".repeat(MAX_DEPTH + 1), "1 ".repeat(MAX_TERMS));
+    let (longer, zero) = (long.clone() + "1", long.clone() + "0");
     let rows = [
         (Store::from_parts(vec![0; 33], 16), 0, "x", Refusal::BadLength, 1),
         (Store::from_parts(vec![0; 32], 17), 0, "x", Refusal::BadTop, 2),
@@ -456,6 +457,9 @@ fn every_refusal_of_a_text_by_name() {
         (fresh(17), 0, &deep, Refusal::TooDeepAt { offset: MAX_DEPTH }, 21),
         (fresh(17), 0, "1 x", Refusal::NotText { offset: 2 }, 23),
         (fresh(17), 0, "(1", Refusal::NotText { offset: 2 }, 23),
+        (fresh(17), 0, &long, Refusal::NotText { offset: 2 * MAX_TERMS }, 23),
+        (fresh(17), 0, &longer, Refusal::TooManyTerms { offset: 2 * MAX_TERMS }, 24),
+        (fresh(17), 0, &zero, Refusal::TooManyTerms { offset: 2 * MAX_TERMS }, 24),
     ];
     for (mut store, register, text, refusal, number) in rows {
         let before = store.clone();
@@ -466,8 +470,14 @@ fn every_refusal_of_a_text_by_name() {
         let (cell, rule, offset) = (refusal.cell(), refusal.rule(), refusal.offset());
         assert_eq!(
             (cell.is_some(), rule.is_some(), offset.is_some()),
-            (number == 3, number == 3, [13, 21, 23].contains(&number))
+            (number == 3, number == 3, [13, 21, 23, 24].contains(&number))
         );
+        if offset.is_some() {
+            // In pieces it is refused alike.
+            let (first, second) = text.split_at(text.len() / 2);
+            let pieces = Pieces::new().feed(first.as_bytes()).feed(second.as_bytes());
+            assert_eq!(pieces.end(), Err(refusal), "{text}");
+        }
         let place = match (cell.zip(rule), offset) {
             (Some((cell, rule)), _) => format!(": cell {cell}: {rule}"),
             (_, Some(offset)) => format!(": byte {offset}"),
@@ -516,10 +526,13 @@ fn the_longest_text_that_there_is_room_for() {
     let other = vec!["()"; MAX_CELLS - 16].join(" ");
     assert_eq!(store.type_str(0, &other), Ok(()));
     assert_eq!(store.print_string(0, usize::MAX), Ok(other));
-    // A text far longer than any store is judged to its end all the same.
-    let long = "7 ".repeat(500_000);
-    assert_eq!(store.type_str(1, &long), Err(Refusal::NotText { offset: 1_000_000 }));
-    assert_eq!(store.type_str(1, &(long + "7")), Err(Refusal::NoRoom));
+    // A text far longer than any store is judged to its end all the same, or up to the first term too many.
+    let long = "7 ".repeat(MAX_TERMS - 1);
+    assert_eq!(store.type_str(1, &long), Err(Refusal::NotText { offset: long.len() }));
+    assert_eq!(store.type_str(1, &(long.clone() + "7")), Err(Refusal::NoRoom));
+    assert_eq!(store.type_str(1, &(long + "7x")), Err(Refusal::NotText { offset: 131_071 }));
+    let longer = "7 ".repeat(500_000);
+    assert_eq!(store.type_str(1, &longer), Err(Refusal::TooManyTerms { offset: 131_072 }));
     assert_eq!(store.type_str(1, &"9".repeat(1_000_000)), Err(Refusal::BadCode { offset: 8 }));
 }
 

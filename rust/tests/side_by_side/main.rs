@@ -10,6 +10,7 @@
 //! - [`batches`]: random stores, sound and damaged, with random lists and answer spaces.
 //! - [`prints`]: random registers, printed into text spaces of every length.
 //! - [`types`]: random texts, typed into stores that have about as much room as they need.
+//! - [`pieces`]: texts that come in pieces, cut at random, and what is kept of them with any numbers in it.
 //! - [`files`]: random stores saved as files, and files of every kind loaded.
 //! - [`zeros`]: code 0, in calls, texts, cells and files.
 //! - [`rules`]: the rule that a damaged cell breaks, as every function tells it.
@@ -31,6 +32,7 @@ mod files;
 mod guarded;
 mod meaning;
 mod pages;
+mod pieces;
 mod prints;
 mod room;
 mod rules;

@@ -27,8 +27,8 @@ const READ_AND_WRITE: c_int = 3;
 const PRIVATE_AND_ANONYMOUS: c_int = 0x22;
 
 /// Bytes on either side that fault, and as many between them that do not: a multiple of every page
-/// size in use.
-const STEP: usize = 65_536;
+/// size in use, and more than the longest text that is lent.
+const STEP: usize = 1 << 19;
 
 /// The words that can be touched.
 const WORDS: usize = STEP / 4;

@@ -16,7 +16,8 @@ pub const BATCH_STATUSES: [u32; 6] = [0, 1, 2, 3, 4, 5];
 /// Every number that a print can be answered with.
 pub const PRINT_STATUSES: [u32; 7] = [0, 1, 2, 3, 20, 21, 22];
 
-/// Every number that a text typed in can be answered with.
+/// Every number that a text typed in can be answered with, but for 24: that is for texts far longer than the
+/// random ones.
 pub const TYPE_STATUSES: [u32; 9] = [0, 1, 2, 3, 13, 16, 20, 21, 23];
 
 /// Every number that a save can be answered with.
@@ -110,6 +111,32 @@ impl Types {
             assert!(count >= least, "{count} texts were answered {status}");
         }
         assert!(self.collected >= least || !statuses.contains(&16), "{} collected", self.collected);
+    }
+}
+
+/// Counts of texts in pieces, by how they are made or cut and by status.
+#[derive(Default)]
+pub struct Texts(BTreeMap<&'static str, BTreeMap<u32, usize>>);
+
+impl Texts {
+    /// Counts one text under a name.
+    pub fn add(&mut self, name: &'static str, status: u32) {
+        *self.0.entry(name).or_default().entry(status).or_default() += 1;
+    }
+
+    /// Prints the counts.
+    pub fn print(&self, name: &str) {
+        let count = self.0.values().flat_map(BTreeMap::values).sum::<usize>();
+        let names = self.0.iter().map(|(name, counts)| format!("; {name}{}", listed(counts)));
+        say(name, &format!("{count} texts in pieces{}", names.collect::<String>()));
+    }
+
+    /// Asserts that texts of a name were answered each of the given statuses so many times.
+    pub fn assert_met(&self, name: &str, statuses: &[u32], least: usize) {
+        for status in statuses {
+            let count = self.0.get(name).and_then(|counts| counts.get(status)).unwrap_or(&0);
+            assert!(*count >= least, "{name}: {count} were answered {status}");
+        }
     }
 }
 

@@ -10,7 +10,6 @@ use mathlib.Core.Bool.{Bool, true, false, _&&_}
 use mathlib.Core.List.{List, [], _∷_}
 use Prim.Native.Nat.{ℕ, suc, _+_, _-_, _*_, _≤_, _<_, max}
 use native.Mathlib.Omega.{arith}
-use native.Mathlib.Nat.{not-suc-le-zero}
 use lib.Dec.{eqb}
 use lib.ListN.{length, getD, set, length-set, length-replicate}
 use lib.Seq.{getD-set-same, getD-set-other}
@@ -21,7 +20,7 @@ use Rattle.meaning.specs.Judge.{Stand, begun, spaced, number, closed, st
 use Rattle.meaning.specs.Lay.{allTerms}
 use Rattle.meaning.specs.Reader.{Reader, reader, moved, isFull, advance, advances, atStart, mayEnd, isWhole}
 use Rattle.meaning.specs.Reader.{Draft, ended, expression, shutOwn, shutAround, takes, read, reads, blank}
-use Rattle.meaning.specs.Pieces.{mostWithin, mostTerms, Count, uncounted, countOf, countText, Pieces, next}
+use Rattle.meaning.specs.Pieces.{mostWithin, mostTerms, countOf, countText, Pieces, next}
 use Rattle.meaning.specs.Pieces.{feed, feeds, fits, fed, noPieces, counted}
 use Rattle.meaning.proofs.Counting.{both-true}
 use Rattle.meaning.proofs.meaning.Terms.{terms-append}

@@ -7,7 +7,7 @@
 -- Assumes nothing.
 use mathlib.Core.Path.{_≡_, refl, sym, ap, _∙_, subst}
 use mathlib.Core.Logic.{_⊎_, inl, inr}
-use mathlib.Core.Bool.{Bool, true, false, cond, false≢true}
+use mathlib.Core.Bool.{Bool, true, false}
 use mathlib.Core.List.{List, [], _∷_, _++_}
 use Prim.Native.Nat.{ℕ}
 use native.Mathlib.Omega.{arith}
@@ -17,7 +17,7 @@ use Rattle.meaning.specs.Reader.{Reader, advance, advances, atStart}
 use Rattle.meaning.specs.Pieces.{Pieces, feed, feeds, fits, fed, noPieces}
 use Rattle.meaning.proofs.reader.Completing.{Going}
 use Rattle.meaning.proofs.reader.Freely.{going-before}
-use Rattle.meaning.proofs.pieces.Fitting.{Fits, fits-yes, yes-fits, fits-going, feed-fits}
+use Rattle.meaning.proofs.pieces.Fitting.{Fits, fits-yes, yes-fits, feed-fits}
 
 pub feeds-append : (xs ys : List ℕ) (p : Pieces) → feeds p (xs ++ ys) ≡ feeds (feeds p xs) ys
 feeds-append [] ys p = refl

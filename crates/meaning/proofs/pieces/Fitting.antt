@@ -2,10 +2,9 @@
 --   each-within, within-each   numbers that are each at most n
 --   Fits, fits-yes, yes-fits   a state that goes on, and its test;  not-fits  one that does not
 --   fits-each                  where all but the counts are in range, they decide
---   fits-going                 it is not stopped
 --   feed-fits                  a byte that is not refused leads to another such
 -- Assumes nothing.
-use mathlib.Core.Path.{_≡_, refl, sym, ap, _∙_, subst}
+use mathlib.Core.Path.{_≡_, refl, _∙_}
 use mathlib.Core.Logic.{_⊎_, inl, inr}
 use mathlib.Core.Bool.{Bool, true, false, false≢true}
 use mathlib.Core.List.{List, [], _∷_}
@@ -19,7 +18,7 @@ use Rattle.meaning.specs.Limits.{depthLimit, termsLimit}
 use Rattle.meaning.specs.Sound.{IsCode}
 use Rattle.meaning.specs.Judge.{Stand, begun, spaced, number, closed, stopped}
 use Rattle.meaning.specs.Judge.{Move, stops, begins, grows, opens, closes, parts, judge}
-use Rattle.meaning.specs.Reader.{Reader, reader, moved, isFull}
+use Rattle.meaning.specs.Reader.{Reader, moved, isFull}
 use Rattle.meaning.specs.Pieces.{Pieces, next, feed, standFits, ahead, eachWithin, fits}
 use Rattle.meaning.proofs.Lists.{lt-or-ge}
 use Rattle.meaning.proofs.Counting.{both-true}
@@ -100,16 +99,6 @@ not-fits p n = go (fits p) refl
     go : (t : Bool) → fits p ≡ t → t ≡ false
     go true e = absurd (n (fits-yes p e))
     go false e = refl
-
-stand-going : (s : Stand) → standFits s ≡ true → Going s
-stand-going begun e = tt
-stand-going spaced e = tt
-stand-going (number a) e = tt
-stand-going closed e = tt
-stand-going (stopped s) e = absurd (false≢true e)
-
-pub fits-going : (p : Pieces) → fits p ≡ true → Going (p .place .stand)
-fits-going p e = stand-going (p .place .stand) (fits-yes p e .stand)
 
 -- ---- a byte
 

@@ -95,7 +95,7 @@ free-before (b ∷ bs) r g = going-byte false b r (r .stand) (free-before bs (mo
 
 -- ---- moves
 
-abbrev pub Goes : Move → Type 0
+abbrev Goes : Move → Type 0
 Goes (stops s) = ⊥
 Goes (begins a) = Unit {0}
 Goes (grows a) = Unit {0}
@@ -104,7 +104,7 @@ Goes closes = Unit {0}
 Goes parts = Unit {0}
 
 -- it begins a term
-abbrev pub Begins : Move → Type 0
+abbrev Begins : Move → Type 0
 Begins (stops s) = ⊥
 Begins (begins a) = Unit {0}
 Begins (grows a) = ⊥
@@ -112,7 +112,7 @@ Begins opens = Unit {0}
 Begins closes = ⊥
 Begins parts = ⊥
 
-pub moved-goes : (m : Move) (r : Reader) → Going (moved m r .stand) → Goes m
+moved-goes : (m : Move) (r : Reader) → Going (moved m r .stand) → Goes m
 moved-goes (stops s) r g = g
 moved-goes (begins a) r g = tt
 moved-goes (grows a) r g = tt
@@ -120,7 +120,7 @@ moved-goes opens r g = tt
 moved-goes closes r g = tt
 moved-goes parts r g = tt
 
-pub begun-more : (m : Move) (r : Reader) → Begins m → moved m r .total ≡ suc (r .total)
+begun-more : (m : Move) (r : Reader) → Begins m → moved m r .total ≡ suc (r .total)
 begun-more (stops s) r h = absurd h
 begun-more (begins a) r h = refl
 begun-more (grows a) r h = absurd h
@@ -177,7 +177,7 @@ full-asked closed depth b = inl refl
 full-asked (stopped s) depth b = inl refl
 
 -- what goes on goes on freely, and so
-pub goes-free : (s : Stand) (depth : ℕ) (full : Bool) (b : ℕ) → Goes (judge s depth full b)
+goes-free : (s : Stand) (depth : ℕ) (full : Bool) (b : ℕ) → Goes (judge s depth full b)
     → judge s depth full b ≡ judge s depth false b
 goes-free s depth false b g = refl
 goes-free s depth true b g = go (full-asked s depth b)
@@ -187,7 +187,7 @@ goes-free s depth true b g = go (full-asked s depth b)
     go (inr (e, h)) = absurd (subst Goes e g)
 
 -- what goes on freely goes on, or begins a term where the text is full
-pub goes-unless : (s : Stand) (depth : ℕ) (full : Bool) (b : ℕ) → Goes (judge s depth false b)
+goes-unless : (s : Stand) (depth : ℕ) (full : Bool) (b : ℕ) → Goes (judge s depth false b)
     → (judge s depth full b ≡ judge s depth false b) ⊎ ((full ≡ true) × Begins (judge s depth false b))
 goes-unless s depth false b g = inl refl
 goes-unless s depth true b g = go (full-asked s depth b)

@@ -1,7 +1,6 @@
 -- `pieces::end` meets its contract. Assumes nothing.
 use mathlib.Core.Path.{refl, sym, ap, _∙_}
 use borrow.Author.Needs.{needs}
-use Rattle.meaning.specs.Judge.{Stand}
 use Rattle.meaning.specs.Reader.{stopStatus, stopVerdict}
 use Rattle.meaning.specs.Pieces.{counted}
 use Rattle.pieces.proofs.end.Statement.{statement}

@@ -8,15 +8,12 @@ use mathlib.Core.Path.{_≡_, refl, sym, ap, ap₂, _∙_, subst}
 use mathlib.Core.Logic.{inl, inr, _≢_}
 use mathlib.Core.Bool.{Bool, true, false, false≢true}
 use mathlib.Core.List.{List, [], _∷_}
-use Prim.Native.Nat.{ℕ, _+_, _≤_, _<_}
-use native.Mathlib.Omega.{arith}
+use Prim.Native.Nat.{ℕ, _≤_, _<_}
 use Rattle.meaning.specs.Limits.{depthLimit, termsLimit}
 use Rattle.meaning.specs.Expr.{Expr}
-use Rattle.meaning.specs.Sound.{capacity, Sound}
-use Rattle.meaning.specs.Reach.{live}
+use Rattle.meaning.specs.Sound.{Sound}
 use Rattle.meaning.specs.Verdicts.{Verdict, only}
 use Rattle.meaning.specs.Lay.{allTerms}
-use Rattle.meaning.specs.Call.{sought}
 use Rattle.meaning.specs.Text.{text, Readable}
 use Rattle.meaning.specs.Reader.{isWhole, stopVerdict, expression, reads, blank}
 use Rattle.meaning.specs.Typed.{typeIn}

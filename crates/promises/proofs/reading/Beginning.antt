@@ -8,7 +8,7 @@
 use mathlib.Core.Path.{_≡_, refl, sym, ap, _∙_, subst}
 use mathlib.Core.Bool.{Bool, true, false, cond, not, _&&_, _||_}
 use mathlib.Core.List.{List, [], _∷_, _++_, append-nil}
-use Prim.Native.Nat.{ℕ, _+_, _≤_, _<_}
+use Prim.Native.Nat.{ℕ, _+_, _<_}
 use native.Mathlib.Omega.{arith}
 use lib.Dec.{eqb}
 use borrow.Author.Tests.{lt-leb, eq-eqb, ne-eqb}
@@ -80,7 +80,7 @@ module _ (p b : ℕ) (r : Reader) (full : Bool) where
   later-begun : After (laterMove (r .depth) b)
   later-begun = later-cases After b refuses (r .depth) close-begun part-begun
 
-  pub begun-byte : (s : Stand) → isDigit p ≡ inNumber s → After (judge s (r .depth) full b)
+  begun-byte : (s : Stand) → isDigit p ≡ inNumber s → After (judge s (r .depth) full b)
   begun-byte begun h = either After (eqb b 41) (λ _. later-begun) (λ _. first-begun h)
   begun-byte spaced h = first-begun h
   begun-byte (number a) h =
@@ -94,7 +94,7 @@ module _ (p b : ℕ) (r : Reader) (full : Bool) where
 -- ---- bytes
 
 -- those that begin in xs are counted, and behind them stands the byte q
-pub begun-free : (xs ys : List ℕ) (p : ℕ) (r : Reader) → isDigit p ≡ inNumber (r .stand)
+begun-free : (xs ys : List ℕ) (p : ℕ) (r : Reader) → isDigit p ≡ inNumber (r .stand)
     → Going (advancesFree r xs .stand)
     → (q : ℕ) × (isDigit q ≡ inNumber (advancesFree r xs .stand))
     × (r .total + begunBehind p (xs ++ ys) ≡ advancesFree r xs .total + begunBehind q ys)

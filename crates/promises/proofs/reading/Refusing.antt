@@ -7,7 +7,7 @@
 use mathlib.Core.Path.{_≡_, refl, sym, ap, ap₂, _∙_, subst}
 use mathlib.Core.Logic.{_⊎_, inl, inr}
 use mathlib.Core.Bool.{true, false, false≢true}
-use mathlib.Core.List.{List, [], _∷_, _++_, append-nil}
+use mathlib.Core.List.{List, [], _∷_, append-nil}
 use Prim.Native.Nat.{ℕ, suc, _≤_, _<_}
 use native.Mathlib.Omega.{arith}
 use lib.ListN.{length, getD, take, drop, take-append-drop}
@@ -20,7 +20,7 @@ use Rattle.meaning.specs.Verdicts.{Verdict, valued}
 use Rattle.meaning.specs.Judge.{Stand, begun, spaced, number, closed, stopped}
 use Rattle.meaning.specs.Judge.{Move, stops, begins, grows, opens, closes, parts, judge}
 use Rattle.meaning.specs.Reader.{Reader, moved, isFull, advance, advances, atStart, isWhole, stopStatus, stopVerdict}
-use Rattle.meaning.specs.Reader.{expression, reads, blank}
+use Rattle.meaning.specs.Reader.{reads, blank}
 use Rattle.meaning.proofs.Lists.{lt-or-ge}
 use Rattle.meaning.proofs.reader.Forth.{text-of-read, reads-place}
 use Rattle.meaning.proofs.reader.Back.{read-back}

@@ -1,4 +1,4 @@
-//! Random cases for the definitions, as a module of antt: stores, calls, answer spaces, text spaces, texts,
+//! Random cases for the definitions, as a module of antt: stores, calls, answer spaces, text spaces, texts, pieces,
 //! files and inputs with what the model makes of them.
 //!
 //! `cases COUNT` writes the module to standard output. The definitions compute each case when the
@@ -7,7 +7,9 @@
 use std::fmt::Write;
 use zelmotar_model::files::{self, Saved};
 use zelmotar_model::make::files::{put_trailer_word, trailer_word, Kind};
+use zelmotar_model::make::pieces::Cut;
 use zelmotar_model::make::{self, Runs};
+use zelmotar_model::pieces::{Counted, State, START};
 use zelmotar_model::plain::{self, Reply, Text, Typed, FIRST_HEAP_CELL};
 use zelmotar_model::random::Random;
 
@@ -36,8 +38,8 @@ use lib.Dec.{eqb, T}
 use Rattle.words.specs.Second.{flag, decode}
 use Rattle.bytes.specs.Decimal.{decimal}
 use Rattle.bytes.specs.Space.{filled}
-use Rattle.meaning.specs.Limits.{firstHeapCell, limit, codeTest, depthLimit, callsLimit, programCells, programBytes}
-use Rattle.meaning.specs.Limits.{edition}
+use Rattle.meaning.specs.Limits.{firstHeapCell, limit, codeTest, depthLimit, termsLimit, callsLimit, programCells}
+use Rattle.meaning.specs.Limits.{programBytes, edition}
 use Rattle.meaning.specs.Sound.{at}
 use Rattle.meaning.specs.Meaning.{meaning}
 use Rattle.meaning.specs.Reach.{reached, live}
@@ -54,10 +56,12 @@ use Rattle.meaning.specs.Call.{keeps, sought, planOf, lacks, roomWords, roomTop
 use Rattle.meaning.specs.Call.{stepAfter, step}
 use Rattle.meaning.specs.Batch.{Outcome, ended, callsTest, batchOf, batch}
 use Rattle.meaning.specs.Text.{Printed, leftAfter, tooDeep, printed, printIn}
+use Rattle.meaning.specs.Judge.{Stand, begun, spaced, number, closed, stopped}
 use Rattle.meaning.specs.Judge.{isDigit, withDigit, firstMove, laterMove, moreMove}
-use Rattle.meaning.specs.Reader.{atStart, isWhole, stopVerdict, read, blank}
+use Rattle.meaning.specs.Reader.{Reader, reader, isFull, atStart, isWhole, stopVerdict, read, blank}
 use Rattle.meaning.specs.Lay.{newCells}
 use Rattle.meaning.specs.Typed.{typedOf, typeIn}
+use Rattle.meaning.specs.Pieces.{Count, Pieces, feed, fits, fed, fedAll, counted}
 use Rattle.meaning.specs.File.{Saved, firstOf, fileWords, fileOf, trailer, cellsIn, image, distanceTest}
 use Rattle.meaning.specs.File.{capacityTest, checkStore, checkAs, checkFile, loadIn, savedAs, saveIn}
 use Rattle.meaning.specs.Program.{written, refusal, output, inputFault, program}
@@ -70,6 +74,7 @@ data Case : Type 0 where
   looks : List ℕ → ℕ → ℕ → ℕ → ℕ → Case
   prints : List ℕ → ℕ → ℕ → ℕ → Verdict → ℕ → List ℕ → Case
   types : List ℕ → ℕ → ℕ → List ℕ → Verdict → List ℕ → ℕ → Case
+  feeds : Pieces → List (List ℕ) → Pieces → Verdict → ℕ → ℕ → Case
   saves : List ℕ → ℕ → ℕ → Verdict → ℕ → List ℕ → ℕ → List ℕ → Case
   loads : List ℕ → List ℕ → Verdict → List ℕ → ℕ → Case
   writes : List ℕ → List ℕ → Case
@@ -91,6 +96,30 @@ span s from to = eqb (s .from) from && eqb (s .to) to
 textual : Printed → Verdict → ℕ → List ℕ → Bool
 textual p v n t = verdictTest (p .verdict) v && eqb (p .size) n && same (p .space) t
 
+-- where the reader stands, the offset, the brackets, the terms, those of the level, the most, and the counts
+pieces : Stand → ℕ → ℕ → ℕ → ℕ → ℕ → List ℕ → Pieces
+pieces s n d t o m w = record { place = reader s n d t; own = o; most = m; waiting = w }
+
+-- a stand as two numbers
+stands : Stand → List ℕ
+stands begun = 0 ∷ []
+stands spaced = 1 ∷ []
+stands (number a) = 2 ∷ a ∷ []
+stands closed = 3 ∷ []
+stands (stopped s) = 4 ∷ s ∷ []
+
+places : Reader → List ℕ
+places r = r .offset ∷ r .depth ∷ r .total ∷ stands (r .stand)
+
+parts : Pieces → List ℕ
+parts p = p .own ∷ p .most ∷ places (p .place)
+
+state : Pieces → Pieces → Bool
+state p q = same (parts p) (parts q) && same (p .waiting) (q .waiting)
+
+tally : Count → Verdict → ℕ → ℕ → Bool
+tally c v n m = verdictTest (c .verdict) v && eqb (c .need) n && eqb (c .most) m
+
 filed : Saved → Verdict → ℕ → List ℕ → ℕ → List ℕ → Bool
 filed r v n ws top bs =
     verdictTest (r .verdict) v && eqb (r .size) n && same (r .words) ws && eqb (r .top) top && same (r .space) bs
@@ -103,6 +132,7 @@ right (makes ws s ws′ top′) = left (freshIn firstHeapCell ws) (told s 0 0) w
 right (looks ws top i from to) = span (lookSpan firstHeapCell ws top i) from to
 right (prints ws top i n v m t) = textual (printIn firstHeapCell ws top i n) v m t
 right (types ws top d bs v ws′ top′) = left (typeIn firstHeapCell ws top d bs) v ws′ top′
+right (feeds p ps q v n m) = state (fedAll p ps) q && tally (counted (fedAll p ps)) v n m
 right (saves ws top n v m ws′ top′ bs) = filed (saveIn edition firstHeapCell ws top n) v m ws′ top′ bs
 right (loads bs ws v ws′ top′) = left (loadIn bs ws) v ws′ top′
 right (writes input said) = same (program firstHeapCell input) said
@@ -114,15 +144,15 @@ every (c ∷ cs) = right c && every cs
 
 /// The definitions that the cases unfold.
 const UNFOLDING: &str = "\
-unfolding limit codeTest callsLimit programCells programBytes at reached live newAddress collectedOf collected decode
+unfolding limit codeTest termsLimit callsLimit programCells programBytes at reached live newAddress collectedOf collected decode
     flag bracketRule belowRule brokenRule cellTest lengthTest topTest verdictAt check fresh freshIn collectIn spanOf
     lookSpan ops opAt uses wrong11 wrong12 wrong13 fault put copy share head rest openTerm openFirst codeTerm
     codeFirst newSymbol newBracket newRunOf newRun names isOperand keeps sought planOf lacks roomWords roomTop
     withRoom carryOut perform stepAfter step ended callsTest batchOf batch decimal written refusal output inputFault
     program depthLimit meaning leftAfter tooDeep filled printed printIn isDigit withDigit firstMove laterMove moreMove
-    atStart isWhole stopVerdict read blank newCells typedOf typeIn firstOf fileWords fileOf trailer cellsIn image
+    isFull atStart isWhole stopVerdict read blank newCells typedOf typeIn feed fits fed counted firstOf fileWords fileOf trailer cellsIn image
     distanceTest capacityTest checkStore checkAs checkFile loadIn savedAs saveIn verdictTest told outcome left span
-    textual filed right every";
+    textual pieces stands places parts state tally filed right every";
 
 /// A list of numbers in antt.
 fn list<T: std::fmt::Display>(numbers: &[T]) -> String {
@@ -266,6 +296,35 @@ fn typed(random: &mut Random) -> String {
     format!("types {lent} {} {} {top}", told(status, value, rule), list(&words))
 }
 
+/// What is kept of a text in pieces, as the definitions have it.
+fn state(state: &State) -> String {
+    let State { stand, code, offset, depth, terms, own, most, counts } = state;
+    let stand = match stand {
+        0 => "begun".into(),
+        1 => "spaced".into(),
+        2 => format!("(number {code})"),
+        3 => "closed".into(),
+        13 | 21 | 24 => format!("(stopped {stand})"),
+        _ => "(stopped 23)".into(),
+    };
+    format!("(pieces {stand} {offset} {depth} {terms} {own} {most} {})", list(counts))
+}
+
+/// Pieces fed to a state, the first one, one that a text left, or one with any numbers.
+fn pieces(random: &mut Random) -> String {
+    let (before, text) = match random.below(4) {
+        0..=1 => (START, text(random)),
+        2 => (make::pieces::met(random), make::pieces::letters(random, 12)),
+        _ => (make::pieces::state(random), make::pieces::letters(random, 12)),
+    };
+    let pieces = random.pick(&Cut::ALL).pieces(random, &text);
+    let after = pieces.iter().fold(before, |state, piece| state.feed(piece));
+    let fed: String = pieces.iter().map(|piece| list(piece) + " ∷ ").collect();
+    let Counted { status, value, terms, most } = after.end();
+    let told = told(status, value, 0);
+    format!("feeds {} ({fed}[]) {} {told} {terms} {most}", state(&before), state(&after))
+}
+
 /// A store saved.
 fn saved(random: &mut Random) -> String {
     let (mut words, top) = store(random);
@@ -348,7 +407,7 @@ fn program(random: &mut Random) -> String {
 
 /// One case of any kind, batches more often than not.
 fn case(random: &mut Random) -> String {
-    match random.below(18) {
+    match random.below(20) {
         0..=4 => batch(random),
         5..=6 => collection(random),
         7 => fresh(random),
@@ -357,6 +416,7 @@ fn case(random: &mut Random) -> String {
         12..=15 => typed(random),
         16 if random.one_in(3) => saved(random),
         16 => loaded(random),
+        17..=18 => pieces(random),
         _ => program(random),
     }
 }

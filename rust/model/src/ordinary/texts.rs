@@ -2,7 +2,7 @@
 //! digits at a time. What is read becomes a tree, which is laid once there is room for it.
 
 use super::{ends, on, pair, set, EMPTY};
-use crate::plain::{MAX_CODE, MAX_DEPTH, MIN_CODE};
+use crate::plain::{MAX_CODE, MAX_DEPTH, MAX_TERMS, MIN_CODE};
 
 /// The numbers 00 to 99, side by side.
 const PAIRS: [[u8; 2]; 100] = {
@@ -151,11 +151,12 @@ impl Tree {
         loop {
             let this = self.0.len();
             match eye.byte() {
+                b'(' if open == MAX_DEPTH => return Err(21),
+                b'0'..=b'9' | b'(' if this == MAX_TERMS => return Err(24),
                 b'0'..=b'9' => {
                     let code = eye.code()?;
                     self.0.push(Node { cell: [code, 0], next: this as u32 + 1 });
                 }
-                b'(' if open == MAX_DEPTH => return Err(21),
                 b'(' => {
                     eye.at += 1;
                     self.0.push(Node { cell: EMPTY, next: 0 });

@@ -3,7 +3,6 @@ use mathlib.Core.Path.{_≡_, refl, sym, _∙_}
 use Prim.Native.Nat.{_-_, _≤_}
 use native.Mathlib.Omega.{arith}
 use lib.ListN.{take, drop}
-use borrow.Author.Needs.{needs}
 use Rattle.meaning.specs.Limits.{depthLimit}
 use Rattle.meaning.specs.Pieces.{eachWithin}
 use Rattle.pieces.proofs.Looking.{each-end, each-stop, each-turn}
