@@ -13,15 +13,20 @@ use Rattle.meaning.specs.Pieces as said-pieces
 use Rattle.meaning.specs.Pieces.{Count, feeds, fits, noPieces, counted}
 use Rattle.reader.specs.Readers.{faultOf, standOf}
 use Rattle.reader.specs.declared.judging.Fault.{Fault}
+use Rattle.reader.specs.declared.judging.Fault.the-variants as fault
 use Rattle.reader.specs.declared.judging.Stand.{Stand}
 use Rattle.pieces.specs.declared.Counted.{Counted}
 use Rattle.pieces.specs.declared.Pieces.{Pieces}
 
 -- ---- where the reader stands, as a number
 
--- the refusals have their own numbers, and any other number is 23
+-- the number of f if n is that, and else m
+abbrev pub orElse : ℕ → Fault → ℕ → ℕ
+orElse n f m = cond (eqb n (faultOf f)) (faultOf f) m
+
+-- the refusals have their own numbers, and any other number is that of bytes that are no text
 abbrev pub refusalFrom : ℕ → ℕ
-refusalFrom n = cond (eqb n 13) 13 (cond (eqb n 21) 21 (cond (eqb n 24) 24 23))
+refusalFrom n = orElse n fault.NoCode (orElse n fault.TooDeep (orElse n fault.TooMany (faultOf fault.NotText)))
 
 -- with the number so far, a
 abbrev pub standFrom : ℕ → ℕ → said.Stand

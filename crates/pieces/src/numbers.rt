@@ -17,13 +17,13 @@ pub const CLOSED: u32 = 3;
 fn refused(number: u32) -> Fault
     ensures { λ r. ⌜ Refuses number r ⌝ }
 {
-    if number == 13 {
+    if number == fault_number(Fault::NoCode) {
         return Fault::NoCode;
     }
-    if number == 21 {
+    if number == fault_number(Fault::TooDeep) {
         return Fault::TooDeep;
     }
-    if number == 24 {
+    if number == fault_number(Fault::TooMany) {
         return Fault::TooMany;
     }
     Fault::NotText
