@@ -1,6 +1,6 @@
 -- The claims that a statement of this crate leaves no second outcome (SCOPE 8.5): the reply, and
--- every word and byte of the slices lent. Proved in proofs/Final.antt. What a text in pieces gives is handed on as it is,
--- by the same promises: its claims are those of crate `pieces`.
+-- every word and byte of the slices lent. Proved in proofs/Final.antt. What a text in pieces gives is handed on as it
+-- is, by the same promises: its claims are those of crate `pieces`.
 -- Assumes nothing.
 use mathlib.Core.Path.{_≡_}
 use mathlib.Core.List.{List}

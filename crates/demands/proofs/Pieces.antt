@@ -7,7 +7,7 @@
 --   pieces-then-type             a text counted, and typed in
 -- Assumes nothing.
 use mathlib.Core.Path.{_≡_, refl, sym, ap, _∙_, subst}
-use mathlib.Core.Logic.{inl, inr, _≢_}
+use mathlib.Core.Logic.{inl, inr}
 use mathlib.Core.Bool.{Bool, true, false, cond, _&&_}
 use mathlib.Core.List.{List, [], _∷_, _++_}
 use Prim.Native.Nat.{ℕ}
@@ -19,6 +19,7 @@ use Rattle.meaning.specs.Reader.{atStart, isWhole, stopStatus, stopVerdict}
 use Rattle.meaning.specs.Pieces as said
 use Rattle.meaning.specs.Pieces.{Count, counts, uncounted, countText, feeds, fits, fed, fedAll, noPieces, counted}
 use Rattle.meaning.proofs.Counting.{both-true}
+use Rattle.meaning.proofs.reader.Leftmost.{StopNumber}
 use Rattle.meaning.proofs.pieces.Fitting.{fits-yes}
 use Rattle.meaning.proofs.pieces.Cutting.{fed-fits, fed-unfit}
 use Rattle.meaning.proofs.pieces.Agreeing.{whole-counted}
@@ -27,9 +28,11 @@ use Rattle.pieces.specs.States.{stateOf, structOf, countIs, Starts, Feeds, Ends
 use Rattle.pieces.specs.declared.Counted.{Counted}
 use Rattle.pieces.specs.declared.Pieces.{Pieces}
 use Rattle.pieces.proofs.Final.{one-end}
-use Rattle.pieces.proofs.Numbered.{Refusal, Numbered, from-numbered, back}
+use Rattle.pieces.proofs.Numbered.{Numbered, from-numbered, back}
 use Rattle.promises.specs.Table.{OneOf}
 use Rattle.promises.specs.Pieces.{joined, CountTable, Told}
+use Rattle.promises.proofs.typing.Typing.{stop-away}
+use Rattle.promises.proofs.pieces.Whole.{stop-listed}
 use Rattle.promises.proofs.pieces.Cutting.{start-joined}
 use Rattle.promises.proofs.Final.{count-answers, fed-append, refused-stays, count-tells}
 use Rattle.demands.specs.Pieces.{FedBy, none, more, PiecesCount, PiecesAlike, RefusedForGood, EndTable, EndMeets}
@@ -137,24 +140,12 @@ refused-for-good s r t ps x h k n f =
 
 -- ---- the end of any struct
 
-refusal-listed : (n : ℕ) → Refusal n → OneOf n (0 ∷ 13 ∷ 21 ∷ 23 ∷ 24 ∷ [])
-refusal-listed n (inl e) = inr (inl e)
-refusal-listed n (inr (inl e)) = inr (inr (inl e))
-refusal-listed n (inr (inr (inl e))) = inr (inr (inr (inr (inl e))))
-refusal-listed n (inr (inr (inr e))) = inr (inr (inr (inl e)))
-
-refusal-not : (n : ℕ) → Refusal n → n ≢ 0
-refusal-not n (inl e) z = omega (arith, e, z)
-refusal-not n (inr (inl e)) z = omega (arith, e, z)
-refusal-not n (inr (inr (inl e))) z = omega (arith, e, z)
-refusal-not n (inr (inr (inr e))) z = omega (arith, e, z)
-
-stop-refusal : (s : Stand) → Numbered s → Refusal (stopStatus s)
-stop-refusal begun h = inr (inr (inr refl))
-stop-refusal spaced h = inr (inr (inr refl))
-stop-refusal (number a) h = inr (inr (inr refl))
-stop-refusal closed h = inr (inr (inr refl))
-stop-refusal (stopped n) h = h
+stop-number : (s : Stand) → Numbered s → StopNumber (stopStatus s)
+stop-number begun h = inr (inr (inl refl))
+stop-number spaced h = inr (inr (inl refl))
+stop-number (number a) h = inr (inr (inl refl))
+stop-number closed h = inr (inr (inl refl))
+stop-number (stopped n) h = h
 
 module _ (s : Pieces) (c : Counted) where
   abbrev p : said.Pieces
@@ -177,13 +168,13 @@ module _ (s : Pieces) (c : Counted) where
   end-refused : countIs c ≡ uncounted (stopVerdict (p .place)) → EndTable s c
   unfolding stopVerdict
   end-refused e =
-      let q = stop-refusal (p .place .stand) (from-numbered (s .stand) (s .code)) in
+      let q = stop-number (p .place .stand) (from-numbered (s .stand) (s .code)) in
       let z : c .status ≡ stopStatus (p .place .stand) = ap (λ (x : Count). x .verdict .status) e in
       let t : c .terms ≡ 0 = ap (λ (x : Count). x .need) e in
       let m : c .most ≡ 0 = ap (λ (x : Count). x .most) e in
       record {
-        number = subst (λ (n : ℕ). OneOf n (0 ∷ 13 ∷ 21 ∷ 23 ∷ 24 ∷ [])) (sym z) (refusal-listed _ q);
-        done = λ y. absurd (refusal-not _ q (sym z ∙ y));
+        number = subst (λ (n : ℕ). OneOf n (0 ∷ 13 ∷ 21 ∷ 23 ∷ 24 ∷ [])) (sym z) (stop-listed _ q);
+        done = λ y. absurd (stop-away _ q .0 (sym z ∙ y));
         within = (omega (arith, t, m), omega (arith, t));
         refused = λ _. (ap (λ (x : Count). x .verdict .value) e, t, m);
       }

@@ -1,8 +1,8 @@
 -- What a caller knows once a public function is back: what its contract promises, over plain lists. `Asked` and
 -- `Learnt` are what Rattle reads off the contract in the lib.rt of `store`, `collect`, `calls`, `text`, `typing`,
--- `pieces` or `file`: what a caller must show, and what it may use. Each claim says that nothing is asked, and that this
--- is learnt, whatever the lifetimes κs are. ws and top are lent, r is returned, v are the words that are left. Assumes
--- nothing.
+-- `pieces` or `file`: what a caller must show, and what it may use. Each claim says that nothing is asked, and that
+-- this is learnt, whatever the lifetimes κs are. ws and top are lent, r is returned, v are the words that are left.
+-- Assumes nothing.
 use mathlib.Core.List.{List}
 use Prim.Native.Nat.{ℕ}
 use denote.Ref.{RefT, now}

@@ -1,6 +1,6 @@
 -- Files to try (SCOPE 7.1, S1 to S8 and L1 to L13), as one table with one test of a row. The rows are of edition e,
 -- for a heap that begins at cell F. Assumes nothing.
-use mathlib.Core.Bool.{Bool, true, _&&_}
+use mathlib.Core.Bool.{Bool, _&&_}
 use mathlib.Core.List.{List, [], _∷_, _++_}
 use Prim.Native.Nat.{ℕ, _+_, _-_, _*_}
 use lib.Dec.{eqb, T}
@@ -11,7 +11,7 @@ use Rattle.meaning.specs.Limits.{limit}
 use Rattle.meaning.specs.Verdicts.{Verdict, only, damagedAt, Done}
 use Rattle.meaning.specs.Fresh.{fresh, emptyRegisters}
 use Rattle.meaning.specs.File.{Saved, loadIn, saveIn}
-use Rattle.meaning.specs.Rows.{same, verdictTest, p2, p3, lone}
+use Rattle.meaning.specs.Rows.{every, same, verdictTest, p2, p3, lone}
 
 -- A store, `top` and the length of the space, then: the verdict, length of the file, store, `top` and space. Or a
 -- file and the slice lent for it, then: the verdict, `top` and the slice.
@@ -29,10 +29,6 @@ loadTest r v top ws = verdictTest (r .verdict) v && eqb (r .top) top && same (r 
 unfoldable pub fileRowTest : ℕ → ℕ → FileRow → Bool
 fileRowTest e F (saves ws top n v m ws′ top′ space) = saveTest (saveIn e F ws top n) v m ws′ top′ space
 fileRowTest e F (loads bs ws v top ws′) = loadTest (loadIn bs ws) v top ws′
-
-abbrev pub everyFile : (FileRow → Bool) → List FileRow → Bool
-everyFile f [] = true
-everyFile f (r ∷ rs) = f r && everyFile f rs
 
 -- n words or bytes of no meaning
 unfoldable pub junk : ℕ → List ℕ
@@ -134,4 +130,4 @@ loadingRows e F =
 
 -- every row holds
 abbrev pub FileRowsRight : ℕ → ℕ → Type 0
-FileRowsRight e F = T (everyFile (fileRowTest e F) (savingRows e F ++ loadingRows e F))
+FileRowsRight e F = T (every (fileRowTest e F) (savingRows e F ++ loadingRows e F))

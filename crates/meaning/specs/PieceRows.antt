@@ -1,5 +1,5 @@
 -- Texts in pieces to try (SCOPE 7.1, C1 to C12), as one table with one test of a row. Assumes nothing.
-use mathlib.Core.Bool.{Bool, true, _&&_}
+use mathlib.Core.Bool.{Bool, _&&_}
 use mathlib.Core.List.{List, [], _∷_}
 use Prim.Native.Nat.{ℕ}
 use lib.Dec.{eqb, T}
@@ -8,7 +8,7 @@ use Rattle.meaning.specs.Verdicts.{Verdict, valued, only}
 use Rattle.meaning.specs.Judge.{Stand, begun, spaced, number, closed}
 use Rattle.meaning.specs.Reader.{reader}
 use Rattle.meaning.specs.Pieces.{Count, Pieces, fedAll, noPieces, counted}
-use Rattle.meaning.specs.Rows.{verdictTest}
+use Rattle.meaning.specs.Rows.{every, verdictTest}
 use Rattle.meaning.specs.TextRows.{t1, t11}
 
 -- a state and the pieces that are fed to it, then what the end gives: the verdict, the terms on all levels, the most of
@@ -21,10 +21,6 @@ countTest c v n m = verdictTest (c .verdict) v && eqb (c .need) n && eqb (c .mos
 
 unfoldable pub pieceRowTest : PieceRow → Bool
 pieceRowTest (ends p ps v n m) = countTest (counted (fedAll p ps)) v n m
-
-abbrev pub everyPiece : (PieceRow → Bool) → List PieceRow → Bool
-everyPiece f [] = true
-everyPiece f (r ∷ rs) = f r && everyPiece f rs
 
 -- a text from its start
 unfoldable pub text : List (List ℕ) → Verdict → ℕ → ℕ → PieceRow
@@ -103,4 +99,4 @@ pieceRows =
     []
 
 abbrev pub PieceRowsRight : Type 0
-PieceRowsRight = T (everyPiece pieceRowTest pieceRows)
+PieceRowsRight = T (every pieceRowTest pieceRows)

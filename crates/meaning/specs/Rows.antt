@@ -43,7 +43,7 @@ rowTest F (collectsTo ws top n ws′ top′) = doneTest (collectIn F ws top) n w
 rowTest F (checksTo ws top v) = verdictTest (check F ws top) v
 rowTest F (writes input output) = same (program F input) output
 
-abbrev pub every : (Row → Bool) → List Row → Bool
+abbrev pub every : {A : Type 0} → (A → Bool) → List A → Bool
 every f [] = true
 every f (r ∷ rs) = f r && every f rs
 

@@ -1,6 +1,6 @@
 -- Texts to try (SCOPE 7.1, T1 to T27), as one table with one test of a row. The rows are for a heap that begins at
 -- cell F. Assumes nothing.
-use mathlib.Core.Bool.{Bool, true, _&&_}
+use mathlib.Core.Bool.{Bool, _&&_}
 use mathlib.Core.List.{List, [], _∷_, _++_}
 use Prim.Native.Nat.{ℕ, zero, suc, _+_, _-_}
 use lib.Dec.{eqb, T}
@@ -10,7 +10,7 @@ use Rattle.meaning.specs.Verdicts.{Verdict, valued, only, damagedAt, Don
 use Rattle.meaning.specs.Fresh.{fresh, emptyRegisters}
 use Rattle.meaning.specs.Text.{Printed, printIn}
 use Rattle.meaning.specs.Typed.{typeIn}
-use Rattle.meaning.specs.Rows.{same, verdictTest, p6, lone}
+use Rattle.meaning.specs.Rows.{every, same, verdictTest, p6, lone}
 
 -- A store, `top`, a register and the length of the text space, then: the verdict, the length and the space. Or a store,
 -- `top`, a register and a text, then: the verdict, the store and `top`.
@@ -27,10 +27,6 @@ typeTest r v ws top = verdictTest (r .verdict) v && same (r .words) ws && eqb (r
 unfoldable pub textRowTest : ℕ → TextRow → Bool
 textRowTest F (prints ws top i n v m t) = printTest (printIn F ws top i n) v m t
 textRowTest F (types ws top d bs v ws′ top′) = typeTest (typeIn F ws top d bs) v ws′ top′
-
-abbrev pub everyText : (TextRow → Bool) → List TextRow → Bool
-everyText f [] = true
-everyText f (r ∷ rs) = f r && everyText f rs
 
 -- `65 (66 67) ()`, and a store with it in register 1
 unfoldable pub t1 : List ℕ
@@ -183,4 +179,4 @@ textRows F =
 
 -- every row holds
 abbrev pub TextRowsRight : ℕ → Type 0
-TextRowsRight F = T (everyText (textRowTest F) (textRows F))
+TextRowsRight F = T (every (textRowTest F) (textRows F))

@@ -5,7 +5,7 @@
 --   back                      so the struct of what they lead to gives it back
 -- Assumes nothing.
 use mathlib.Core.Path.{_≡_, refl, ap, subst}
-use mathlib.Core.Logic.{_⊎_, inl, inr}
+use mathlib.Core.Logic.{inl, inr}
 use mathlib.Core.Bool.{Bool, true, false, cond}
 use mathlib.Core.List.{List, [], _∷_}
 use Prim.Native.Nat.{ℕ}
@@ -16,22 +16,18 @@ use Rattle.meaning.specs.Reader.{Reader, reader, isFull, moved}
 use Rattle.meaning.specs.Pieces as said
 use Rattle.meaning.specs.Pieces.{feed, feeds}
 use Rattle.meaning.proofs.reader.Moves.{stops-once}
-use Rattle.meaning.proofs.reader.Leftmost.{Why, overDepth, overTerms, zeroFirst, overCode, noMove, why}
+use Rattle.meaning.proofs.reader.Leftmost.{StopNumber, why, why-number}
 use Rattle.pieces.specs.States.{refusalFrom, standFrom, numberOf, codeOf, stateOf, structOf}
 use Rattle.pieces.specs.declared.Pieces.{Pieces}
-
--- the four numbers of a text's refusal
-abbrev pub Refusal : ℕ → Type 0
-Refusal n = (n ≡ 13) ⊎ ((n ≡ 21) ⊎ ((n ≡ 24) ⊎ (n ≡ 23)))
 
 abbrev pub Numbered : Stand → Type 0
 Numbered begun = Unit {0}
 Numbered spaced = Unit {0}
 Numbered (number a) = Unit {0}
 Numbered closed = Unit {0}
-Numbered (stopped n) = Refusal n
+Numbered (stopped n) = StopNumber n
 
-refusal-back : (n : ℕ) → Refusal n → standFrom n 0 ≡ stopped n
+refusal-back : (n : ℕ) → StopNumber n → standFrom n 0 ≡ stopped n
 refusal-back n (inl e) = rw e refl
 refusal-back n (inr (inl e)) = rw e refl
 refusal-back n (inr (inr (inl e))) = rw e refl
@@ -44,14 +40,14 @@ numbered-back (number a) h = refl
 numbered-back closed h = refl
 numbered-back (stopped n) h = refusal-back n h
 
-refusal-from : (n : ℕ) → Refusal (refusalFrom n)
+refusal-from : (n : ℕ) → StopNumber (refusalFrom n)
 refusal-from n = go (eqb n 13) (eqb n 21) (eqb n 24)
   where
-    go : (a b c : Bool) → Refusal (cond a 13 (cond b 21 (cond c 24 23)))
+    go : (a b c : Bool) → StopNumber (cond a 13 (cond b 21 (cond c 24 23)))
     go true b c = inl refl
     go false true c = inr (inl refl)
-    go false false true = inr (inr (inl refl))
-    go false false false = inr (inr (inr refl))
+    go false false true = inr (inr (inr refl))
+    go false false false = inr (inr (inl refl))
 
 pub from-numbered : (n a : ℕ) → Numbered (standFrom n a)
 from-numbered n a = go (eqb n 0) (eqb n 1) (eqb n 2) (eqb n 3)
@@ -66,14 +62,7 @@ from-numbered n a = go (eqb n 0) (eqb n 1) (eqb n 2) (eqb n 3)
 
 -- ---- bytes
 
-why-number : (s : Stand) (depth : ℕ) (full : Bool) (b t : ℕ) → Why s depth full b t → Refusal t
-why-number s depth full b t (overDepth r e h) = inr (inl refl)
-why-number s depth full b t (overTerms r o f) = inr (inr (inl refl))
-why-number s depth full b t (zeroFirst r e f) = inl refl
-why-number s depth full b t (overCode a e d f) = inl refl
-why-number s depth full b t noMove = inr (inr (inr refl))
-
-moved-numbered : (m : Move) (r : Reader) → ((t : ℕ) → m ≡ stops t → Refusal t) → Numbered (moved m r .stand)
+moved-numbered : (m : Move) (r : Reader) → ((t : ℕ) → m ≡ stops t → StopNumber t) → Numbered (moved m r .stand)
 moved-numbered (stops t) r f = f t refl
 moved-numbered (begins a) r f = tt
 moved-numbered (grows a) r f = tt
@@ -82,12 +71,12 @@ moved-numbered closes r f = tt
 moved-numbered parts r f = tt
 
 judge-numbered : (s : Stand) (depth : ℕ) (full : Bool) (b t : ℕ) → Numbered s → judge s depth full b ≡ stops t
-    → Refusal t
+    → StopNumber t
 judge-numbered begun depth full b t h e = why-number begun depth full b t (why begun depth full b t tt e)
 judge-numbered spaced depth full b t h e = why-number spaced depth full b t (why spaced depth full b t tt e)
 judge-numbered (number a) depth full b t h e = why-number (number a) depth full b t (why (number a) depth full b t tt e)
 judge-numbered closed depth full b t h e = why-number closed depth full b t (why closed depth full b t tt e)
-judge-numbered (stopped s) depth full b t h e = subst Refusal (stops-once s t e) h
+judge-numbered (stopped s) depth full b t h e = subst StopNumber (stops-once s t e) h
 
 feeds-numbered : (bs : List ℕ) (p : said.Pieces) → Numbered (p .place .stand) → Numbered (feeds p bs .place .stand)
 unfolding feed

@@ -53,9 +53,6 @@ codeOf closed = 0
 codeOf (stopped s) = 0
 
 -- the code's own stands, whatever number they keep
-abbrev pub Refuses : ℕ → Fault → Type 0
-Refuses n f = faultOf f ≡ refusalFrom n
-
 abbrev pub StandsFor : ℕ → Stand → Type 0
 StandsFor n s = (a : ℕ) → standOf s a ≡ standFrom n a
 

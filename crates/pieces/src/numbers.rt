@@ -1,6 +1,7 @@
 // Where the reader stands, as a number: 0 to 3, or the status with which the text is refused.
 ghost use mathlib.Core.Path.{_≡_};
-ghost use Rattle.pieces.specs.States.{Refuses, StandsFor, IsNumber, keptCode};
+ghost use Rattle.reader.specs.Readers.{faultOf};
+ghost use Rattle.pieces.specs.States.{orElse, refusalFrom, StandsFor, IsNumber, keptCode};
 use reader::judging::Fault;
 use reader::judging::Stand;
 use reader::judging::fault_number;
@@ -13,20 +14,24 @@ pub const NUMBER: u32 = 2;
 
 pub const CLOSED: u32 = 3;
 
+// The fault with this number, if it is the one, and else the other.
+fn or_else(number: u32, fault: Fault, other: Fault) -> Fault
+    ensures { λ r. ⌜ faultOf r ≡ orElse number fault (faultOf other) ⌝ }
+{
+    if number == fault_number(fault) {
+        fault
+    } else {
+        other
+    }
+}
+
 // Any other number is that of a text that is refused.
 fn refused(number: u32) -> Fault
-    ensures { λ r. ⌜ Refuses number r ⌝ }
+    ensures { λ r. ⌜ faultOf r ≡ refusalFrom number ⌝ }
 {
-    if number == fault_number(Fault::NoCode) {
-        return Fault::NoCode;
-    }
-    if number == fault_number(Fault::TooDeep) {
-        return Fault::TooDeep;
-    }
-    if number == fault_number(Fault::TooMany) {
-        return Fault::TooMany;
-    }
-    Fault::NotText
+    let many = or_else(number, Fault::TooMany, Fault::NotText);
+    let deep = or_else(number, Fault::TooDeep, many);
+    or_else(number, Fault::NoCode, deep)
 }
 
 pub fn stand_of(number: u32) -> Stand

@@ -1,6 +1,6 @@
-// A text read, one byte (SCOPE 5.8): where the reader stands decides what a byte does, and a byte that cannot go on stops
-// it for good. The state is a struct by value. Nothing is laid here: at its end the reader tells how many terms a text
-// has, or why it is none. The loop over bytes is in crate `pieces`.
+// One byte of a text read (SCOPE 5.8): where the reader stands decides what a byte does, and a byte that cannot go on
+// stops it for good. The state is a struct by value. Nothing is laid here: at its end the reader tells how many terms a
+// text has, or why it is none. The loop over bytes is in crate `pieces`.
 ghost use mathlib.Core.Path.{_≡_};
 ghost use Rattle.meaning.specs.Judge.{judge};
 ghost use Rattle.meaning.specs.Reader.{moved, isFull};

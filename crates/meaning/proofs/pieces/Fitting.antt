@@ -5,7 +5,7 @@
 --   feed-fits                  a byte that is not refused leads to another such
 -- Assumes nothing.
 use mathlib.Core.Path.{_≡_, refl, _∙_}
-use mathlib.Core.Logic.{_⊎_, inl, inr}
+use mathlib.Core.Logic.{_≢_}
 use mathlib.Core.Bool.{Bool, true, false, false≢true}
 use mathlib.Core.List.{List, [], _∷_}
 use Prim.Native.Nat.{ℕ, zero, suc, _+_, _-_, _*_, _^_, _≤_, _<_}
@@ -20,7 +20,6 @@ use Rattle.meaning.specs.Judge.{Stand, begun, spaced, number, closed, st
 use Rattle.meaning.specs.Judge.{Move, stops, begins, grows, opens, closes, parts, judge}
 use Rattle.meaning.specs.Reader.{Reader, moved, isFull}
 use Rattle.meaning.specs.Pieces.{Pieces, next, feed, standFits, ahead, eachWithin, fits}
-use Rattle.meaning.proofs.Lists.{lt-or-ge}
 use Rattle.meaning.proofs.Counting.{both-true}
 use Rattle.meaning.proofs.sound.Cells.{code-range, code-fits}
 use Rattle.meaning.proofs.reader.Moves.{either, first-cases, later-cases, more-cases}
@@ -42,13 +41,13 @@ within-each n (suc d) [] f = refl
 within-each n (suc d) (x ∷ l) f =
     rw (le-leb x n (f 0 (omega arith))) (within-each n d l (λ i h. f (suc i) (omega arith)))
 
--- one of them changed
-within-set : (l : List ℕ) (j x n : ℕ) → x ≤ n → (i : ℕ) → getD l i 0 ≤ n → getD (set l j x) i 0 ≤ n
-within-set [] j x n h i g = g
-within-set (y ∷ l) zero x n h zero g = h
-within-set (y ∷ l) zero x n h (suc i) g = g
-within-set (y ∷ l) (suc j) x n h zero g = g
-within-set (y ∷ l) (suc j) x n h (suc i) g = within-set l j x n h i g
+-- one of them put anew
+within-set : (l : List ℕ) (j x n i : ℕ) → x ≤ n → (i ≢ j → getD l i 0 ≤ n) → getD (set l j x) i 0 ≤ n
+within-set [] j x n i h g = omega arith
+within-set (y ∷ l) zero x n zero h g = h
+within-set (y ∷ l) zero x n (suc i) h g = g (λ e. omega arith)
+within-set (y ∷ l) (suc j) x n zero h g = g (λ e. omega arith)
+within-set (y ∷ l) (suc j) x n (suc i) h g = within-set l j x n i h (λ d. g (λ e. d (omega arith)))
 
 -- ---- the state
 
@@ -140,22 +139,9 @@ module _ (p : Pieces) (k : Fits p) (b : ℕ) where
     ours = omega arith;
     most = omega (arith, k .most, k .ours);
     far = omega (arith, f);
-    each = λ j h. each-open j (lt-or-ge j (at .depth)) h;
+    each = λ j h. within-set (p .waiting) (at .depth) (suc (p .own)) (suc (at .total)) j (omega (arith, k .ours))
+        (λ d. omega (arith, k .each j (omega (arith, d))));
   }
-    where
-      each-open : (j : ℕ) → (j < at .depth) ⊎ (at .depth ≤ j) → j < suc (at .depth)
-          → getD (set (p .waiting) (at .depth) (suc (p .own))) j 0 ≤ suc (at .total)
-      each-open j (inl h) l =
-          within-set (p .waiting) (at .depth) (suc (p .own)) (suc (at .total)) (omega (arith, k .ours)) j
-          (omega (arith, k .each j h))
-      each-open j (inr h) l = set-last (p .waiting) (at .depth) j (omega arith)
-        where
-          set-last : (w : List ℕ) (d i : ℕ) → i ≡ d → getD (set w d (suc (p .own))) i 0 ≤ suc (at .total)
-          set-last [] d i e = omega arith
-          set-last (x ∷ w) zero zero e = omega (arith, k .ours)
-          set-last (x ∷ w) zero (suc i) e = absurd (omega arith)
-          set-last (x ∷ w) (suc d) zero e = absurd (omega arith)
-          set-last (x ∷ w) (suc d) (suc i) e = set-last w d i (omega arith)
 
   close : Far 1 → b ≡ 41 → 0 < at .depth → After closes
   unfolding After

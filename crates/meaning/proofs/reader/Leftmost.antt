@@ -2,7 +2,7 @@
 --   StopsAt                           byte k is the first to be refused, and with which status
 --   GoesOn, way                       bytes are read to their end, or stop the reader at one of them
 --   completed-free, completed-going   what begins a text does not stop the reader: freely, and unless it is full
---   Why, why                          what is refused with each status
+--   Why, why, StopNumber              what is refused with each status, and the four that there are
 --   zero-stops, deep-stops, many-stops, large-stops   and that it is
 -- Assumes nothing.
 use mathlib.Core.Path.{_≡_, refl, sym, ap, _∙_, subst}
@@ -137,6 +137,17 @@ pub data Why (s : Stand) (depth : ℕ) (full : Bool) (b : ℕ) : ℕ → Type 0 
   zeroFirst : Ready s → b ≡ 48 → full ≡ false → Why s depth full b 13
   overCode : (a : ℕ) → s ≡ number a → isDigit b ≡ true → codeTest (withDigit a b) ≡ false → Why s depth full b 13
   noMove : Why s depth full b 23
+
+-- the four statuses
+abbrev pub StopNumber : ℕ → Type 0
+StopNumber s = (s ≡ 13) ⊎ ((s ≡ 21) ⊎ ((s ≡ 23) ⊎ (s ≡ 24)))
+
+pub why-number : (s : Stand) (depth : ℕ) (full : Bool) (b t : ℕ) → Why s depth full b t → StopNumber t
+why-number s depth full b t (overDepth r e h) = inr (inl refl)
+why-number s depth full b t (overTerms r o f) = inr (inr (inr refl))
+why-number s depth full b t (zeroFirst r e f) = inl refl
+why-number s depth full b t (overCode a e d f) = inl refl
+why-number s depth full b t noMove = inr (inr (inl refl))
 
 -- the one digit that is no code
 no-code-digit : (b : ℕ) → isDigit b ≡ true → codeTest (withDigit 0 b) ≡ false → b ≡ 48

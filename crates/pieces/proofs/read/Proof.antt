@@ -19,8 +19,9 @@ returns : tie.Need-returns
 unfolding noPieces atStart depthLimit
 returns c =
     let fed = c .before .before in
+    let text = fed .before .before .before .args .text .now in
     subst (λ (r : Reader). Finds r (c .finish .result))
-    (ap (λ (p : Pieces). p .place) (fed .feed-bytes .ensures) ∙ feeds-place (fed .before .before .before .args .text .now) noPieces) (c .finish .ensures)
+    (ap (λ (p : Pieces). p .place) (fed .feed-bytes .ensures) ∙ feeds-place text noPieces) (c .finish .ensures)
 
 pub read-spec : {M : Type 1} → statement M
 read-spec = tie.close (tie.spec feed-bytes-requires (λ c κs. search needs) returns)

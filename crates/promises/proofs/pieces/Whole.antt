@@ -1,8 +1,8 @@
 -- What counting a whole text answers: by cases, from its table, and nothing else; and what typing it in will. In order:
---   text-begins              the text of an expression may begin one
---   counted-so               what counting answers, by whether the text is read whole
---   count-answers, one-count  the claims
---   count-tells              what typing it in will answer
+--   count-whole, count-refused   what counting answers, by whether the text is read whole
+--   stop-listed                  a refusal's number is in the table
+--   count-answers, one-count     the claims
+--   count-tells                  what typing it in will answer
 -- Assumes nothing.
 use mathlib.Core.Path.{_≡_, refl, sym, ap, ap₂, _∙_, subst}
 use mathlib.Core.Logic.{inl, inr, _≢_}
@@ -18,17 +18,24 @@ use Rattle.meaning.specs.Text.{text, Readable}
 use Rattle.meaning.specs.Reader.{isWhole, stopVerdict, expression, reads, blank}
 use Rattle.meaning.specs.Typed.{typeIn}
 use Rattle.meaning.specs.Pieces.{mostTerms, Count, counts, uncounted, countOf, countText}
+use Rattle.meaning.proofs.reader.Leftmost.{StopNumber}
 use Rattle.promises.specs.Table.{OneOf}
 use Rattle.promises.specs.Reading.{RefusedText, endsTooSoon, stopsAt}
 use Rattle.promises.specs.Typing.{said, Whole, noText, noRoom, hasRoom}
 use Rattle.promises.specs.Pieces.{MostOf, CountedAs, whole, refused, CountTable, CountAnswers, OneCount, Told}
 use Rattle.promises.specs.Pieces.{CountTells}
 use Rattle.promises.proofs.reading.Refusing.{reads-back, writes-back, whole-refused, stops-leftmost, one-refusal}
-use Rattle.promises.proofs.typing.Typing.{StopNumber, refused-number, stop-away, types-do}
+use Rattle.promises.proofs.typing.Typing.{refused-number, stop-away, types-do}
 use Rattle.promises.proofs.unique.Texts.{says-once}
 use Rattle.promises.proofs.pieces.Most.{most-in-words, one-most}
 
 -- ---- by cases
+
+pub stop-listed : (s : ℕ) → StopNumber s → OneOf s (0 ∷ 13 ∷ 21 ∷ 23 ∷ 24 ∷ [])
+stop-listed s (inl e) = inr (inl e)
+stop-listed s (inr (inl e)) = inr (inr (inl e))
+stop-listed s (inr (inr (inl e))) = inr (inr (inr (inl e)))
+stop-listed s (inr (inr (inr e))) = inr (inr (inr (inr (inl e))))
 
 module _ (bs : List ℕ) where
   count-whole : Whole bs → countText bs ≡ counts (allTerms (said bs)) (mostTerms (said bs))
@@ -52,12 +59,6 @@ module _ (bs : List ℕ) where
         rule = refl;
       })
 
-  listed : (s : ℕ) → StopNumber s → OneOf s (0 ∷ 13 ∷ 21 ∷ 23 ∷ 24 ∷ [])
-  listed s (inl e) = inr (inl e)
-  listed s (inr (inl e)) = inr (inr (inl e))
-  listed s (inr (inr (inl e))) = inr (inr (inr (inl e)))
-  listed s (inr (inr (inr e))) = inr (inr (inr (inr (inl e))))
-
   no-rule : (v : Verdict) → RefusedText bs v → v .rule ≡ 0
   no-rule v (endsTooSoon b n) = refl
   no-rule v (stopsAt k s l b n h) = refl
@@ -69,7 +70,7 @@ module _ (bs : List ℕ) where
       let n = refused-number bs v t in
       subst (λ (r : Count). CountTable bs r) (sym (count-refused w))
       (record {
-        number = listed (v .status) n;
+        number = stop-listed (v .status) n;
         says = refused v t;
         done = λ e. absurd (stop-away (v .status) n .0 e);
         none = λ _. (refl, refl);

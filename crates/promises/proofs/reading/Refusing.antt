@@ -2,24 +2,23 @@
 --   reads-back, writes-back   the one way and the other
 --   shorter                   fewer of the bytes that may begin a text may begin one
 --   too-soon, at-byte         a text that ends too soon, and one that is refused at a byte;  stops-leftmost
---   status-once, one-refusal  one status at a byte, and one verdict;  whole-refused  none where it is read
+--   whole-refused             no refusal where it is read;  one-refusal  and one verdict
 -- Assumes nothing.
 use mathlib.Core.Path.{_≡_, refl, sym, ap, ap₂, _∙_, subst}
 use mathlib.Core.Logic.{_⊎_, inl, inr}
 use mathlib.Core.Bool.{true, false, false≢true}
-use mathlib.Core.List.{List, [], _∷_, append-nil}
+use mathlib.Core.List.{List, [], append-nil}
 use Prim.Native.Nat.{ℕ, suc, _≤_, _<_}
 use native.Mathlib.Omega.{arith}
-use lib.ListN.{length, getD, take, drop, take-append-drop}
-use lib.Seq.{take-take, take-suc}
+use lib.ListN.{length, take, drop, take-append-drop}
+use lib.Seq.{take-take}
 use Rattle.meaning.specs.Limits.{depthLimit, termsLimit}
 use Rattle.meaning.specs.Expr.{Expr}
 use Rattle.meaning.specs.Lay.{allTerms}
 use Rattle.meaning.specs.Text.{text, Readable}
 use Rattle.meaning.specs.Verdicts.{Verdict, valued}
 use Rattle.meaning.specs.Judge.{Stand, begun, spaced, number, closed, stopped}
-use Rattle.meaning.specs.Judge.{Move, stops, begins, grows, opens, closes, parts, judge}
-use Rattle.meaning.specs.Reader.{Reader, moved, isFull, advance, advances, atStart, isWhole, stopStatus, stopVerdict}
+use Rattle.meaning.specs.Reader.{Reader, advances, atStart, isWhole, stopStatus, stopVerdict}
 use Rattle.meaning.specs.Reader.{reads, blank}
 use Rattle.meaning.proofs.Lists.{lt-or-ge}
 use Rattle.meaning.proofs.reader.Forth.{text-of-read, reads-place}
@@ -30,7 +29,7 @@ use Rattle.meaning.proofs.reader.Leftmost.{StopsAt, GoesOn, way}
 use Rattle.promises.specs.Reading.{AreText, termsBegun, MayBegin, ReadsBack, WritesBack, StopsWith}
 use Rattle.promises.specs.Reading.{RefusedText, endsTooSoon, stopsAt, StopsLeftmost, OneRefusal}
 use Rattle.promises.proofs.reading.Beginning.{going-may, may-going, terms-begin}
-use Rattle.promises.proofs.reading.Stopping.{status-judged, stops-with}
+use Rattle.promises.proofs.reading.Stopping.{stops-with, status-once}
 
 -- ---- back and forth
 
@@ -110,42 +109,6 @@ stops-leftmost bs w =
     go (inr (k, s, h)) = at-byte bs k s h
 
 -- ---- one verdict
-
--- a byte with which bytes may not begin a text stops the reader
-module _ (bs : List ℕ) (k : ℕ) (l : k < length bs) where
-  abbrev at : Reader
-  at = advances atStart (take k bs)
-
-  abbrev judged : Move
-  judged = judge (at .stand) (at .depth) (isFull at) (getD bs k 0)
-
-  next-reader : advances atStart (take (suc k) bs) ≡ moved judged at
-  unfolding advance
-  next-reader = ap (advances atStart) (take-suc bs k 0 l) ∙ advances-append (take k bs) (getD bs k 0 ∷ []) atStart
-
-  stops-here : (MayBegin (take (suc k) bs) → ⊥) → (s : ℕ) × (judged ≡ stops s)
-  stops-here n = go judged refl
-    where
-      goes : Going (moved judged at .stand) → ⊥
-      goes g = n (going-may (take (suc k) bs) (subst (λ (r : Reader). Going (r .stand)) (sym next-reader) g))
-
-      on : (m : Move) → judged ≡ m → Going (moved m at .stand) → (s : ℕ) × (judged ≡ stops s)
-      on m e g = absurd (goes (subst (λ (x : Move). Going (moved x at .stand)) (sym e) g))
-
-      go : (m : Move) → judged ≡ m → (s : ℕ) × (judged ≡ stops s)
-      go (stops s) e = (s, e)
-      go (begins a) e = on (begins a) e tt
-      go (grows a) e = on (grows a) e tt
-      go opens e = on opens e tt
-      go closes e = on closes e tt
-      go parts e = on parts e tt
-
-  status-once : (s t : ℕ) → MayBegin (take k bs) → (MayBegin (take (suc k) bs) → ⊥) → StopsWith bs k s
-      → StopsWith bs k t → s ≡ t
-  status-once s t m n h h′ =
-      let g = may-going (take k bs) m in
-      let j = stops-here n in
-      status-judged bs k l g (j .0) (j .1) s h ∙ sym (status-judged bs k l g (j .0) (j .1) t h′)
 
 -- a text that may begin up to byte k′ is not refused before it
 not-before : (bs : List ℕ) (k k′ : ℕ) → (MayBegin (take (suc k) bs) → ⊥) → MayBegin (take k′ bs) → k′ ≤ k

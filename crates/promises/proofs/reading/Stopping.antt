@@ -3,7 +3,7 @@
 --   ready-free, ready-at, may-begin              where a term may begin, by the bytes and by where the reader stands
 --   begin-here .. many-here                      what a refusal says of the bytes
 --   zero-refused .. many-refused                 and what is refused so
---   stops-with, status-judged                    the status at the byte that stops the reader, and no other is
+--   stops-with, status-once                      the status at the byte that stops the reader, and no other is
 --   no-zero                                      what does not stop the reader, freely, has no 0 that begins a term
 -- Assumes nothing.
 use mathlib.Core.Path.{_≡_, refl, sym, ap, ap₂, _∙_, subst}
@@ -19,7 +19,7 @@ use borrow.Author.Tests.{eq-eqb, ne-eqb, eqb-true, eqb-false}
 use Rattle.bytes.specs.Decimal.{decimal}
 use Rattle.meaning.specs.Limits.{codeTest, depthLimit}
 use Rattle.meaning.specs.Judge.{Stand, begun, spaced, number, closed, stopped}
-use Rattle.meaning.specs.Judge.{Move, stops, isDigit, withDigit, judge}
+use Rattle.meaning.specs.Judge.{Move, stops, begins, grows, opens, closes, parts, isDigit, withDigit, judge}
 use Rattle.meaning.specs.Reader.{Reader, moved, isFull, advance, advances, atStart}
 use Rattle.meaning.proofs.Lists.{lt-or-ge}
 use Rattle.meaning.proofs.reader.Moves.{stops-once, digit-range, is-digit, judge-cases}
@@ -31,9 +31,10 @@ use Rattle.meaning.proofs.reader.Standing.{EndsReady, ready-after, code-after, 
 use Rattle.meaning.proofs.reader.Leftmost.{StopsAt, Opening, Why, overDepth, overTerms, zeroFirst, overCode, noMove}
 use Rattle.meaning.proofs.reader.Leftmost.{why, zero-stops, large-stops, deep-stops, many-stops}
 use Rattle.promises.specs.Printing.{count}
-use Rattle.promises.specs.Reading.{begunAt, termsBegun, TermMayBegin, BracketTooDeep, TermTooMany, ZeroBegins}
-use Rattle.promises.specs.Reading.{CodeTooLarge, StopsWith, deep, many, banned, large, other}
+use Rattle.promises.specs.Reading.{begunAt, termsBegun, MayBegin, TermMayBegin, BracketTooDeep, TermTooMany}
+use Rattle.promises.specs.Reading.{ZeroBegins, CodeTooLarge, StopsWith, deep, many, banned, large, other}
 use Rattle.promises.proofs.reading.Beginning.{inNumber, digit-begins, bracket-begins, none-begins, begun-so}
+use Rattle.promises.proofs.reading.Beginning.{going-may, may-going}
 
 -- ---- how many brackets are open
 
@@ -296,13 +297,42 @@ module _ (bs : List ℕ) (k : ℕ) (l : k < length bs) where
     as-other d m z c s (overCode a e i f) = absurd (c (large-here a e i f))
     as-other d m z c s noMove = refl
 
-    pub status-judged : (s : ℕ) → judged ≡ stops s → (t : ℕ) → StopsWith bs k t → t ≡ s
+    status-judged : (s : ℕ) → judged ≡ stops s → (t : ℕ) → StopsWith bs k t → t ≡ s
     status-judged s j t (deep d) = one-status 21 s (deep-refused g d) j
     status-judged s j t (many d m) = one-status 24 s (many-refused g d m) j
     status-judged s j t (banned m z) = one-status 13 s (zero-refused g m z) j
     status-judged s j t (large c) = one-status 13 s (large-refused g c) j
     status-judged s j t (other d m z c) =
         as-other d m z c s (why (at .stand) (at .depth) (isFull at) (getD bs k 0) s g j)
+
+  -- a byte with which bytes may not begin a text stops the reader
+  next-reader : advances atStart (take (suc k) bs) ≡ moved judged at
+  unfolding advance
+  next-reader = ap (advances atStart) (take-suc bs k 0 l) ∙ advances-append (take k bs) (getD bs k 0 ∷ []) atStart
+
+  stops-here : (MayBegin (take (suc k) bs) → ⊥) → (s : ℕ) × (judged ≡ stops s)
+  stops-here n = go judged refl
+    where
+      on : (m : Move) → judged ≡ m → Going (moved m at .stand) → (s : ℕ) × (judged ≡ stops s)
+      on m e g =
+          absurd (n (going-may (take (suc k) bs) (subst (λ (r : Reader). Going (r .stand))
+          (sym (next-reader ∙ ap (λ (x : Move). moved x at) e)) g)))
+
+      go : (m : Move) → judged ≡ m → (s : ℕ) × (judged ≡ stops s)
+      go (stops s) e = (s, e)
+      go (begins a) e = on (begins a) e tt
+      go (grows a) e = on (grows a) e tt
+      go opens e = on opens e tt
+      go closes e = on closes e tt
+      go parts e = on parts e tt
+
+  -- so no second status is said of it
+  pub status-once : (s t : ℕ) → MayBegin (take k bs) → (MayBegin (take (suc k) bs) → ⊥) → StopsWith bs k s
+      → StopsWith bs k t → s ≡ t
+  status-once s t m n h h′ =
+      let g = may-going (take k bs) m in
+      let j = stops-here n in
+      status-judged g (j .0) (j .1) s h ∙ sym (status-judged g (j .0) (j .1) t h′)
 
 pub stops-with : (bs : List ℕ) (k s : ℕ) → StopsAt bs atStart k s → StopsWith bs k s
 stops-with bs k s w =

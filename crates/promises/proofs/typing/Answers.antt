@@ -12,13 +12,14 @@ use Rattle.meaning.specs.Verdicts.{Verdict}
 use Rattle.meaning.specs.Check.{check}
 use Rattle.meaning.specs.Typed.{typeIn}
 use Rattle.meaning.proofs.check.Checking.{check-sound}
+use Rattle.meaning.proofs.reader.Leftmost.{StopNumber}
 use Rattle.meaning.proofs.typed.Cases.{type-unsound}
 use Rattle.promises.specs.Table.{OneOf}
 use Rattle.promises.specs.Reading.{endsTooSoon, stopsAt}
 use Rattle.promises.specs.Typing.{TypedAs, noRegister, noText, noRoom, hasRoom, TypeTable, TypeAnswers}
 use Rattle.promises.specs.Unique.{OneType}
 use Rattle.promises.proofs.table.Rules.{judged, judged-number, judged-zero}
-use Rattle.promises.proofs.typing.Typing.{StopNumber, refused-number, types-do}
+use Rattle.promises.proofs.typing.Typing.{refused-number, types-do}
 use Rattle.promises.proofs.unique.Texts.{typed-once}
 use Rattle.promises.proofs.unique.Outcomes.{judged-once, done-parts, unsound-check}
 

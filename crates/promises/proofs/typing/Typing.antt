@@ -1,12 +1,12 @@
 -- Demand 2, a text typed into a register of a sound store: what `meaning` shows of it through its plan, in the words of
 -- SCOPE 5.8. In order:
 --   text-leaves                  what it leaves in the cells, where it is laid
---   StopNumber, refused-number   the status of a text's refusal
+--   refused-number, stop-away    the status of a text's refusal
 --   refusal, whole-does          a refusal but 16;  a whole text
 --   types-do                     the claim
 -- Assumes nothing.
 use mathlib.Core.Path.{_≡_, refl, sym, ap, subst, _∙_}
-use mathlib.Core.Logic.{_⊎_, inl, inr, _≢_}
+use mathlib.Core.Logic.{inl, inr, _≢_}
 use mathlib.Core.Bool.{Bool, true, false, cond, false≢true}
 use mathlib.Core.List.{List}
 use Prim.Native.Nat.{ℕ, zero, suc, _+_, _*_, _≤_, _<_}
@@ -31,6 +31,7 @@ use Rattle.meaning.proofs.check.Checking.{sound-check}
 use Rattle.meaning.proofs.actions.Writing.{at-put, at-put-other}
 use Rattle.meaning.proofs.call.Sought.{sought-length, sought-other, sought-sound}
 use Rattle.meaning.proofs.call.Plans.{planLacks, planTop, PlanMeets}
+use Rattle.meaning.proofs.reader.Leftmost.{StopNumber}
 use Rattle.meaning.proofs.lay.Each.{Coded}
 use Rattle.meaning.proofs.lay.Denoting.{laid-more, laid-at, laid-in}
 use Rattle.meaning.proofs.typed.Cases.{TypeCases, unsound, none, stopped, whole, type-cases}
@@ -68,9 +69,6 @@ after-refused zero n x e i = absurd (n refl)
 after-refused (suc s) n x e i = refl
 
 -- a text's refusal is 13, 21, 23 or 24
-abbrev pub StopNumber : ℕ → Type 0
-StopNumber s = (s ≡ 13) ⊎ ((s ≡ 21) ⊎ ((s ≡ 23) ⊎ (s ≡ 24)))
-
 pub refused-number : (bs : List ℕ) (v : Verdict) → RefusedText bs v → StopNumber (v .status)
 refused-number bs v (endsTooSoon b n) = inr (inr (inl refl))
 refused-number bs v (stopsAt k s l b n (deep d)) = inr (inl refl)

@@ -5,7 +5,7 @@ use Rattle.meaning.specs.Limits.{termsLimit}
 use Rattle.meaning.specs.Judge.{Move}
 use Rattle.meaning.specs.Reader.{isFull}
 use Rattle.reader.specs.Readers.{standOf, readerOf, Suits}
-use Rattle.reader.proofs.Ranges.{judge-suits}
+use Rattle.reader.proofs.Suiting.{judge-suits}
 use Rattle.reader.proofs.judge_byte.Statement.{statement}
 use Rattle.reader.proofs.judge_byte.Tie as tie
 

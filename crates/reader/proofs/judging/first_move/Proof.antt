@@ -7,7 +7,7 @@ use borrow.Author.Needs.{needs}
 use Rattle.meaning.specs.Limits.{depthLimit}
 use Rattle.meaning.specs.Judge.{firstMove}
 use Rattle.meaning.proofs.reader.Moves.{digit-range, first-digit, first-bracket}
-use Rattle.reader.proofs.Ranges.{code-asked}
+use Rattle.reader.proofs.Suiting.{code-asked}
 use Rattle.reader.proofs.judging.first_move.Statement.{statement}
 use Rattle.reader.proofs.judging.first_move.Tie as tie
 

@@ -5,7 +5,7 @@ use native.Mathlib.Omega.{arith}
 use borrow.Author.Needs.{needs}
 use Rattle.meaning.specs.Judge.{moreMove}
 use Rattle.meaning.proofs.reader.Moves.{digit-range, more-digit}
-use Rattle.reader.proofs.Ranges.{code-asked}
+use Rattle.reader.proofs.Suiting.{code-asked}
 use Rattle.reader.proofs.judging.more_move.Statement.{statement}
 use Rattle.reader.proofs.judging.more_move.Tie as tie
 
