@@ -14,8 +14,8 @@ use lib.Dec.{leb, eqb}
 use lib.ListN.{length, get_or, replicate, get_or-eq_default}
 use borrow.Author.Tests.{lt-ltb, le-ltb, ne_eqb}
 use Rattle.words.specs.Cell.{first_word, second_word}
-use Rattle.bytes.specs.Little.{words_of}
-use Rattle.bytes.proofs.Filling.{padded_at}
+use Rattle.octets.specs.Little.{words_of}
+use Rattle.octets.proofs.Filling.{padded_at}
 use Rattle.meaning.specs.Limits.{limit}
 use Rattle.meaning.specs.Sound.{at, Sound, capacity}
 use Rattle.meaning.specs.Reach.{held_below}

@@ -12,7 +12,7 @@ use native.Mathlib.Omega.{arith}
 use lib.Dec.{eqb}
 use lib.ListN.{length}
 use borrow.Author.Tests.{eqb-true, eqb-false}
-use Rattle.bytes.specs.Space.{filled}
+use Rattle.octets.specs.Space.{filled}
 use Rattle.meaning.specs.Verdicts.{Verdict, ifSound}
 use Rattle.meaning.specs.File.{first_of, file_cells, file_edition, image, check_as, check_file, load_in}
 use Rattle.meaning.proofs.check.Checking.{on_zero_no}

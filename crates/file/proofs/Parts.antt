@@ -9,10 +9,10 @@ use Prim.Native.Nat.{ℕ, ◌+◌, ◌-◌, ◌*◌, ◌≤◌}
 use native.Mathlib.Omega.{arith}
 use lib.ListN.{length, take, drop, length-append, length-drop, drop_of_length-le}
 use lib.Seq.{length-take-le, take_all, take_at}
-use Rattle.bytes.specs.Little.{words_of}
-use Rattle.bytes.specs.Space.{filled}
-use Rattle.bytes.proofs.Endian.{words_length, words_take, words_drop}
-use Rattle.bytes.proofs.Filling.{filled_long, filled_then}
+use Rattle.octets.specs.Little.{words_of}
+use Rattle.octets.specs.Space.{filled}
+use Rattle.octets.proofs.Endian.{words_length, words_take, words_drop}
+use Rattle.octets.proofs.Filling.{filled_long, filled_then}
 use Rattle.meaning.specs.File.{cells_in}
 use Rattle.meaning.proofs.file.Images as images
 use Rattle.file.specs.Body.{store_in, Whole}

@@ -12,11 +12,11 @@ use native.Mathlib.Omega.{arith}
 use lib.ListN.{length, take, drop}
 use lib.Seq.{take_at}
 use borrow.Author.Tests.{le-leb, lt-leb}
-use Rattle.bytes.specs.Space.{Space, blank, write, filled}
-use Rattle.bytes.specs.Pens.{space}
-use Rattle.bytes.specs.declared.writing.Pen.{Pen}
-use Rattle.bytes.specs.Little.{bytes_of}
-use Rattle.bytes.proofs.Spaces.{write_then, pen_fits, write_short}
+use Rattle.octets.specs.Space.{Space, blank, write, filled}
+use Rattle.octets.specs.Pens.{space}
+use Rattle.octets.specs.declared.writing.Pen.{Pen}
+use Rattle.octets.specs.Little.{bytes_of}
+use Rattle.octets.proofs.Spaces.{write_then, pen_fits, write_short}
 use Rattle.meaning.specs.Sound.{Sound, capacity}
 use Rattle.meaning.specs.Collected.{collected, collected_top}
 use Rattle.meaning.specs.Verdicts.{only}

@@ -1,7 +1,7 @@
 -- The bytes of a file from its first heap cell on, as the occupied cells of a store: f is the first heap cell of that
 -- store, n is the number of its heap cells. Assumes nothing.
 use Rattle.std.specs.Prelude.{◌≡◌, List, ℕ, ◌+◌, ◌≤◌, length}
-use Rattle.bytes.specs.Little.{words_of}
+use Rattle.octets.specs.Little.{words_of}
 use Rattle.meaning.specs.Limits.{limit}
 use Rattle.meaning.specs.File.{distance_for, cells_in}
 

@@ -38,10 +38,10 @@ pub fn read_trailer(file: &[u8]) -> Trailer
 {
     let start = file.len() - TRAILER;
     let tail = &file[start..];
-    let distance = bytes::reading::word(tail, 0) as usize;
-    let cells = bytes::reading::word(tail, 1) as usize;
-    let capacity = bytes::reading::word(tail, 2) as usize;
-    let first = first_of(bytes::reading::word(tail, 3));
+    let distance = octets::reading::word(tail, 0) as usize;
+    let cells = octets::reading::word(tail, 1) as usize;
+    let capacity = octets::reading::word(tail, 2) as usize;
+    let first = first_of(octets::reading::word(tail, 3));
     Trailer {
         distance,
         cells,

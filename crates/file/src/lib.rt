@@ -66,10 +66,10 @@ fn save_sound(ws: &mut [u32], top: usize, space: &mut [u8]) -> Saved
     let low = collect::collect_sound(ws, top);
     let pen = writing::put_file(space, ws, low);
     if pen.short {
-        bytes::writing::zero_from(space, 0);
+        octets::writing::zero_from(space, 0);
         return Saved::ShortSpace(low);
     }
-    bytes::writing::zero_from(space, pen.place);
+    octets::writing::zero_from(space, pen.place);
     Saved::Done(low, pen.place)
 }
 
@@ -81,7 +81,7 @@ pub fn save(ws: &mut [u32], top: usize, space: &mut [u8]) -> Saved
     match store::check(ws, top) {
         Checked::Sound => save_sound(ws, top, space),
         Checked::Refused(why) => {
-            bytes::writing::zero_from(space, 0);
+            octets::writing::zero_from(space, 0);
             Saved::Refused(why)
         }
     }

@@ -2,7 +2,7 @@
 // of the store, `n` is the number of its heap cells. In a file the registers come after the heap.
 ghost use Rattle.std.specs.Prelude.{◌≡◌, ◌+◌, ◌*◌, ◌≤◌, ◌<◌, length, get_or};
 ghost use Rattle.words.specs.Cell.{first_word, second_word};
-ghost use Rattle.bytes.specs.Space.{filled};
+ghost use Rattle.octets.specs.Space.{filled};
 ghost use Rattle.file.specs.Body.{store_in, Whole};
 
 // Word i of the store.
@@ -11,9 +11,9 @@ fn store_word(body: &[u8], first: usize, n: usize, i: usize) -> u32
     ensures { result ≡ get_or (store_in first n body.now) i 0 }
 {
     if i < 2 * first {
-        return bytes::reading::word(body, 2 * n + i);
+        return octets::reading::word(body, 2 * n + i);
     }
-    bytes::reading::word(body, i - 2 * first)
+    octets::reading::word(body, i - 2 * first)
 }
 
 // The words of cell c.
@@ -38,6 +38,6 @@ pub fn fill(ws: &mut [u32], body: &[u8], first: usize, n: usize)
 {
     let low = 2 * first;
     let heap = 8 * n;
-    bytes::reading::fill_words(&mut ws[..low], &body[heap..]);
-    bytes::reading::fill_words(&mut ws[low..], &body[..heap]);
+    octets::reading::fill_words(&mut ws[..low], &body[heap..]);
+    octets::reading::fill_words(&mut ws[low..], &body[..heap]);
 }

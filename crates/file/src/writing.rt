@@ -1,14 +1,14 @@
 // The file of a collected store, written from left to right.
 ghost use Rattle.std.specs.Prelude.{◌≡◌};
-ghost use Rattle.bytes.specs.Space.{blank, write};
-ghost use Rattle.bytes.specs.Pens.{space};
+ghost use Rattle.octets.specs.Space.{blank, write};
+ghost use Rattle.octets.specs.Pens.{space};
 ghost use Rattle.meaning.specs.Limits.{first_heap_cell, edition};
 ghost use Rattle.meaning.specs.Sound.{Sound};
 ghost use Rattle.meaning.specs.File.{file_of};
 
 use super::judging::TRAILER;
-use bytes::writing;
-use bytes::writing::Pen;
+use octets::writing;
+use octets::writing::Pen;
 
 // The heap, the registers, the trailer. The pen is short where they do not fit.
 pub fn put_file(out: &mut [u8], ws: &[u32], top: usize) -> Pen

@@ -1,8 +1,8 @@
 -- The tables of stores, of texts and of files to try are right: one computation each.
 -- Assumes nothing.
 use Rattle.words.specs.Second.{flag, decode}
-use Rattle.bytes.specs.Decimal.{decimal}
-use Rattle.bytes.specs.Space.{filled}
+use Rattle.octets.specs.Decimal.{decimal}
+use Rattle.octets.specs.Space.{filled}
 use Rattle.meaning.specs.Limits.{first_heap_cell, limit, code_test, depth_limit, terms_limit, program_cells}
 use Rattle.meaning.specs.Limits.{program_bytes, edition}
 use Rattle.meaning.specs.Sound.{at}

@@ -4,8 +4,8 @@
 -- capacity and the edition. All words are little-endian. Bytes before the first heap cell are ignored.
 -- bs are the bytes of a file, f is the first heap cell of the store in it, e is an edition. Assumes nothing.
 use Rattle.std.specs.Prelude.{Bool, false, cond, List, [], ◌∷◌, ◌++◌, ℕ, ◌+◌, ◌-◌, ◌*◌, ltb, leb, eqb, length, get_or, take, drop}
-use Rattle.bytes.specs.Little.{words_of, bytes_of}
-use Rattle.bytes.specs.Space.{filled}
+use Rattle.octets.specs.Little.{words_of, bytes_of}
+use Rattle.octets.specs.Space.{filled}
 use Rattle.meaning.specs.Limits.{limit, kinds}
 use Rattle.meaning.specs.Sound.{capacity}
 use Rattle.meaning.specs.Reach.{live}

@@ -2,7 +2,7 @@
 -- for a heap that begins at cell F. Assumes nothing.
 use Rattle.std.specs.Prelude.{Bool, ◌&&◌, List, [], ◌∷◌, ◌++◌, ℕ, ◌+◌, ◌-◌, ◌*◌, eqb, T, replicate, drop, set}
 use Rattle.words.specs.Second.{bracket_to}
-use Rattle.bytes.specs.Little.{bytes_of}
+use Rattle.octets.specs.Little.{bytes_of}
 use Rattle.meaning.specs.Limits.{limit}
 use Rattle.meaning.specs.Verdicts.{Verdict, only, damaged_at, Done}
 use Rattle.meaning.specs.Fresh.{fresh, empty_registers}

@@ -1,8 +1,8 @@
 -- What the program writes for what it reads, byte for byte (SCOPE 6).
 -- Assumes nothing.
 use Rattle.std.specs.Prelude.{cond, ◌||◌, List, [], ◌∷◌, ◌++◌, ℕ, ◌-◌, ◌%◌, ltb, length, get_or, drop}
-use Rattle.bytes.specs.Little.{words_of}
-use Rattle.bytes.specs.Decimal.{decimal}
+use Rattle.octets.specs.Little.{words_of}
+use Rattle.octets.specs.Decimal.{decimal}
 use Rattle.meaning.specs.Limits.{program_cells, program_bytes}
 use Rattle.meaning.specs.Verdicts.{on_zero}
 use Rattle.meaning.specs.Fresh.{fresh}

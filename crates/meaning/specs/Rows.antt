@@ -3,8 +3,8 @@
 use Rattle.std.specs.Prelude.{Bool, true, false, ◌&&◌, List, [], ◌∷◌, ◌++◌, ℕ, ◌+◌, ◌-◌, eqb, T}
 use Rattle.words.specs.Cell.{put_cell}
 use Rattle.words.specs.Second.{bracket_to}
-use Rattle.bytes.specs.Little.{bytes_of}
-use Rattle.bytes.specs.Decimal.{decimal}
+use Rattle.octets.specs.Little.{bytes_of}
+use Rattle.octets.specs.Decimal.{decimal}
 use Rattle.meaning.specs.Verdicts.{Verdict, valued, only, damaged_at, Done}
 use Rattle.meaning.specs.Check.{check, collect_in}
 use Rattle.meaning.specs.Fresh.{fresh, empty_registers}

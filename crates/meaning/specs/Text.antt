@@ -1,8 +1,8 @@
 -- The text of an expression, and a register printed (SCOPE 2.4, 5.7). Bytes are their ASCII numbers: 32 is a space, 40
 -- and 41 are brackets. Assumes nothing.
 use Rattle.std.specs.Prelude.{Bool, cond, ◌&&◌, List, [], ◌∷◌, ◌++◌, ℕ, zero, suc, ◌-◌, ltb, eqb, length}
-use Rattle.bytes.specs.Decimal.{decimal}
-use Rattle.bytes.specs.Space.{filled}
+use Rattle.octets.specs.Decimal.{decimal}
+use Rattle.octets.specs.Space.{filled}
 use Rattle.meaning.specs.Limits.{depth_limit}
 use Rattle.meaning.specs.Expr.{Expr, nothing, symbol, parens}
 use Rattle.meaning.specs.Sound.{IsCode}

@@ -8,8 +8,8 @@
 -- That the running program reads and writes these bytes no statement of Rattle says: docs/GAPS.md.
 -- Assumes nothing.
 use Rattle.std.specs.Prelude.{◌≡◌, List, [], ◌∷◌, ◌++◌, ℕ, ◌+◌, ◌-◌, ◌*◌, ◌/◌, ◌%◌, ◌≤◌, length, get_or, take, drop, replicate}
-use Rattle.bytes.specs.Little.{words_of}
-use Rattle.bytes.specs.Decimal.{decimal}
+use Rattle.octets.specs.Little.{words_of}
+use Rattle.octets.specs.Decimal.{decimal}
 use Rattle.meaning.specs.Limits.{program_cells, program_bytes}
 use Rattle.meaning.specs.Verdicts.{Verdict, only}
 use Rattle.meaning.specs.Fresh.{fresh}

@@ -5,10 +5,10 @@ use Prim.Native.Nat.{ℕ, ◌-◌, ◌/◌, ◌≤◌}
 use native.Mathlib.Omega.{arith}
 use lib.ListN.{length, take, drop, replicate, length-append, length-drop, length-replicate}
 use lib.Seq.{drop-append-le, take_at}
-use Rattle.bytes.specs.Little.{words_of}
-use Rattle.bytes.specs.Space.{filled}
-use Rattle.bytes.proofs.Endian.{words_length}
-use Rattle.bytes.proofs.Final.{filled_fits}
+use Rattle.octets.specs.Little.{words_of}
+use Rattle.octets.specs.Space.{filled}
+use Rattle.octets.proofs.Endian.{words_length}
+use Rattle.octets.proofs.Final.{filled_fits}
 use Rattle.meaning.specs.Limits.{program_bytes, calls_limit}
 use Rattle.serve.specs.Needs.{CallsFit, InputFits}
 

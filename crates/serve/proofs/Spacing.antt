@@ -11,12 +11,12 @@ use Prim.Native.Nat.{ℕ, suc, ◌+◌, ◌*◌, ◌^◌, ◌≤◌, ◌<◌}
 use native.Mathlib.Omega.{arith}
 use lib.ListN.{length, get_or, drop, length-append, length-drop}
 use lib.Seq.{drop-cons}
-use Rattle.bytes.specs.Decimal.{decimal}
-use Rattle.bytes.specs.Space.{Space, blank, write}
-use Rattle.bytes.specs.Pens.{space}
-use Rattle.bytes.specs.declared.writing.Pen.{Pen}
-use Rattle.bytes.proofs.Decimals.{length_one, word_digits, long_digits}
-use Rattle.bytes.proofs.Spaces.{write_step, pen_fits}
+use Rattle.octets.specs.Decimal.{decimal}
+use Rattle.octets.specs.Space.{Space, blank, write}
+use Rattle.octets.specs.Pens.{space}
+use Rattle.octets.specs.declared.writing.Pen.{Pen}
+use Rattle.octets.proofs.Decimals.{length_one, word_digits, long_digits}
+use Rattle.octets.proofs.Spaces.{write_step, pen_fits}
 use Rattle.meaning.specs.Program.{lines_of, refusal, written}
 use Rattle.serve.specs.Front.{Front}
 use Rattle.serve.specs.Lines.{top_line}

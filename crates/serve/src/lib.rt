@@ -24,7 +24,7 @@ fn input_fault(input: &[u8]) -> usize
     if input.len() < 4 {
         return 1; // no capacity
     }
-    let cells = bytes::reading::word(input, 0) as usize;
+    let cells = octets::reading::word(input, 0) as usize;
     if cells < meaning::FIRST_HEAP_CELL {
         return 1; // too few cells
     }
@@ -48,6 +48,6 @@ pub fn serve(input: &[u8], out: &mut [u8; OUTPUT]) -> usize
     if wrong != 0 {
         return writing::refuse(out, wrong);
     }
-    let cells = bytes::reading::word(input, 0) as usize;
+    let cells = octets::reading::word(input, 0) as usize;
     running::serve_calls(cells, input, out)
 }

@@ -1,6 +1,6 @@
 // A batch on a fresh store in a buffer of the program's own. Each function lends its arrays once, to the next one.
 ghost use Rattle.std.specs.Prelude.{◌≡◌, [], ◌++◌, ◌+◌, ◌*◌, ◌≤◌, length, drop};
-ghost use Rattle.bytes.specs.Little.{words_of};
+ghost use Rattle.octets.specs.Little.{words_of};
 ghost use Rattle.meaning.specs.Limits.{first_heap_cell};
 ghost use Rattle.meaning.specs.Sound.{capacity};
 ghost use Rattle.meaning.specs.Program.{lines_of, output};
@@ -75,7 +75,7 @@ pub fn serve_calls(cells: usize, input: &[u8], out: &mut [u8]) -> usize
         out.new result }
 {
     let mut words = [0u32; PROGRAM_BYTES / 4];
-    bytes::reading::fill_words(&mut words, input);
+    octets::reading::fill_words(&mut words, input);
     let n = input.len() / 4;
     serve_words(cells, &words[1..n], out)
 }

@@ -1,21 +1,21 @@
 // The program's output: lines of numbers, written from left to right. What writes a line takes the pen and gives it as
 // it is after its bytes; `report` and `refuse` begin at the start of a space that has room for all they write.
 ghost use Rattle.std.specs.Prelude.{◌≡◌, [], ◌∷◌, ◌++◌, ◌≤◌, length};
-ghost use Rattle.bytes.specs.Decimal.{decimal};
-ghost use Rattle.bytes.specs.Space.{write};
-ghost use Rattle.bytes.specs.Pens.{space};
+ghost use Rattle.octets.specs.Decimal.{decimal};
+ghost use Rattle.octets.specs.Space.{write};
+ghost use Rattle.octets.specs.Pens.{space};
 ghost use Rattle.meaning.specs.Program.{lines_of, refusal};
 ghost use Rattle.serve.specs.Front.{Front};
 ghost use Rattle.serve.specs.Lines.{top_line};
 
-use bytes::writing::Pen;
+use octets::writing::Pen;
 
 // n in decimal, and the byte that ends it.
 fn field(out: &mut [u8], pen: Pen, n: usize, end: u8) -> Pen
     ensures { space out.new result ≡ write (decimal n ++ (end ∷ [])) (space out.old pen) }
 {
-    let last = bytes::writing::put_decimal(out, pen, n);
-    bytes::writing::put(out, last, end)
+    let last = octets::writing::put_decimal(out, pen, n);
+    octets::writing::put(out, last, end)
 }
 
 // A line of two numbers: a status and a value.
@@ -43,7 +43,7 @@ fn lines(out: &mut [u8], pen: Pen, answers: &[u32]) -> Pen
 fn last_line(out: &mut [u8], pen: Pen, top: usize) -> Pen
     ensures { space out.new result ≡ write (top_line top) (space out.old pen) }
 {
-    let name = bytes::writing::put_bytes(out, pen, b"top ");
+    let name = octets::writing::put_bytes(out, pen, b"top ");
     field(out, name, top, b'\n')
 }
 
@@ -52,7 +52,7 @@ pub fn report(out: &mut [u8], answers: &[u32], top: usize) -> usize
     requires { length (lines_of answers.now ++ top_line top) ≤ length out.old }
     ensures { Front out.old (lines_of answers.now ++ top_line top) out.new result }
 {
-    let last = lines(out, bytes::writing::start(), answers);
+    let last = lines(out, octets::writing::start(), answers);
     let pen = last_line(out, last, top);
     pen.place
 }
@@ -62,7 +62,7 @@ pub fn refuse(out: &mut [u8], s: usize) -> usize
     requires { length (refusal s 0) ≤ length out.old }
     ensures { Front out.old (refusal s 0) out.new result }
 {
-    let name = bytes::writing::put_bytes(out, bytes::writing::start(), b"refused ");
+    let name = octets::writing::put_bytes(out, octets::writing::start(), b"refused ");
     let pen = line(out, name, s, 0);
     pen.place
 }

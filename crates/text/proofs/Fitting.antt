@@ -15,10 +15,10 @@ use lib.Dec.{eqb}
 use lib.ListN.{length, take, drop, set, length-set, length-append, length-drop}
 use lib.Seq.{take_at}
 use borrow.Author.Tests.{eqb-true, eqb-false}
-use Rattle.bytes.specs.Space as space
-use Rattle.bytes.specs.Space.{Space, up_to, put_byte, write, filled}
-use Rattle.bytes.proofs.Spaces.{put_in, put_past, same_space}
-use Rattle.bytes.proofs.Final.{write_fits, write_short}
+use Rattle.octets.specs.Space as space
+use Rattle.octets.specs.Space.{Space, up_to, put_byte, write, filled}
+use Rattle.octets.proofs.Spaces.{put_in, put_past, same_space}
+use Rattle.octets.proofs.Final.{write_fits, write_short}
 use Rattle.meaning.specs.Limits.{first_heap_cell, depth_limit}
 use Rattle.meaning.specs.Sound.{at, Sound}
 use Rattle.meaning.specs.Meaning.{run, term_at, meaning}

@@ -14,10 +14,10 @@ use mathlib.Core.List.{List, [], ◌∷◌, ◌++◌, append_assoc}
 use Prim.Native.Nat.{ℕ, zero, suc}
 use native.Mathlib.Omega.{arith}
 use borrow.Author.Tests.{ne_eqb}
-use Rattle.bytes.specs.Decimal.{decimal}
-use Rattle.bytes.specs.Claims.{AllDigits}
-use Rattle.bytes.proofs.Spaces.{put_short}
-use Rattle.bytes.proofs.Final.{only_digits}
+use Rattle.octets.specs.Decimal.{decimal}
+use Rattle.octets.specs.Claims.{AllDigits}
+use Rattle.octets.proofs.Spaces.{put_short}
+use Rattle.octets.proofs.Final.{only_digits}
 use Rattle.meaning.specs.Expr.{Expr, nothing, symbol, parens}
 use Rattle.meaning.specs.Text.{text, left_after, too_deep}
 use Rattle.meaning.proofs.text.Texts.{tail}

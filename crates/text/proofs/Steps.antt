@@ -14,9 +14,9 @@ use mathlib.Core.Bool.{Bool, true, false, true≢false}
 use mathlib.Core.List.{List, [], ◌∷◌, ◌++◌}
 use Prim.Native.Nat.{ℕ, zero, suc, ◌+◌, ◌-◌, ◌≤◌, ◌<◌}
 use native.Mathlib.Omega.{arith}
-use Rattle.bytes.specs.Decimal.{decimal}
-use Rattle.bytes.specs.Space.{Space}
-use Rattle.bytes.proofs.Final.{only_digits}
+use Rattle.octets.specs.Decimal.{decimal}
+use Rattle.octets.specs.Space.{Space}
+use Rattle.octets.proofs.Final.{only_digits}
 use Rattle.meaning.specs.Limits.{first_heap_cell}
 use Rattle.meaning.specs.Expr.{Expr, nothing, symbol, parens, append, terms}
 use Rattle.meaning.specs.Sound.{Cell, code, empty, ends, at, Sound, start, size}

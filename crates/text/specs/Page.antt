@@ -8,8 +8,8 @@
 --   Within                    which cells an expression may have
 -- Assumes nothing.
 use Rattle.std.specs.Prelude.{Bool, true, false, cond, List, [], ◌∷◌, ℕ, zero, suc, ◌+◌, ◌≤◌, ◌<◌, length, take}
-use Rattle.bytes.specs.Space as space
-use Rattle.bytes.specs.Space.{Space, put_byte, write, filled}
+use Rattle.octets.specs.Space as space
+use Rattle.octets.specs.Space.{Space, put_byte, write, filled}
 use Rattle.meaning.specs.Limits.{first_heap_cell}
 use Rattle.meaning.specs.Verdicts.{only}
 use Rattle.meaning.specs.Text.{left_after, too_deep, Printed, unprinted}

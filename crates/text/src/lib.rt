@@ -3,7 +3,7 @@
 // The text is written from left to right, each byte once, up to the first trouble: a byte that does not fit, or a
 // bracket that is one too many. Then the whole space becomes zero.
 ghost use Rattle.std.specs.Prelude.{◌≡◌, [], ◌<◌, length};
-ghost use Rattle.bytes.specs.Space.{filled};
+ghost use Rattle.octets.specs.Space.{filled};
 ghost use Rattle.meaning.specs.Limits.{first_heap_cell};
 ghost use Rattle.meaning.specs.Sound.{Sound};
 ghost use Rattle.meaning.specs.Meaning.{meaning};
@@ -12,7 +12,7 @@ ghost use Rattle.text.specs.Answers.{printed_in, Prints};
 ghost use Rattle.text.specs.Page.{page, ended};
 
 use crate::writers::Progress;
-use bytes::writing;
+use octets::writing;
 use store::{Checked, Unsound};
 
 mod writers;

@@ -8,11 +8,11 @@ ghost use Rattle.meaning.specs.Limits.{first_heap_cell};
 ghost use Rattle.meaning.specs.Sound.{Sound};
 ghost use Rattle.meaning.specs.Meaning.{run, term_at};
 ghost use Rattle.meaning.specs.Text.{text};
-ghost use Rattle.bytes.specs.Decimal.{decimal};
+ghost use Rattle.octets.specs.Decimal.{decimal};
 ghost use Rattle.text.specs.Page.{page, plain, written, stopped, between, writes, Within};
 
-use bytes::writing;
-use bytes::writing::Pen;
+use octets::writing;
+use octets::writing::Pen;
 
 // How far a text has come: where the next byte goes, whether nothing more is written, and whether that is for a bracket
 // that is one too many. It holds a pen's fields and no pen, which would be copied with the bytes behind its flag.

@@ -16,9 +16,9 @@ use native.Mathlib.Nat.{not-suc-le-zero}
 use lib.ListN.{length, get_or, drop, drop_of_length-le}
 use lib.Seq.{drop-cons}
 use borrow.Author.Tests.{le-leb, ne_eqb}
-use Rattle.bytes.specs.Decimal.{decimal}
-use Rattle.bytes.specs.Claims.{value_after, AllDigits}
-use Rattle.bytes.proofs.Decimals.{length_one, length_more, decimal_back, only_digits}
+use Rattle.octets.specs.Decimal.{decimal}
+use Rattle.octets.specs.Claims.{value_after, AllDigits}
+use Rattle.octets.proofs.Decimals.{length_one, length_more, decimal_back, only_digits}
 use Rattle.meaning.specs.Judge.{is_digit, with_digit}
 use Rattle.meaning.proofs.Lists.{lt_or_ge}
 use Rattle.meaning.proofs.reader.Moves.{digit_range}

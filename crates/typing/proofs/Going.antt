@@ -12,7 +12,7 @@ use native.Mathlib.Omega.{arith}
 use lib.ListN.{length, drop, length-append}
 use Rattle.meaning.specs.Expr.{Expr, nothing, symbol, parens, append, terms, first_term, less_first}
 use Rattle.meaning.specs.Sound.{Cell}
-use Rattle.bytes.specs.Decimal.{decimal}
+use Rattle.octets.specs.Decimal.{decimal}
 use Rattle.meaning.specs.Text.{gap, text, Readable}
 use Rattle.meaning.specs.Lay.{all_terms, own_cells, deep_cells, laid}
 use Rattle.meaning.proofs.meaning.Terms.{append_append, append_nothing, terms_append}

@@ -13,7 +13,7 @@ use lib.ListN.{length, get_or, drop}
 use Rattle.meaning.specs.Limits.{limit}
 use Rattle.meaning.specs.Expr.{Expr, nothing, symbol, parens, terms}
 use Rattle.meaning.specs.Sound.{Cell, code}
-use Rattle.bytes.specs.Decimal.{decimal}
+use Rattle.octets.specs.Decimal.{decimal}
 use Rattle.meaning.specs.Text.{gap, text, Readable}
 use Rattle.meaning.specs.Judge.{is_digit}
 use Rattle.meaning.specs.Lay.{all_terms, last_below, laid}

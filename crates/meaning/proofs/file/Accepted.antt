@@ -16,9 +16,9 @@ use native.Mathlib.Omega.{arith}
 use lib.Dec.{ltb, leb, eqb}
 use lib.ListN.{length, replicate, length-drop}
 use borrow.Author.Tests.{leb-true, ltb-false, eqb-true, lt-ltb, le-ltb, le-leb, eq-eqb, ne_eqb}
-use Rattle.bytes.specs.Little.{words_of}
-use Rattle.bytes.proofs.Endian.{words_length}
-use Rattle.bytes.proofs.Filling.{filled_length, filled_fits}
+use Rattle.octets.specs.Little.{words_of}
+use Rattle.octets.proofs.Endian.{words_length}
+use Rattle.octets.proofs.Filling.{filled_length, filled_fits}
 use Rattle.meaning.specs.Limits.{limit}
 use Rattle.meaning.specs.Sound.{Sound}
 use Rattle.meaning.specs.Reach.{live}

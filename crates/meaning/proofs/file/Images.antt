@@ -11,7 +11,7 @@ use native.Mathlib.Omega.{arith}
 use lib.ListN.{length, get_or, take, drop, replicate, length-append, length-drop, get_or-append}
 use lib.Seq.{get_or-append-add, get_or-drop, get_or-take, length-take-le}
 use Rattle.words.specs.Cell.{first_word, second_word}
-use Rattle.bytes.proofs.Filling.{padded_at}
+use Rattle.octets.proofs.Filling.{padded_at}
 use Rattle.meaning.specs.Sound.{at}
 use Rattle.meaning.specs.Reach.{held_below}
 use Rattle.meaning.specs.Check.{cell_test, damaged}

@@ -12,8 +12,8 @@ use native.Mathlib.Omega.{arith}
 use lib.ListN.{length, get_or, take, drop, replicate, length-drop, take-append-drop}
 use lib.Seq.{get_or-drop, drop-drop, length-take-le, take_at, drop_at}
 use borrow.Author.Tests.{eq-eqb}
-use Rattle.bytes.specs.Little.{words_of, bytes_of}
-use Rattle.bytes.proofs.Endian.{bytes_back, words_drop, words_length}
+use Rattle.octets.specs.Little.{words_of, bytes_of}
+use Rattle.octets.proofs.Endian.{bytes_back, words_drop, words_length}
 use Rattle.meaning.specs.Sound.{Sound}
 use Rattle.meaning.specs.Reach.{live}
 use Rattle.meaning.specs.Collected.{collected, collected_top}

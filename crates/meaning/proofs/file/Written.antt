@@ -12,9 +12,9 @@ use native.Mathlib.Omega.{arith}
 use lib.ListN.{length, get_or, take, drop, replicate, length-append, length-drop, length-replicate, get_or-replicate}
 use lib.ListN.{take-append-drop}
 use lib.Seq.{get_or-drop, length-take-le, ext_get_or, take-add, take_at, drop_at, drop-append-add, drop-append_seam}
-use Rattle.bytes.specs.Little.{words_of, bytes_of}
-use Rattle.bytes.proofs.Endian.{bytes_length, bytes_append, words_drop, words_back}
-use Rattle.bytes.proofs.Filling.{filled_fits}
+use Rattle.octets.specs.Little.{words_of, bytes_of}
+use Rattle.octets.proofs.Endian.{bytes_length, bytes_append, words_drop, words_back}
+use Rattle.octets.proofs.Filling.{filled_fits}
 use Rattle.meaning.specs.Sound.{Sound, capacity}
 use Rattle.meaning.specs.File.{distance_for, file_words, file_of, trailer, file_distance, file_cells, file_capacity}
 use Rattle.meaning.specs.File.{file_edition, body, cells_in, image}

@@ -15,7 +15,7 @@ use lib.Dec.{ltb}
 use lib.ListN.{length, get_or, take, drop}
 use lib.Seq.{length-take-le, take_all}
 use borrow.Author.Tests.{lt-ltb, le-ltb}
-use Rattle.bytes.specs.Little.{words_of}
+use Rattle.octets.specs.Little.{words_of}
 use Rattle.meaning.specs.Limits.{limit, program_cells, program_bytes}
 use Rattle.meaning.specs.Program.{refusal, output, input_fault, program}
 use Rattle.meaning.proofs.Lists.{lt_or_ge}

@@ -11,7 +11,7 @@ use mathlib.Core.List.{List, ◌∷◌, ◌++◌}
 use Prim.Native.Nat.{ℕ, zero, suc, ◌+◌, ◌≤◌, ◌<◌}
 use native.Mathlib.Omega.{arith}
 use lib.ListN.{length}
-use Rattle.bytes.specs.Decimal.{decimal}
+use Rattle.octets.specs.Decimal.{decimal}
 use Rattle.meaning.specs.Limits.{depth_limit, terms_limit}
 use Rattle.meaning.specs.Expr.{Expr, nothing, symbol, parens, append, terms}
 use Rattle.meaning.specs.Lay.{all_terms}

@@ -14,8 +14,8 @@ use native.Mathlib.Omega.{arith}
 use native.Mathlib.Nat.{not-suc-le-zero}
 use lib.ListN.{length, length-append}
 use borrow.Author.Tests.{lt-ltb, ne_eqb}
-use Rattle.bytes.specs.Decimal.{decimal}
-use Rattle.bytes.proofs.Decimals.{decimal_one, decimal_more}
+use Rattle.octets.specs.Decimal.{decimal}
+use Rattle.octets.proofs.Decimals.{decimal_one, decimal_more}
 use Rattle.meaning.specs.Limits.{code_test, depth_limit}
 use Rattle.meaning.specs.Sound.{IsCode}
 use Rattle.meaning.specs.Judge.{Stand, begun, spaced, number, closed, stopped}

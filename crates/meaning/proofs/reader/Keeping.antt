@@ -12,8 +12,8 @@ use Prim.Native.Nat.{ℕ, suc, ◌+◌, ◌-◌, ◌*◌, ◌/◌, ◌%◌, ◌�
 use native.Mathlib.Omega.{arith}
 use lib.Dec.{eqb}
 use borrow.Author.Tests.{eqb-true}
-use Rattle.bytes.specs.Decimal.{decimal}
-use Rattle.bytes.proofs.Decimals.{decimal_one, decimal_more}
+use Rattle.octets.specs.Decimal.{decimal}
+use Rattle.octets.proofs.Decimals.{decimal_one, decimal_more}
 use Rattle.meaning.specs.Limits.{depth_limit}
 use Rattle.meaning.specs.Expr.{Expr, nothing, symbol, parens, append, terms}
 use Rattle.meaning.specs.Sound.{IsCode}

@@ -9,7 +9,7 @@ use mathlib.Core.List.{List}
 use Prim.Native.Nat.{ℕ, suc, ◌≤◌, ◌<◌}
 use lib.ListN.{length}
 use borrow.Author.Tests.{lt-ltb, le-ltb}
-use Rattle.bytes.specs.Space.{filled}
+use Rattle.octets.specs.Space.{filled}
 use Rattle.meaning.specs.Limits.{depth_limit}
 use Rattle.meaning.specs.Sound.{Sound}
 use Rattle.meaning.specs.Meaning.{meaning}

@@ -12,7 +12,7 @@ use mathlib.Core.List.{List, [], ◌∷◌, ◌++◌, append_assoc, append-nil}
 use Prim.Native.Nat.{ℕ, zero, suc, ◌<◌}
 use native.Mathlib.Omega.{arith}
 use lib.ListN.{drop}
-use Rattle.bytes.specs.Decimal.{decimal}
+use Rattle.octets.specs.Decimal.{decimal}
 use Rattle.meaning.specs.Expr.{Expr, nothing, symbol, parens, append, terms}
 use Rattle.meaning.specs.Sound.{Cell, code, empty, ends}
 use Rattle.meaning.specs.Meaning.{term_of}

@@ -16,9 +16,9 @@ use native.Mathlib.Omega.{arith}
 use lib.Dec.{eqb}
 use lib.ListN.{length, length-append}
 use borrow.Author.Tests.{ne_eqb}
-use Rattle.bytes.specs.Decimal.{decimal}
-use Rattle.bytes.specs.Claims.{AllDigits}
-use Rattle.bytes.proofs.Final.{only_digits}
+use Rattle.octets.specs.Decimal.{decimal}
+use Rattle.octets.specs.Claims.{AllDigits}
+use Rattle.octets.proofs.Final.{only_digits}
 use Rattle.meaning.specs.Expr.{Expr, nothing, symbol, parens}
 use Rattle.meaning.specs.Text.{gap, text, Readable, left_after, too_deep, trouble}
 use Rattle.meaning.proofs.lay.Each.{Coded}

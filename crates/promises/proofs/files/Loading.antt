@@ -13,8 +13,8 @@ use lib.Dec.{eqb}
 use lib.ListN.{length, get_or, get_or-eq_default}
 use borrow.Author.Tests.{eqb-true, eqb-false, eq-eqb, ne_eqb}
 use Rattle.words.specs.Cell.{first_word, second_word}
-use Rattle.bytes.specs.Little.{words_of}
-use Rattle.bytes.proofs.Filling.{padded_at}
+use Rattle.octets.specs.Little.{words_of}
+use Rattle.octets.proofs.Filling.{padded_at}
 use Rattle.meaning.specs.Sound.{Allowed, Sound}
 use Rattle.meaning.specs.Reach.{live}
 use Rattle.meaning.specs.Verdicts.{Verdict, only, damaged_at, Done, done, refused}

@@ -9,8 +9,8 @@ use Prim.Native.Nat.{ℕ, zero, suc, ◌+◌, ◌-◌, ◌*◌, ◌≤◌, ◌<�
 use native.Mathlib.Omega.{arith}
 use lib.ListN.{length, get_or, replicate}
 use borrow.Author.Tests.{le-leb, lt-leb}
-use Rattle.bytes.proofs.Final.{filled_fits}
-use Rattle.bytes.proofs.Filling.{padded_at}
+use Rattle.octets.proofs.Final.{filled_fits}
+use Rattle.octets.proofs.Filling.{padded_at}
 use Rattle.meaning.specs.Sound.{Sound}
 use Rattle.meaning.specs.Reach.{live}
 use Rattle.meaning.specs.Collected.{collected}

@@ -11,8 +11,8 @@ use Prim.Native.Nat.{ℕ, zero, suc, ◌+◌, ◌-◌, ◌*◌, ◌≤◌, ◌<�
 use native.Mathlib.Omega.{arith}
 use lib.ListN.{length, get_or, take, drop, length-append, get_or-append}
 use lib.Seq.{get_or-append-add, get_or-drop, get_or-take, ext_get_or}
-use Rattle.bytes.specs.Little.{words_of, bytes_of}
-use Rattle.bytes.proofs.Endian.{words_length, word_at_lem, words_back, bytes_back}
+use Rattle.octets.specs.Little.{words_of, bytes_of}
+use Rattle.octets.proofs.Endian.{words_length, word_at_lem, words_back, bytes_back}
 use Rattle.meaning.specs.Sound.{capacity}
 use Rattle.meaning.specs.File.{distance_for, first_of, file_words, file_of, file_cells}
 use Rattle.meaning.proofs.Lists.{lt_or_ge}

@@ -9,8 +9,8 @@ use mathlib.Core.List.{List, [], ◌∷◌}
 use Prim.Native.Nat.{ℕ, zero, suc, ◌-◌, ◌≤◌, ◌<◌}
 use native.Mathlib.Omega.{arith}
 use lib.ListN.{replicate}
-use Rattle.bytes.specs.Space.{filled}
-use Rattle.bytes.proofs.Final.{filled_fits}
+use Rattle.octets.specs.Space.{filled}
+use Rattle.octets.proofs.Final.{filled_fits}
 use Rattle.meaning.specs.Limits.{depth_limit}
 use Rattle.meaning.specs.Sound.{Sound}
 use Rattle.meaning.specs.Meaning.{meaning}

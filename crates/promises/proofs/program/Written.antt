@@ -6,9 +6,9 @@ use mathlib.Core.List.{List, [], ◌∷◌, ◌++◌}
 use Prim.Native.Nat.{ℕ, ◌-◌, ◌*◌, ◌/◌, ◌%◌, ◌≤◌, ◌<◌}
 use native.Mathlib.Omega.{arith}
 use lib.ListN.{length, get_or, drop, replicate, length-drop, length-replicate}
-use Rattle.bytes.specs.Little.{words_of}
-use Rattle.bytes.specs.Decimal.{decimal}
-use Rattle.bytes.proofs.Endian.{words_length}
+use Rattle.octets.specs.Little.{words_of}
+use Rattle.octets.specs.Decimal.{decimal}
+use Rattle.octets.proofs.Endian.{words_length}
 use Rattle.meaning.specs.Limits.{limit, code_test, calls_limit, program_cells, program_bytes}
 use Rattle.meaning.specs.Sound.{at, Sound}
 use Rattle.meaning.specs.Reach.{reached, live}

@@ -13,8 +13,8 @@ use native.Mathlib.Omega.{arith}
 use lib.ListN.{length, take, replicate}
 use lib.Seq.{take_at}
 use borrow.Author.Tests.{eq-eqb}
-use Rattle.bytes.specs.Space.{filled}
-use Rattle.bytes.proofs.Final.{filled_fits}
+use Rattle.octets.specs.Space.{filled}
+use Rattle.octets.proofs.Final.{filled_fits}
 use Rattle.meaning.specs.Limits.{depth_limit, terms_limit}
 use Rattle.meaning.specs.Expr.{Expr}
 use Rattle.meaning.specs.Sound.{capacity, Sound}

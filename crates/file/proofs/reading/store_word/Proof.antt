@@ -1,7 +1,7 @@
 -- `file::reading::store_word` meets its contract. Assumes nothing.
 use mathlib.Core.Path.{sym, ◌∙◌}
 use native.Mathlib.Omega.{arith}
-use Rattle.bytes.proofs.Endian.{words_length}
+use Rattle.octets.proofs.Endian.{words_length}
 use Rattle.meaning.proofs.file.Images.{cells_low, cells_high}
 use borrow.Author.Rules.{rules}
 use Rattle.file.proofs.reading.store_word.Statement.{statement}

@@ -1,7 +1,7 @@
 -- `serve::writing::field` meets its contract. Assumes nothing.
 use mathlib.Core.List.{[], ◌∷◌}
-use Rattle.bytes.specs.Decimal.{decimal}
-use Rattle.bytes.proofs.Spaces.{write_then}
+use Rattle.octets.specs.Decimal.{decimal}
+use Rattle.octets.proofs.Spaces.{write_then}
 use borrow.Author.Rules.{rules}
 use Rattle.serve.proofs.writing.field.Statement.{statement}
 use Rattle.serve.proofs.writing.field.Tie as tie

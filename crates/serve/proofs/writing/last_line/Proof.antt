@@ -1,7 +1,7 @@
 -- `serve::writing::last_line` meets its contract. Assumes nothing.
 use mathlib.Core.List.{[], ◌∷◌, ◌++◌}
-use Rattle.bytes.specs.Decimal.{decimal}
-use Rattle.bytes.proofs.Spaces.{write_then}
+use Rattle.octets.specs.Decimal.{decimal}
+use Rattle.octets.proofs.Spaces.{write_then}
 use Rattle.meaning.specs.Program.{written}
 use borrow.Author.Rules.{rules}
 use Rattle.serve.proofs.writing.last_line.Statement.{statement}

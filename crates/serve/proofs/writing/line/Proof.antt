@@ -1,7 +1,7 @@
 -- `serve::writing::line` meets its contract: two fields are a line. Assumes nothing.
 use mathlib.Core.List.{[], ◌∷◌, ◌++◌}
-use Rattle.bytes.specs.Decimal.{decimal}
-use Rattle.bytes.proofs.Spaces.{write_then}
+use Rattle.octets.specs.Decimal.{decimal}
+use Rattle.octets.proofs.Spaces.{write_then}
 use Rattle.serve.proofs.Spacing.{line_fields}
 use borrow.Author.Rules.{rules}
 use Rattle.serve.proofs.writing.line.Statement.{statement}

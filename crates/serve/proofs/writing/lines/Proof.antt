@@ -3,9 +3,9 @@ use mathlib.Core.Path.{◌≡◌, refl}
 use Prim.Native.Nat.{◌+◌, ◌-◌, ◌≤◌}
 use native.Mathlib.Omega.{arith}
 use lib.ListN.{length, drop}
-use Rattle.bytes.specs.Space.{write}
-use Rattle.bytes.specs.Pens.{space}
-use Rattle.bytes.proofs.Spaces.{same_space}
+use Rattle.octets.specs.Space.{write}
+use Rattle.octets.specs.Pens.{space}
+use Rattle.octets.proofs.Spaces.{same_space}
 use Rattle.meaning.specs.Program.{lines_of}
 use Rattle.serve.proofs.Spacing.{lines_next, lines_none}
 use Rattle.serve.proofs.writing.lines.Statement.{statement}

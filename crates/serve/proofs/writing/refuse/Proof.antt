@@ -2,8 +2,8 @@
 use mathlib.Core.Path.{ap, ◌∙◌}
 use mathlib.Core.List.{List, [], ◌∷◌}
 use Prim.Native.Nat.{ℕ}
-use Rattle.bytes.specs.Space.{write}
-use Rattle.bytes.proofs.Spaces.{write_then}
+use Rattle.octets.specs.Space.{write}
+use Rattle.octets.proofs.Spaces.{write_then}
 use Rattle.meaning.specs.Program.{lines_of, refusal}
 use Rattle.serve.proofs.Spacing.{front}
 use borrow.Author.Rules.{rules}

@@ -1,8 +1,8 @@
 -- `serve::writing::report` meets its contract. Assumes nothing.
 use mathlib.Core.Path.{ap, ◌∙◌}
 use mathlib.Core.List.{◌++◌}
-use Rattle.bytes.specs.Space.{write}
-use Rattle.bytes.proofs.Spaces.{write_then}
+use Rattle.octets.specs.Space.{write}
+use Rattle.octets.proofs.Spaces.{write_then}
 use Rattle.meaning.specs.Program.{lines_of}
 use Rattle.serve.specs.Lines.{top_line}
 use Rattle.serve.proofs.Spacing.{front}
