@@ -1,6 +1,8 @@
 // A batch of calls on a lent store. The store, the call list and the answer space are tested first, in the order of
 // SCOPE 5.1, and a refused batch leaves everything as it is lent. Else each call is carried out after the one before
 // it, and its status and value are written into the answers; what is left of the answers is zeroed.
+#![tactic(auto)]
+
 ghost use Rattle.std.specs.Prelude.{◌≡◌, ◌+◌, ◌*◌, ◌/◌, ◌%◌, ◌≤◌, ◌<◌, length, take};
 ghost use Rattle.meaning.specs.Limits.{first_heap_cell};
 ghost use Rattle.meaning.specs.Sound.{Sound};

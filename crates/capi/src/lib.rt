@@ -2,6 +2,8 @@
 // back: a reply is a struct of SCOPE's numbers (5), so is what printing, typing and saving give, and a look is a place.
 // A text that comes in pieces is a struct too, which goes in and comes back by value.
 // Each exported function is one call of a proved one, and takes whatever it is handed.
+#![tactic(auto)]
+
 ghost use Rattle.std.specs.Prelude.{◌≡◌, ◌≤◌};
 ghost use Rattle.meaning.specs.Limits.{limit};
 ghost use Rattle.meaning.specs.Verdicts.{valued};

@@ -15,6 +15,8 @@
 // Cleared  the cells that have come free are zero.
 // Sweeps is a definition of specs/Passes.antt, the others of specs/Lowering.antt; the phases within the sweep are in
 // specs/Phases.antt.
+#![tactic(auto)]
+
 ghost use Rattle.std.specs.Prelude.{◌≡◌, cond, ◌-◌, ltb};
 ghost use Rattle.meaning.specs.Limits.{first_heap_cell};
 ghost use Rattle.meaning.specs.Sound.{Sound};

@@ -1,6 +1,8 @@
 // A store as a file, for a controller swap (SCOPE 2.5, 5.9, 5.10): loaded into a slice of words, and saved to a space
 // of bytes, both of which the caller lends. A file is judged before a word of the slice is written.
 // The numbers that an answer stands for are in specs/Answers.antt.
+#![tactic(auto)]
+
 ghost use Rattle.std.specs.Prelude.{◌≡◌, length};
 ghost use Rattle.meaning.specs.Limits.{first_heap_cell, edition};
 ghost use Rattle.meaning.specs.Sound.{Sound};

@@ -1,5 +1,6 @@
 // The numbers that the code shares with the definitions of this crate. Each stands here once, and once in
 // specs/Limits.antt.
+#![tactic(auto)]
 
 // The first heap cell; the registers are the cells below it.
 pub const FIRST_HEAP_CELL: usize = 16;

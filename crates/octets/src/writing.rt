@@ -8,7 +8,7 @@ ghost use Rattle.octets.specs.Space.{blank, put_byte, write, filled};
 ghost use Rattle.octets.specs.Pens.{space};
 
 // Where the next byte goes, and whether a byte did not fit.
-#[derive(Drop)]
+#[derive(Clone, Copy)]
 pub struct Pen {
     pub place: usize,
     pub short: bool,

@@ -2,6 +2,8 @@
 // the most of one level. The state goes from piece to piece as a struct by value, in numbers alone, so that it can
 // cross to C; a struct that no start made is taken too. Each byte is judged and read by crate `reader`. A whole text is
 // read here too, for crate `typing`.
+#![tactic(auto)]
+
 ghost use Rattle.std.specs.Prelude.{◌≡◌, ◌&&◌};
 ghost use Rattle.meaning.specs.Reader.{advances, at_start, is_whole};
 ghost use Rattle.meaning.specs.Pieces.{fits};

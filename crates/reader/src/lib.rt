@@ -1,6 +1,8 @@
 // One byte of a text read (SCOPE 5.8): where the reader stands decides what a byte does, and a byte that cannot go on
 // stops it for good. The state is a struct by value. Nothing is laid here: at its end the reader tells how many terms a
 // text has, or why it is none. The loop over bytes is in crate `pieces`.
+#![tactic(auto)]
+
 ghost use Rattle.std.specs.Prelude.{◌≡◌};
 ghost use Rattle.meaning.specs.Judge.{judge};
 ghost use Rattle.meaning.specs.Reader.{moved, is_full};

@@ -1,5 +1,7 @@
 // What the program writes for what it reads: the input's first word is a capacity and the others are calls; a batch of
 // them is run on a fresh store, and its answers become lines. Nothing here reads or writes a file.
+#![tactic(auto)]
+
 mod running;
 mod writing;
 

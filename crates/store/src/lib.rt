@@ -1,5 +1,7 @@
 // A store lent as a slice of words: its check, a fresh store, a look at a register; and, for the crates above, what a
 // cell of a sound store holds. The numbers of SCOPE 5.1 that an answer stands for are in specs/Answers.antt.
+#![tactic(auto)]
+
 ghost use Rattle.std.specs.Prelude.{◌≡◌, ◌+◌, ◌*◌, ◌≤◌, ◌<◌, eqb, length, take};
 ghost use Rattle.meaning.specs.Limits.{first_heap_cell};
 ghost use Rattle.meaning.specs.Sound.{at};

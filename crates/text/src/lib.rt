@@ -2,6 +2,8 @@
 //
 // The text is written from left to right, each byte once, up to the first trouble: a byte that does not fit, or a
 // bracket that is one too many. Then the whole space becomes zero.
+#![tactic(auto)]
+
 ghost use Rattle.std.specs.Prelude.{◌≡◌, [], ◌<◌, length};
 ghost use Rattle.octets.specs.Space.{filled};
 ghost use Rattle.meaning.specs.Limits.{first_heap_cell};

@@ -1,5 +1,7 @@
 // A register typed in (SCOPE 5.8): the way back from a printed text. The store is checked first, then the register,
 // then the whole text is read, and only then is room made and the text laid. Register d is set last.
+#![tactic(auto)]
+
 ghost use Rattle.std.specs.Prelude.{◌≡◌, false, ◌<◌};
 ghost use Rattle.meaning.specs.Limits.{first_heap_cell};
 ghost use Rattle.meaning.specs.Sound.{Sound};

@@ -4,6 +4,8 @@
 // The rows are written over the numbers of `meaning`, and any others prove as well. What they must write, the file
 // stdout, is a text for 16 registers and the present limits: with other numbers, read what the program then writes and
 // put it there.
+#![tactic(auto)]
+
 mod answers;
 mod batches;
 mod cells;

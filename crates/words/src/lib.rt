@@ -1,6 +1,8 @@
 // A cell's two words. This is the only crate that knows which bit says what: the second word is taken apart and put
 // together here, by masks and shifts, and the cells of a lent slice are read, written and zeroed here. The mark, bit
 // 30, is never set: it is 0 between calls, and the collector needs none.
+#![tactic(auto)]
+
 ghost use Rattle.std.specs.Prelude.{◌≡◌, true, false, ◌++◌, ◌+◌, ◌-◌, ◌*◌, ◌≤◌, ◌<◌, ◌^◌, length, take, replicate};
 ghost use Rattle.words.specs.Cell.{first_word, second_word, put_cell};
 ghost use Rattle.words.specs.Second.{decode, with_ri, with_lc, with_rc, plain, stray, full_word, bracket_to};

@@ -4,6 +4,8 @@
 // No contract can say what is read and written. A read that fails counts as the end of the input; output that cannot be
 // written, as on a full disk, is lost; and there is no exit status, the program ends with 0 in both cases. An output is
 // whole exactly if it ends with a line `top N` or `refused N V`. tools/program-test holds that each byte read is served.
+#![tactic(auto)]
+
 use libc::{STDIN_FILENO, STDOUT_FILENO};
 
 fn main() {
