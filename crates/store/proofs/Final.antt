@@ -54,8 +54,8 @@ one_span ws top i r r' p q = ap span_from (p.0 ∙ sym q.0)
 
 pub one_look : OneLook
 one_look ws top i r r' p q =
-    let b : r.ptr.0 ≡ r'.ptr.0 = p.1.0 ∙ sym q.1.0 in
-    let o : r.ptr.1 ≡ r'.ptr.1 = p.1.1 ∙ sym q.1.1 in
+    let b : r.ref_ptr.0 ≡ r'.ref_ptr.0 = p.1.0 ∙ sym q.1.0 in
+    let o : r.ref_ptr.1 ≡ r'.ref_ptr.1 = p.1.1 ∙ sym q.1.1 in
     (p.0 ∙ sym q.0, λ j. (b j, o j))
 
 pub look_at_span : LookAtSpan

@@ -1,0 +1,31 @@
+-- `store::fresh` meets its contract. Assumes nothing.
+use mathlib.Core.Path.{◌≡◌, sym, ◌∙◌}
+use mathlib.Core.Bool.{true}
+use native.Mathlib.Omega.{arith}
+use lib.ListN.{length}
+use borrow.Author.Rules.{rules}
+use Rattle.meaning.specs.Limits.{first_heap_cell}
+use Rattle.meaning.specs.Check.{length_test}
+use Rattle.meaning.proofs.check.Checking.{length_yes}
+use Rattle.meaning.proofs.fresh.Making.{fresh_refused, fresh_done}
+use Rattle.store.proofs.fresh.Goals as goal
+
+pub returns-then-not-length_ok : goal.returns-then-not-length_ok
+returns-then-not-length_ok c = sym (fresh_refused first_heap_cell _ (sym c.length_ok.ensures ∙ c.if-not-length_ok.true))
+
+pub empty_registers-requires : goal.empty_registers-requires
+empty_registers-requires c =
+    let long : length_test first_heap_cell (length c.args.ws.now) ≡ true = sym c.length_ok.ensures ∙ c.if-not-length_ok.false in
+    (length_yes first_heap_cell _ (long)).large
+
+pub zero_from-requires : goal.zero_from-requires
+zero_from-requires c =
+    let long : length_test first_heap_cell (length c.args.ws.now) ≡ true = sym c.length_ok.ensures ∙ c.if-not-length_ok.false in
+    omega (arith, (length_yes first_heap_cell _ (long)).large)
+
+pub returns : goal.returns
+returns c =
+    let long : length_test first_heap_cell (length c.args.ws.now) ≡ true = sym c.length_ok.ensures ∙ c.if-not-length_ok.false in
+    sym (fresh_done first_heap_cell c.args.ws.now (long)
+    c.empty_registers.new.ws (search rules) c.empty_registers.ensures
+    c.zero_from.ensures)

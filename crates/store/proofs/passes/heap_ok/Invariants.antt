@@ -1,0 +1,14 @@
+-- `store::passes::heap_ok` meets its contract. The loop's invariant: nothing is gathered only where the cells passed
+-- keep their rules. The measure is the number of cells left. Assumes nothing.
+use Prim.Native.Nat.{◌-◌, ◌≤◌}
+use Rattle.meaning.specs.Limits.{first_heap_cell}
+use Rattle.meaning.specs.Sound.{CellRule}
+use Rattle.store.proofs.Damage.{Clear}
+use Rattle.store.proofs.passes.heap_ok.Given as goal
+
+abbrev pub invariant-loop-c : goal.invariant-loop-c
+invariant-loop-c l =
+    (first_heap_cell ≤ l.c) × Clear (CellRule first_heap_cell l.ws l.top) first_heap_cell l.damage l.c
+
+abbrev pub decreases-loop-c : goal.decreases-loop-c
+decreases-loop-c l = l.top - l.c
