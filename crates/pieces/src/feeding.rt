@@ -9,7 +9,7 @@ use reader::{Reader, go, is_stopped, judge_byte};
 
 // The reader, the terms begun in the innermost open expression, and the most that any one has had. The counts of those
 // around stand beside it, in the array of the state.
-#[derive(Drop)]
+#[derive(Clone, Copy)]
 pub struct State {
     pub place: Reader,
     pub own: u32,
@@ -23,7 +23,7 @@ fn larger(a: u32, b: u32) -> u32
 }
 
 // The two counts that a byte changes.
-#[derive(Drop)]
+#[derive(Clone, Copy)]
 pub struct Level {
     pub own: u32,
     pub most: u32,

@@ -23,7 +23,7 @@ mod numbers;
 // innermost open expression, and the most that any one has had. counts[i], for each i below depth, has the terms of the
 // expression that i brackets are around, with the bracket that is open in it.
 #[repr(C)]
-#[derive(Drop)]
+#[derive(Clone, Copy)]
 pub struct Pieces {
     pub stand: u32,
     pub code: u32,
@@ -88,7 +88,7 @@ pub fn feed(s: Pieces, piece: &[u8]) -> Pieces
 
 // What the end gives: a status and the value that goes with it, the terms on all levels and the most of one level.
 #[repr(C)]
-#[derive(Drop)]
+#[derive(Clone, Copy)]
 pub struct Counted {
     pub status: u32,
     pub value: usize,

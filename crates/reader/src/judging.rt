@@ -10,7 +10,7 @@ use store::cells::is_code;
 
 // Why a text is refused: a number that is no code, a bracket that is one too many, a term that is one too many, or a
 // byte that cannot continue a text.
-#[derive(Drop)]
+#[derive(Clone, Copy)]
 pub enum Fault {
     NoCode,
     TooDeep,
@@ -31,7 +31,7 @@ pub fn fault_number(fault: Fault) -> u32
 }
 
 // Where the reader stands.
-#[derive(Drop)]
+#[derive(Clone, Copy)]
 pub enum Stand {
     // a level has begun, and a term or its end may come
     Begun,
@@ -47,7 +47,7 @@ pub enum Stand {
 
 // What a byte does: it stops the reading, begins a code, is a further digit of one, opens or closes a bracket, or parts
 // two terms.
-#[derive(Drop)]
+#[derive(Clone, Copy)]
 pub enum Move {
     Stops(Fault),
     Begins,

@@ -15,7 +15,7 @@ pub mod judging;
 
 // Where the reader stands, the last code as far as it is read, the offset of the next byte or of the one that stopped
 // it, the brackets that are open, and the terms begun on all levels.
-#[derive(Drop)]
+#[derive(Clone, Copy)]
 pub struct Reader {
     pub stand: Stand,
     pub code: u32,
@@ -138,7 +138,7 @@ pub fn is_stopped(stand: Stand) -> bool
 }
 
 // What reading a text finds: the number of its terms on all levels; or its refusal, with the offset.
-#[derive(Drop)]
+#[derive(Clone, Copy)]
 pub enum Found {
     Whole(usize),
     Bad(Fault, usize),
