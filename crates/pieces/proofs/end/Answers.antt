@@ -15,5 +15,5 @@ returns c =
     rw (
       sym c.ends_whole.ensures ∙ c.if-ends_whole.false,
       c.fault_number.ensures
-          ∙ (c.stop_fault.ensures s.code ∙ ap stop_status (c.Stand-of.ensures s.code)),
+          ∙ (c.stop_fault.ensures s.code ∙ ap stop_status (c.stand_of.ensures s.code)),
     ) refl

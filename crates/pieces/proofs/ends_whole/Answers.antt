@@ -12,7 +12,7 @@ returns-then-goes_on c =
     let s = c.args.s in
     rw (sym c.goes_on.ensures ∙ c.if-goes_on.true)
     (c.is_whole.ensures s.code
-    ∙ ap (λ (x : Stand). may_end x && eqb s.depth 0) (c.Stand-of.ensures s.code))
+    ∙ ap (λ (x : Stand). may_end x && eqb s.depth 0) (c.stand_of.ensures s.code))
 
 pub returns : goal.returns
 returns c = rw (sym c.goes_on.ensures ∙ c.if-goes_on.false) refl

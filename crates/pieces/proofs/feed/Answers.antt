@@ -30,7 +30,7 @@ feed_bytes-to-requires c =
     record {
       goes =
           ap (λ (x : Stand). fits (standing s x))
-          (from_struct s c.Stand-of.result _ c.Stand-of.ensures c.kept_code.ensures) ∙ f;
+          (from_struct s c.stand_of.result _ c.stand_of.ensures c.kept_code.ensures) ∙ f;
       small =
           subst (λ (x : ℕ). x < 2 ^ 28) (sym c.kept_code.ensures)
           (kept_fits s.stand s.code (fits_yes (state_of s) f).stand);
@@ -41,7 +41,7 @@ returns c =
     let a = c.args in
     let t = c.feed_bytes-to.result in
     let n = to_struct t _ _ c.number_of-number.ensures c.kept_code-2.ensures in
-    let e = from_struct a.s c.Stand-of.result _ c.Stand-of.ensures c.kept_code.ensures in
+    let e = from_struct a.s c.stand_of.result _ c.stand_of.ensures c.kept_code.ensures in
     rw (sym c.goes_on.ensures ∙ c.if-not-goes_on.false)
     (in_numbers t _ n.0 n.1
     ∙ ap struct_of (c.feed_bytes-to.ensures ∙ ap (λ (x : Stand). feeds (standing a.s x) a.piece.now) e))

@@ -1,7 +1,20 @@
 use mathlib.Core.Path.{refl, sym, ◌∙◌}
 use native.Mathlib.Omega.{arith}
+use Rattle.meaning.specs.Limits.{depth_limit}
 use Rattle.pieces.proofs.Looking.{each_end, each_stop, each_turn}
 use Rattle.pieces.proofs.fitting.each_within.Goals as goal
+
+pub offset_bounds-counts-i : goal.offset_bounds-counts-i
+unfolding depth_limit
+offset_bounds-counts-i c = omega arith
+
+pub bounds-counts-i : goal.bounds-counts-i
+unfolding depth_limit
+bounds-counts-i c = omega arith
+
+pub overflow_add-i : goal.overflow_add-i
+unfolding depth_limit
+overflow_add-i c = omega arith
 
 pub loop-i-preserved : goal.loop-i-preserved
 loop-i-preserved c =

@@ -15,7 +15,7 @@ pub returns-then-not-stand_fits : goal.returns-then-not-stand_fits
 returns-then-not-stand_fits c =
     sym (not_fits _ (λ k. false≢true
     (sym (c.if-not-stand_fits.true)
-    ∙ (c.stand_fits.ensures ∙ (ap stand_fits (c.Stand-of.ensures _) ∙ k.stand)))))
+    ∙ (c.stand_fits.ensures ∙ (ap stand_fits (c.stand_of-stand.ensures _) ∙ k.stand)))))
 
 pub returns-then-depth-gt-DEPTH_LIMIT : goal.returns-then-depth-gt-DEPTH_LIMIT
 unfolding depth_limit
@@ -43,7 +43,7 @@ pub returns-then-not-offset_fits : goal.returns-then-not-offset_fits
 returns-then-not-offset_fits c =
     let s = c.args.s in
     let a : c.bytes_ahead.result ≡ ahead (stand_from s.stand s.code) =
-    c.bytes_ahead.ensures.0 ∙ ap ahead (c.Stand-of.ensures s.code) in
+    c.bytes_ahead.ensures.0 ∙ ap ahead (c.stand_of-stand.ensures s.code) in
     let f = leb-false (s.offset + s.depth + c.bytes_ahead.result) (2 ^ 28 * s.terms + 1)
     (sym c.offset_fits.ensures ∙ c.if-not-offset_fits.true) in
     sym (not_fits (state_of s) (λ k. omega (arith, k.far, a, f)))
@@ -51,7 +51,7 @@ returns-then-not-offset_fits c =
 pub returns : goal.returns
 unfolding depth_limit terms_limit
 returns c =
-    let e = c.Stand-of.ensures _ in
+    let e = c.stand_of-stand.ensures _ in
     let s = c.args.s in
     let a : c.bytes_ahead.result ≡ ahead (stand_from s.stand s.code) =
     c.bytes_ahead.ensures.0 ∙ ap ahead e in
@@ -62,3 +62,7 @@ returns c =
     ∙ sym (fits_each (state_of s)
     (ap stand_fits (sym e) ∙ (sym c.stand_fits.ensures ∙ c.if-not-stand_fits.false))
     (omega arith) (omega arith) (omega arith) (omega arith) f)
+
+pub each_within-requires : goal.each_within-requires
+unfolding depth_limit
+each_within-requires c = omega arith

@@ -3,7 +3,20 @@ use mathlib.Core.Path.{sym}
 use Prim.Native.Nat.{◌+◌, ◌*◌, ◌^◌}
 use native.Mathlib.Omega.{arith}
 use borrow.Author.Tests.{le-leb, lt-leb}
+use Rattle.meaning.specs.Limits.{depth_limit, terms_limit}
 use Rattle.pieces.proofs.fitting.offset_fits.Goals as goal
+
+pub overflow_mul-far : goal.overflow_mul-far
+unfolding terms_limit
+overflow_mul-far c = omega arith
+
+pub overflow_add-far : goal.overflow_add-far
+unfolding terms_limit
+overflow_add-far c = omega arith
+
+pub overflow_add-depth : goal.overflow_add-depth
+unfolding depth_limit
+overflow_add-depth c = omega arith
 
 pub returns-then-far-offset : goal.returns-then-far-offset
 returns-then-far-offset c =
