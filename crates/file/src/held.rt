@@ -108,7 +108,7 @@ fn window_held(body: &[u8], first: usize, n: usize, w: usize, far: &mut [u32]) -
 }
 
 // How many cells were looked at, and whether each of them is held.
-#[derive(Drop)]
+#[derive(Clone, Copy)]
 pub struct Part {
     pub cells: usize,
     pub held: bool,

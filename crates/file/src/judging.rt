@@ -24,7 +24,7 @@ fn first_of(edition: u32) -> usize
 }
 
 // The words of a trailer; the edition as the first heap cell of its stores.
-#[derive(Drop)]
+#[derive(Clone, Copy)]
 pub struct Trailer {
     pub distance: usize,
     pub cells: usize,

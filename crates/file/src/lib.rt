@@ -19,7 +19,7 @@ mod writing;
 
 // What loading answers: `top` of the store, or why the file is refused. Damaged has the first damaged cell
 // and the rule that it breaks.
-#[derive(Drop)]
+#[derive(Clone, Copy)]
 pub enum Loaded {
     Ready(usize),
     ShortFile,
@@ -50,7 +50,7 @@ pub fn load(ws: &mut [u32], file: &[u8]) -> Loaded
 
 // What saving answers: the new `top` and the length of the file; the new `top` where the space is short; or why the
 // store is refused.
-#[derive(Drop)]
+#[derive(Clone, Copy)]
 pub enum Saved {
     Done(usize, usize),
     ShortSpace(usize),

@@ -15,7 +15,7 @@ mod passes;
 
 // Why a store is unsound: its length, its `top`, or its first damaged cell, with the rule that this breaks. Every
 // answer that may refuse a store holds this as the check found it.
-#[derive(Drop)]
+#[derive(Clone, Copy)]
 pub enum Unsound {
     BadLength,
     BadTop,
@@ -23,7 +23,7 @@ pub enum Unsound {
 }
 
 // What the check finds.
-#[derive(Drop)]
+#[derive(Clone, Copy)]
 pub enum Checked {
     Sound,
     Refused(Unsound),
@@ -94,7 +94,7 @@ pub fn is_sound(found: Checked) -> bool
 }
 
 // What making a fresh store answers: its `top`, or that the slice has no length that a store may have.
-#[derive(Drop)]
+#[derive(Clone, Copy)]
 pub enum Made {
     Ready(usize),
     BadLength,
@@ -123,7 +123,7 @@ pub fn fresh(ws: &mut [u32]) -> Made
 }
 
 // The contents of a bracket: `size` cells from `start` on, or 0 and 0 where it is empty.
-#[derive(Drop)]
+#[derive(Clone, Copy)]
 pub struct Run {
     pub start: usize,
     pub size: usize,
@@ -145,7 +145,7 @@ pub fn run_at(ws: &[u32], c: usize) -> Run
 }
 
 // A term: a symbol by its code, or a bracket by its contents.
-#[derive(Drop)]
+#[derive(Clone, Copy)]
 pub enum Term {
     Symbol(u32),
     Bracket(Run),
@@ -165,7 +165,7 @@ pub fn term_at(ws: &[u32], c: usize) -> Term
 
 // A part of the store, by its words: `from` up to but not including `to`.
 #[repr(C)]
-#[derive(Drop)]
+#[derive(Clone, Copy)]
 pub struct Span {
     pub from: usize,
     pub to: usize,

@@ -13,7 +13,7 @@ use build::cells::put_symbol;
 
 // The byte after an expression's text, the cell after its cells, and the number of its own terms, which are the last of
 // those cells.
-#[derive(Drop)]
+#[derive(Clone, Copy)]
 pub struct Laid {
     pub next: usize,
     pub end: usize,
@@ -45,7 +45,7 @@ pub fn lay(ws: &mut [u32], text: &[u8], at: usize, low: usize, high: usize, left
 }
 
 // The byte where the next term begins, or the expression ends; and the cell after those that are laid.
-#[derive(Drop)]
+#[derive(Clone, Copy)]
 pub struct Place {
     pub next: usize,
     pub end: usize,

@@ -37,7 +37,7 @@ fn digit_next(text: &[u8], at: usize) -> bool
 }
 
 // A code, and the byte after its last digit.
-#[derive(Drop)]
+#[derive(Clone, Copy)]
 pub struct Scanned {
     pub code: u32,
     pub next: usize,

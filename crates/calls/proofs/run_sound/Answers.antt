@@ -27,6 +27,6 @@ run_calls-end-requires c =
 pub returns : goal.returns
 returns c =
     sym (filled c.args.ws.now c.args.top c.args.calls.now c.args.answers.now
-    c.run_calls-end.new.answers.1.1.0 (sym c.calls_ok.ensures ∙ c.if-not-calls_ok.false)
+    c.run_calls-end.new.answers (sym c.calls_ok.ensures ∙ c.if-not-calls_ok.false)
     c.if-answers-used.false
     c.run_calls-end.ensures (search rules) c.zero_from.ensures)

@@ -1,17 +1,12 @@
 -- `calls::building::join` meets its contract. Assumes nothing.
 use mathlib.Core.Path.{sym, ap₂, ◌∙◌}
-use mathlib.Core.List.{List}
-use Prim.Native.Nat.{ℕ}
+use Prim.Native.Nat.{◌+◌}
 use native.Mathlib.Omega.{arith}
 use Rattle.meaning.specs.Limits.{first_heap_cell}
 use Rattle.meaning.specs.Call.{sought}
 use Rattle.store.proofs.Registers.{readable, run_below}
 use Rattle.meaning.proofs.call.Joining.{join_first_empty, join_second_empty, join_neither_empty}
 use Rattle.calls.proofs.building.join.Goals as goal
-
--- the store in which room is sought
-abbrev v : tie.Start → List ℕ
-v s = sought s.args.kept s.args.d s.args.ws.now
 
 pub run_at-p-requires : goal.run_at-p-requires
 run_at-p-requires c =
@@ -25,7 +20,7 @@ run_at-q-requires c =
 
 pub returns-then-p-eq0 : goal.returns-then-p-eq0
 returns-then-p-eq0 c =
-    c.share.ensures ∙ sym (join_first_empty first_heap_cell (v c) c.args.ws.now c.args.top
+    c.share.ensures ∙ sym (join_first_empty first_heap_cell (sought c.args.kept c.args.d c.args.ws.now) c.args.ws.now c.args.top
     c.args.d c.args.a c.args.b _ _ (sym c.run_at-p.ensures.1 ∙ c.if-p-eq0.true))
 
 pub returns-then-q-eq0 : goal.returns-then-q-eq0
@@ -33,7 +28,7 @@ returns-then-q-eq0 c =
     let p = c.run_at-p.ensures.1 in
     let q = c.run_at-q.ensures.1 in
     c.share-then-q-eq0.ensures
-    ∙ sym (join_second_empty first_heap_cell (v c) c.args.ws.now c.args.top c.args.d c.args.a
+    ∙ sym (join_second_empty first_heap_cell (sought c.args.kept c.args.d c.args.ws.now) c.args.ws.now c.args.top c.args.d c.args.a
     c.args.b
     _ _ (λ e. c.if-p-eq0.false (p ∙ e)) (sym q ∙ c.if-q-eq0.true))
 
@@ -45,11 +40,11 @@ overflow_add-p c =
 pub join_full-requires : goal.join_full-requires
 join_full-requires c =
     let p = c.run_at-p.ensures.1 in
-    (c.requires.sound, (c.requires.survives, (ap₂ ◌+◌ p c.run_at-q.ensures.1, omega (arith, p, c.if-p-eq0.false))))
+    record { sound = c.requires.sound; survives = c.requires.survives; n_value = (ap₂ ◌+◌ p c.run_at-q.ensures.1, omega (arith, p, c.if-p-eq0.false)) }
 
 pub returns : goal.returns
 returns c =
     c.join_full.ensures
-    ∙ sym (join_neither_empty first_heap_cell (v c) c.args.ws.now c.args.top c.args.d c.args.a
+    ∙ sym (join_neither_empty first_heap_cell (sought c.args.kept c.args.d c.args.ws.now) c.args.ws.now c.args.top c.args.d c.args.a
     c.args.b
     c.run_at-p.ensures.1 c.run_at-q.ensures.1 c.if-p-eq0.false c.if-q-eq0.false)

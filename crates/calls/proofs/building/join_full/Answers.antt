@@ -20,12 +20,9 @@ lay_run-requires c =
     sought_meaning first_heap_cell c.args.ws.now c.args.top first_heap_cell_pos c.requires.sound.0 c.args.kept
     c.args.d (λ k. c.requires.sound.1) in
     let za = room_size m e c.requires.sound.0 c.args.a c.requires.sound.2
-    (stays c.args.a c.requires.sound.2 c.requires.survives.0.0) in
+    (stays c.args.a c.requires.sound.2 c.requires.survives.0) in
     let zb = room_size m e c.requires.sound.0 c.args.b c.requires.sound.3
-    (stays c.args.b c.requires.sound.3 c.requires.survives.0.1) in (
-      (y.0, omega (arith, y.1, c.requires.survives.1.0)),
-      (c.requires.sound.1, c.requires.sound.2, c.requires.sound.3, omega (arith, c.requires.survives.1.1)),
-    )
+    (stays c.args.b c.requires.sound.3 c.requires.survives.1) in record { roomy = (y.0, omega (arith, y.1, c.requires.n_value.0)); d_lt_first_heap_cell = (c.requires.sound.1, c.requires.sound.2, c.requires.sound.3, omega (arith, c.requires.n_value.1)) }
 
 pub returns-in-Ready : goal.returns-in-Ready
 returns-in-Ready c =
