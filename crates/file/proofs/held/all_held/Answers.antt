@@ -2,6 +2,7 @@ use mathlib.Core.Path.{refl, sym, ◌∙◌}
 use Prim.Native.Nat.{◌+◌}
 use native.Mathlib.Nat.{add-sub_cancel_left}
 use native.Mathlib.Omega.{arith}
+use borrow.Author.Tests.{not-true, not-false}
 use Rattle.meaning.specs.Sound.{at}
 use Rattle.meaning.proofs.sound.Cells.{limit_fits}
 use Rattle.file.specs.Body.{store_in}
@@ -14,11 +15,14 @@ loop-w-preserved c =
     let args = c.args in
     let k = at (store_in args.first args.n args.body.now) in
     let h = part.ensures.within in
-    let e = sym part.ensures.held ∙ c.if-not-part.false in (
+    let e = sym part.ensures.held ∙ not-false _ c.if-not-part.false in (
       h,
       turn k (args.first + args.n) (args.first + args.n) c.loop-w.w part.result.cells h e
           ∙ c.loop-w.invariant.1,
     )
+
+pub overflow_add-w : goal.overflow_add-w
+overflow_add-w c = omega (arith, c.part_held-part.ensures.within, c.requires.few, limit_fits)
 
 pub returns-then-top-w : goal.returns-then-top-w
 returns-then-top-w c =
@@ -32,7 +36,7 @@ returns-then-not-part c =
     let part = c.part_held-part in
     let args = c.args in
     let k = at (store_in args.first args.n args.body.now) in
-    let e = sym part.ensures.held ∙ c.if-not-part.true in
+    let e = sym part.ensures.held ∙ not-true _ c.if-not-part.true in
     sym (stop k (args.first + args.n) (args.first + args.n) c.loop-w.w part.result.cells
     part.ensures.within e)
     ∙ c.loop-w.invariant.1

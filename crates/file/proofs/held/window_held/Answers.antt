@@ -14,7 +14,7 @@ returns c =
     let args = c.args in
     let ws = store_in args.first args.n args.body.now in
     let noting = c.note_cells in
-    let far = noting.new.1.1.1.1.0 in
+    let far = noting.new.far in
     let e : length far ≡ length args.far.now = omega arith in
     c.look_along.ensures
     ∙ (along_held (at ws) (args.first + args.n) args.w far noting.ensures
