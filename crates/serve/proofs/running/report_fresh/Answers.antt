@@ -1,0 +1,17 @@
+-- `serve::running::report_fresh` meets its contract. Assumes nothing.
+use native.Mathlib.Omega.{arith}
+use Rattle.serve.proofs.Spacing.{report_fits}
+use Rattle.serve.proofs.running.report_fresh.Goals as goal
+
+pub report-requires : goal.report-requires
+report-requires c =
+    let run-fresh = c.run_fresh-top in
+    let slice-known5 = c.slice_known-5-1 in
+    report_fits run-fresh.new.1.1.0 run-fresh.result _ (λ i. omega (arith, slice-known5.given i))
+    (omega arith) (omega arith)
+
+pub returns : goal.returns
+returns c =
+    let run-fresh = c.run_fresh-top in
+    let report = c.report in
+    rw run-fresh.ensures at report.ensures
