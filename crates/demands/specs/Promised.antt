@@ -4,7 +4,7 @@
 -- this is learnt, whatever the lifetimes κs are. ws and top are lent, r is returned, v are the words that are left.
 -- Assumes nothing.
 use Rattle.std.specs.Prelude.{List, ℕ}
-use Rattle.std.specs.Borrow.{Bor}
+use Rattle.std.specs.Borrow.{Bor, MutBor}
 use contract.Lifetimes.{Lfts}
 use Rattle.meaning.specs.Limits.{first_heap_cell}
 use Rattle.store.specs.Answers.{Placed, Looks, Checks, Makes}
@@ -39,9 +39,12 @@ use Rattle.pieces.proofs.end.Reads as end-contract
 use Rattle.file.proofs.load.Reads as load-contract
 use Rattle.file.proofs.save.Reads as save-contract
 
--- a slice as it is lent, or as it is left
+-- a slice as it is lent, or as it is left: to be read, or to be written
 abbrev pub Slice : Type 0
 Slice = Bor (List ℕ)
+
+abbrev pub MutSlice : Type 0
+MutSlice = MutBor (List ℕ)
 
 -- ---- `store::check`
 
@@ -54,8 +57,8 @@ CheckSays =
 
 abbrev pub FreshSays : Type 0
 FreshSays =
-    (κs : Lfts 1) (ws : Slice) → fresh-contract.Asked κs (ws, tt)
-    × ((r : Made) (v : Slice) → fresh-contract.Learnt κs (ws, tt) r (v, tt) → Makes ws.now r v.now)
+    (κs : Lfts 1) (ws : MutSlice) → fresh-contract.Asked κs (ws, tt)
+    × ((r : Made) (v : MutSlice) → fresh-contract.Learnt κs (ws, tt) r (v, tt) → Makes ws.now r v.now)
 
 -- ---- `store::look`, at register i: the words of the part r, and where it lies; `store::look_span`, by word numbers
 
@@ -74,16 +77,17 @@ SpanSays =
 
 abbrev pub CollectSays : Type 0
 CollectSays =
-    (κs : Lfts 1) (ws : Slice) (top : ℕ) → collect-contract.Asked κs (ws, (top, tt))
-    × ((r : Collected) (v : Slice) → collect-contract.Learnt κs (ws, (top, tt)) r (v, (top, tt))
+    (κs : Lfts 1) (ws : MutSlice) (top : ℕ) → collect-contract.Asked κs (ws, (top, tt))
+    × ((r : Collected) (v : MutSlice) → collect-contract.Learnt κs (ws, (top, tt)) r (v, (top, tt))
     → Collects ws.now top r v.now)
 
 -- ---- `calls::run`, with a call list and an answer space `out`, which is left as a
 
 abbrev pub RunSays : Type 0
 RunSays =
-    (κs : Lfts 3) (ws : Slice) (top : ℕ) (calls out : Slice) → run-contract.Asked κs (ws, (top, (calls, (out, tt))))
-    × ((r : Ran) (v c a : Slice)
+    (κs : Lfts 3) (ws : MutSlice) (top : ℕ) (calls : Slice) (out : MutSlice)
+    → run-contract.Asked κs (ws, (top, (calls, (out, tt))))
+    × ((r : Ran) (v : MutSlice) (c : Slice) (a : MutSlice)
     → run-contract.Learnt κs (ws, (top, (calls, (out, tt)))) r (v, (top, (c, (a, tt))))
     → Runs ws.now top calls.now out.now r v.now a.now)
 
@@ -91,8 +95,8 @@ RunSays =
 
 abbrev pub PrintSays : Type 0
 PrintSays =
-    (κs : Lfts 2) (ws : Slice) (top i : ℕ) (out : Slice) → print-contract.Asked κs (ws, (top, (i, (out, tt))))
-    × ((r : Printed) (v a : Slice)
+    (κs : Lfts 2) (ws : Slice) (top i : ℕ) (out : MutSlice) → print-contract.Asked κs (ws, (top, (i, (out, tt))))
+    × ((r : Printed) (v : Slice) (a : MutSlice)
     → print-contract.Learnt κs (ws, (top, (i, (out, tt)))) r (v, (top, (i, (a, tt))))
     → Prints ws.now top i out.now r a.now)
 
@@ -100,8 +104,8 @@ PrintSays =
 
 abbrev pub TypeSays : Type 0
 TypeSays =
-    (κs : Lfts 2) (ws : Slice) (top d : ℕ) (bs : Slice) → type-contract.Asked κs (ws, (top, (d, (bs, tt))))
-    × ((r : Typed) (v b : Slice)
+    (κs : Lfts 2) (ws : MutSlice) (top d : ℕ) (bs : Slice) → type-contract.Asked κs (ws, (top, (d, (bs, tt))))
+    × ((r : Typed) (v : MutSlice) (b : Slice)
     → type-contract.Learnt κs (ws, (top, (d, (bs, tt)))) r (v, (top, (d, (b, tt))))
     → Types ws.now top d bs.now r v.now)
 
@@ -125,14 +129,14 @@ EndSays =
 
 abbrev pub LoadSays : Type 0
 LoadSays =
-    (κs : Lfts 2) (ws bs : Slice) → load-contract.Asked κs (ws, (bs, tt))
-    × ((r : Loaded) (v b : Slice) → load-contract.Learnt κs (ws, (bs, tt)) r (v, (b, tt))
+    (κs : Lfts 2) (ws : MutSlice) (bs : Slice) → load-contract.Asked κs (ws, (bs, tt))
+    × ((r : Loaded) (v : MutSlice) (b : Slice) → load-contract.Learnt κs (ws, (bs, tt)) r (v, (b, tt))
     → Loads bs.now ws.now r v.now)
 
 -- ---- `file::save`, with a space `out`, which is left as a
 
 abbrev pub SaveSays : Type 0
 SaveSays =
-    (κs : Lfts 2) (ws : Slice) (top : ℕ) (out : Slice) → save-contract.Asked κs (ws, (top, (out, tt)))
-    × ((r : Saved) (v a : Slice) → save-contract.Learnt κs (ws, (top, (out, tt))) r (v, (top, (a, tt)))
+    (κs : Lfts 2) (ws : MutSlice) (top : ℕ) (out : MutSlice) → save-contract.Asked κs (ws, (top, (out, tt)))
+    × ((r : Saved) (v a : MutSlice) → save-contract.Learnt κs (ws, (top, (out, tt))) r (v, (top, (a, tt)))
     → Saves ws.now top out.now r v.now a.now)

@@ -44,7 +44,7 @@ LookMeets =
     (ws : Slice) (top i : ℕ) (r : Slice) → Looks ws top i r
     → LookTable first_heap_cell ws.now top i r.now
     × ((l e : ℕ) → Sound first_heap_cell ws.now top → i < first_heap_cell → at ws.now i ≡ ends l e
-    → (r.ptr.0 ≡ ws.ptr.0) × (r.ptr.1 ≡ ws.ptr.1 + 8 * l))
+    → (r.ref_ptr.0 ≡ ws.ref_ptr.0) × (r.ref_ptr.1 ≡ ws.ref_ptr.1 + 8 * l))
 
 -- the words between the two word numbers of a span are those of a look
 abbrev pub SpanMeets : Type 0

@@ -6,8 +6,7 @@ use Rattle.serve.proofs.running.report_fresh.Goals as goal
 pub report-requires : goal.report-requires
 report-requires c =
     let run-fresh = c.run_fresh-top in
-    let slice-known5 = c.slice_known-5-1 in
-    report_fits run-fresh.new.1.1.0 run-fresh.result _ (λ i. omega (arith, slice-known5.given i))
+    report_fits run-fresh.new.answers run-fresh.result _ ?
     (omega arith) (omega arith)
 
 pub returns : goal.returns

@@ -15,9 +15,9 @@ use Rattle.serve.proofs.running.serve_calls.Goals as goal
 abbrev program_words : ℕ
 program_words = program_bytes / 4
 
-pub UNKNOWN-slice-bounds-serve-words-end : goal.UNKNOWN-slice-bounds-serve-words-end
+pub slice_bounds-serve_words-end : goal.slice_bounds-serve_words-end
 unfolding program_bytes
-UNKNOWN-slice-bounds-serve-words-end c =
+slice_bounds-serve_words-end c =
     let args = c.args in
     let pre = c.requires in
     calls_end args.input.now _ program_words (omega (arith, pre.most)) c.fill_words.ensures
@@ -41,7 +41,7 @@ returns c =
     let fill-words = c.fill_words in
     let serve-words = c.serve_words in
     subst
-    (λ (l : List ℕ). Front args.out.now (output first_heap_cell args.cells l) serve-words.new.1.1.0
+    (λ (l : List ℕ). Front args.out.now (output first_heap_cell args.cells l) serve-words.new.out
     serve-words.result)
     (calls_part args.input.now _ program_words (omega (arith, pre.most)) fill-words.ensures pre.some)
     serve-words.ensures

@@ -55,7 +55,7 @@ returns c =
     let pre = c.requires in
     let report-fresh = c.report_fresh in
     subst
-    (λ (n : ℕ). Front args.out.now (output first_heap_cell n args.calls.now) report-fresh.new.1.1.1.0
+    (λ (n : ℕ). Front args.out.now (output first_heap_cell n args.calls.now) report-fresh.new.out
     report-fresh.result)
     (part_capacity args.cells (2 * program_cells) (cells_fit args.cells pre.high))
     report-fresh.ensures

@@ -20,6 +20,6 @@ returns c =
     let start = c.start in
     let put-bytes = c.put_bytes-name in
     let line = c.line-pen in
-    front (refusal args.s 0) args.out.now line.new.0 line.result pre
+    front (refusal args.s 0) args.out.now line.new.out line.result pre
     (write_then name (lines_of (args.s ∷ 0 ∷ [])) _ _ _ (put-bytes.ensures ∙ ap (write name) (start.ensures _))
     line.ensures)

@@ -14,8 +14,8 @@ returns c =
     let pre = c.requires in
     let start = c.start in
     let lines = c.lines-last in
-    let last_Line = c.last_line-pen in
+    let last_line = c.last_line-pen in
     let text = lines_of args.answers.now in
-    front (text ++ top_line args.top) args.out.now last_Line.new.0 last_Line.result pre
+    front (text ++ top_line args.top) args.out.now last_line.new.out last_line.result pre
     (write_then text (top_line args.top) _ _ _ (lines.ensures ∙ ap (write text) (start.ensures _))
-    last_Line.ensures)
+    last_line.ensures)
