@@ -1,12 +1,13 @@
 -- `serve::running::report_fresh` meets its contract. Assumes nothing.
 use native.Mathlib.Omega.{arith}
+use borrow.Author.Rules.{rules}
 use Rattle.serve.proofs.Spacing.{report_fits}
 use Rattle.serve.proofs.running.report_fresh.Goals as goal
 
 pub report-requires : goal.report-requires
 report-requires c =
     let run-fresh = c.run_fresh-top in
-    report_fits run-fresh.new.answers run-fresh.result _ ?
+    report_fits run-fresh.new.answers run-fresh.result _ (search rules)
     (omega arith) (omega arith)
 
 pub returns : goal.returns
