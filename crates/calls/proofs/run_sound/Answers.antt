@@ -17,12 +17,11 @@ returns-then-answers-used c =
     (sym c.calls_ok.ensures ∙ c.if-not-calls_ok.false) c.if-answers-used.true)
 
 pub run_calls-end-requires : goal.run_calls-end-requires
-run_calls-end-requires c =
-    (
-      c.requires,
-      (calls_yes _ (sym c.calls_ok.ensures ∙ c.if-not-calls_ok.false)).whole,
-      c.if-answers-used.false,
-    )
+run_calls-end-requires c = (
+  c.requires,
+  (calls_yes _ (sym c.calls_ok.ensures ∙ c.if-not-calls_ok.false)).whole,
+  c.if-answers-used.false,
+)
 
 pub returns : goal.returns
 returns c =

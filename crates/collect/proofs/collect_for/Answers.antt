@@ -32,8 +32,7 @@ overflow_sub-top c =
 
 pub returns-then-top-low : goal.returns-then-top-low
 returns-then-top-low c =
-    let low_is : first_heap_cell + c.live-low.result ≡ collected_top first_heap_cell c.args.ws.now c.args.top = ap (λ (x : ℕ). first_heap_cell + x) c.live-low.ensures.1 in
-    (
+    let low_is : first_heap_cell + c.live-low.result ≡ collected_top first_heap_cell c.args.ws.now c.args.top = ap (λ (x : ℕ). first_heap_cell + x) c.live-low.ensures.1 in (
       too_few c.args.ws.now c.args.top c.args.wanted c.requires _ c.if-top-low.true
           c.live-low.ensures.0,
       low_is,

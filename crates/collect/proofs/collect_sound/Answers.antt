@@ -34,27 +34,25 @@ pub overflow_sub-top : goal.overflow_sub-top
 overflow_sub-top c = omega (arith, gone _ _ c.requires _ _ c.sweep-dead.ensures)
 
 pub clear-requires : goal.clear-requires
-clear-requires c =
-    (
-      omega arith,
-      omega (
-        arith,
-        c.requires.high,
-        c.sweep-dead.auto.ws,
-        c.lower_heap.auto.ws,
-        c.lower_registers.auto.ws,
-      ),
-    )
+clear-requires c = (
+  omega arith,
+  omega (
+    arith,
+    c.requires.high,
+    c.sweep-dead.auto.ws,
+    c.lower_heap.auto.ws,
+    c.lower_registers.auto.ws,
+  ),
+)
 
 pub overflow_sub-result : goal.overflow_sub-result
 overflow_sub-result c = omega (arith, gone _ _ c.requires _ _ c.sweep-dead.ensures)
 
 pub returns : goal.returns
-returns c =
-    (
-      compacted _ _ c.requires _ _ c.sweep-dead.ensures _ _ _ c.lower_heap.ensures c.lower_registers.ensures
-          c.clear.ensures
-          (c.clear.auto.ws ∙ c.lower_registers.auto.ws ∙ c.lower_heap.auto.ws ∙ c.sweep-dead.auto.ws)
-          (λ i. omega (arith, c.slice_known-5-1.given i)),
-      top_is _ _ c.requires _ _ c.sweep-dead.ensures,
-    )
+returns c = (
+  compacted _ _ c.requires _ _ c.sweep-dead.ensures _ _ _ c.lower_heap.ensures c.lower_registers.ensures
+      c.clear.ensures
+      (c.clear.auto.ws ∙ c.lower_registers.auto.ws ∙ c.lower_heap.auto.ws ∙ c.sweep-dead.auto.ws)
+      (λ i. omega (arith, c.slice_known-5-1.given i)),
+  top_is _ _ c.requires _ _ c.sweep-dead.ensures,
+)

@@ -14,8 +14,7 @@ pub overflow_sub-result-2 : goal.overflow_sub-result-2
 overflow_sub-result-2 c = live_low _ _ c.requires _ _ c.sweep-dead.ensures
 
 pub returns : goal.returns
-returns c =
-    (
-      restored _ _ c.requires _ _ c.sweep-dead.ensures c.sweep-dead.auto.ws (λ i. omega (arith, c.slice_known-2-1.given i)),
-      live_is _ _ c.requires _ _ c.sweep-dead.ensures,
-    )
+returns c = (
+  restored _ _ c.requires _ _ c.sweep-dead.ensures c.sweep-dead.auto.ws (λ i. omega (arith, c.slice_known-2-1.given i)),
+  live_is _ _ c.requires _ _ c.sweep-dead.ensures,
+)

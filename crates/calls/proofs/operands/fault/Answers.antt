@@ -42,7 +42,7 @@ returns-then-no_code c =
     let eleven : three (wrong11 first_heap_cell) c.args.o c.args.d c.args.a c.args.b ≡ c.no_register.result = read c.if-o-gt11.false (wrong11 first_heap_cell) _ c.no_register.ensures in
     let twelve : three wrong12 c.args.o c.args.d c.args.a c.args.b ≡ c.stray.result = read c.if-o-gt11.false wrong12 _ c.stray.ensures in
     let thirteen : three wrong13 c.args.o c.args.d c.args.a c.args.b ≡ c.no_code.result = read c.if-o-gt11.false wrong13 _ c.no_code.ensures in
-    let last : cond c.no_code.result 13 0 ≡ fault first_heap_cell c.args.o c.args.d c.args.a c.args.b = simp ( le-ltb _ _ c.if-o-gt11.false, eleven ∙ c.if-no_register.false, twelve ∙ c.if-stray.false, thirteen, ) in
+    let last : cond c.no_code.result 13 0 ≡ fault first_heap_cell c.args.o c.args.d c.args.a c.args.b = simp (le-ltb _ _ c.if-o-gt11.false, eleven ∙ c.if-no_register.false, twelve ∙ c.if-stray.false, thirteen) in
     rw c.if-no_code.true at (last)
 
 pub returns : goal.returns
@@ -52,5 +52,5 @@ returns c =
     let eleven : three (wrong11 first_heap_cell) c.args.o c.args.d c.args.a c.args.b ≡ c.no_register.result = read c.if-o-gt11.false (wrong11 first_heap_cell) _ c.no_register.ensures in
     let twelve : three wrong12 c.args.o c.args.d c.args.a c.args.b ≡ c.stray.result = read c.if-o-gt11.false wrong12 _ c.stray.ensures in
     let thirteen : three wrong13 c.args.o c.args.d c.args.a c.args.b ≡ c.no_code.result = read c.if-o-gt11.false wrong13 _ c.no_code.ensures in
-    let last : cond c.no_code.result 13 0 ≡ fault first_heap_cell c.args.o c.args.d c.args.a c.args.b = simp ( le-ltb _ _ c.if-o-gt11.false, eleven ∙ c.if-no_register.false, twelve ∙ c.if-stray.false, thirteen, ) in
+    let last : cond c.no_code.result 13 0 ≡ fault first_heap_cell c.args.o c.args.d c.args.a c.args.b = simp (le-ltb _ _ c.if-o-gt11.false, eleven ∙ c.if-no_register.false, twelve ∙ c.if-stray.false, thirteen) in
     rw c.if-no_code.false at (last)

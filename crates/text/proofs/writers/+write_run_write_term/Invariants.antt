@@ -19,7 +19,7 @@ abbrev pub invariant-write_run-loop-i : goal.invariant-write_run-loop-i
 invariant-write_run-loop-i l =
     (l.i ≤ l.n) × (length l.out ≡ length l.initial.out)
     × (finished l.left (term_at l.ws) l.l l.n l.i (page l.out l.next)
-        ≡ writes l.left (text (run (term_at l.ws) l.l l.n)) (page l.initial.out l.initial.next))
+    ≡ writes l.left (text (run (term_at l.ws) l.l l.n)) (page l.initial.out l.initial.next))
 
 abbrev pub decreases-write_run-loop-i : goal.decreases-write_run-loop-i
 decreases-write_run-loop-i l = l.n - l.i
