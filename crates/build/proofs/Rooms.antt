@@ -1,12 +1,12 @@
 -- Room made as the code goes about it, whatever the store is in which it is sought. In order:
---   low-live                  `top` once collected is F + live;  live_small  which is at most `limit`
+--   low_live                  `top` once collected is F + live;  live_small  which is at most `limit`
 --   there, gained             room sought in the store itself: it is above `top`, or the store is collected for it
---   vacated, freed, given-up  room sought without d's old expression: it is above `top`, or gained by a collection, or
---                             there is none;  put_back  then d has its words again;  nothing-dead  and where no cell
+--   vacated, freed, given_up  room sought without d's old expression: it is above `top`, or gained by a collection, or
+--                             there is none;  put_back  then d has its words again;  nothing_dead  and where no cell
 --                             is dead the store is its own collection
---   room-roomy                where room is made, the store is sound and has n free cells
---   room-does, room-refuses   what a call with room does then: its action, or the refusal 16
---   room-size                 a register that denotes what it did has as many terms as before
+--   room_roomy                where room is made, the store is sound and has n free cells
+--   room_does, room_refuses   what a call with room does then: its action, or the refusal 16
+--   room_size                 a register that denotes what it did has as many terms as before
 -- Assumes nothing.
 use mathlib.Core.Path.{◌≡◌, refl, sym, ap, ◌∙◌}
 use mathlib.Core.Bool.{Bool, true, false, cond}

@@ -1,10 +1,10 @@
 -- What HEAD, REST, OPEN and FIRST do, by the run of the register that they go by and the term of its first cell.
 -- In order:
---   first-readable              the first cell of a run that is not empty may be read as a term
---   on-empty, on-full           14 where the run is empty, else by its ends
---   rest-one, rest_more         REST where the run has one term, and where it has more
---   open-symbol, open-bracket   OPEN by the first term
---   code-symbol, code-bracket   FIRST by the first term
+--   first_readable              the first cell of a run that is not empty may be read as a term
+--   on_empty, on_full           14 where the run is empty, else by its ends
+--   rest_one, rest_more         REST where the run has one term, and where it has more
+--   open_symbol, open_bracket   OPEN by the first term
+--   code_symbol, code_bracket   FIRST by the first term
 -- Assumes nothing.
 use mathlib.Core.Path.{◌≡◌, refl, ◌∙◌}
 use mathlib.Core.Logic.{◌≢◌}

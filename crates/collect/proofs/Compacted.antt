@@ -1,8 +1,8 @@
 -- The sweep and the pass up, one after the other: what they leave of a sound store is the collected store, word for
 -- word. In order:
---   gone, top-is  the number of unreached cells, and the new `top`
+--   gone, top_is  the number of unreached cells, and the new `top`
 --   lowerable, settleable  what the pass up asks for
---   compacted     the collected store;  not-lowered  where no cell is unreached
+--   compacted     the collected store;  not_lowered  where no cell is unreached
 -- Assumes nothing.
 use mathlib.Core.Path.{◌≡◌, refl, sym, ◌∙◌, ap, subst}
 use mathlib.Core.Bool.{Bool, true, false, not, ◌||◌, false≢true}

@@ -2,7 +2,7 @@
 use mathlib.Core.Path.{◌≡◌, refl, sym, ap, ◌∙◌}
 use mathlib.Core.List.{List}
 use Prim.Native.Nat.{ℕ}
-use Rattle.meaning.specs.Verdicts.{Done, ifSound}
+use Rattle.meaning.specs.Verdicts.{Done, if_sound}
 use Rattle.store.proofs.Refusals.{unsound_of, unsound_of_back, if_sound_refusal}
 use Rattle.collect.specs.Answers.{collected_in}
 use Rattle.collect.specs.Unique.{OneCollect}
@@ -11,7 +11,7 @@ use Rattle.collect.specs.declared.Collected.TheVariants as collected
 
 abbrev answer_of : Done → Collected
 answer_of d =
-    ifSound d.verdict (collected.Done d.verdict.value d.top) (collected.Refused (unsound_of d.verdict))
+    if_sound d.verdict (collected.Done d.verdict.value d.top) (collected.Refused (unsound_of d.verdict))
 
 answer_back : (r : Collected) (vs : List ℕ) (top : ℕ) → answer_of (collected_in r vs top) ≡ r
 answer_back (collected.Done n t) vs top = refl

@@ -1,5 +1,5 @@
 -- A collection that is wanted only where it frees enough cells, as the code goes about it. In order:
---   low-top            the collected store's `top` is no greater than `top`
+--   low_top            the collected store's `top` is no greater than `top`
 --   too_few, enough    what is left where it frees too few, and where it frees enough
 --   at_once            where one cell is enough the store may be collected untried: with none to free it stays as it is
 -- Assumes nothing.

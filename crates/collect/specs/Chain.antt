@@ -2,8 +2,8 @@
 -- field, runs through the right fields of k's holders, from the last linked to the first, and ends in k's own left end
 -- or code. In order:
 --   last       the chain of a cell, from its head;  mended  whether a holder is off its chain
---   sweepCell  a cell after j turns;  SweptTo  all of them;  Known  what the sweep knows of them
---   placedCell a cell at the end
+--   sweep_cell  a cell after j turns;  SweptTo  all of them;  Known  what the sweep knows of them
+--   placed_cell a cell at the end
 -- Assumes nothing.
 use Rattle.std.specs.Prelude.{◌≡◌, ◌≢◌, Bool, true, false, cond, ◌&&◌, ℕ, zero, suc, ◌-◌, ◌≤◌, ◌<◌, ltb, leb, eqb}
 use Rattle.collect.specs.Cells.{Link, ChainCell, val, ptr, mk}

@@ -1,8 +1,8 @@
 -- One use of `file::load` and of `file::save`, and a controller swap. In order:
---   first-of                         a file that is taken is of the edition that is written
---   Taken, taken, load-meets         a file that is loaded;  what is left, by the answer
---   done, short, kept, save-meets    a store that is saved;  what is left, by the answer
---   save-then-load, load-then-save   back and forth
+--   first_of                         a file that is taken is of the edition that is written
+--   Taken, taken, load_meets         a file that is loaded;  what is left, by the answer
+--   done, short, kept, save_meets    a store that is saved;  what is left, by the answer
+--   save_then_load, load_then_save   back and forth
 -- Assumes nothing.
 use mathlib.Core.Path.{◌≡◌, refl, sym, ap, ◌∙◌, subst}
 use mathlib.Core.Logic.{inl, inr, ◌≢◌}

@@ -1,10 +1,10 @@
 -- Uses of `pieces::start`, `pieces::feed` and `pieces::end`. In order:
---   state-fed, feeds-append      a struct that is fed, as the state that it says
---   all-fed, all_plain           a struct goes from piece to piece as the state does, with no number beside it
---   pieces-count, pieces-alike   from the start
---   refused-for-good             after a refusal
---   end-meets                    the end of any struct
---   pieces-then-type             a text counted, and typed in
+--   state_fed, feeds_append      a struct that is fed, as the state that it says
+--   all_fed, all_plain           a struct goes from piece to piece as the state does, with no number beside it
+--   pieces_count, pieces_alike   from the start
+--   refused_for_good             after a refusal
+--   end_meets                    the end of any struct
+--   pieces_then_type             a text counted, and typed in
 -- Assumes nothing.
 use mathlib.Core.Path.{◌≡◌, refl, sym, ap, ◌∙◌, subst}
 use mathlib.Core.Logic.{inl, inr}

@@ -1,9 +1,9 @@
 -- One use of `typing::type_in`, and a text back and forth: printed and typed in, typed in and printed. In order:
---   refusal-small, fault-away          the numbers of refusals
---   type-kept, type-full               a refusal keeps the words;  one for room leaves the collected store
---   type-sets, type-meets              a text that is done;  a typed text, by its answer
---   type-zero, print-zero              an answer of status 0
---   print-then-type, type-then-print   back and forth
+--   refusal_small, fault_away          the numbers of refusals
+--   type_kept, type_full               a refusal keeps the words;  one for room leaves the collected store
+--   type_sets, type_meets              a text that is done;  a typed text, by its answer
+--   type_zero, print_zero              an answer of status 0
+--   print_then_type, type_then_print   back and forth
 -- Assumes nothing.
 use mathlib.Core.Path.{◌≡◌, refl, sym, ap, ◌∙◌, subst}
 use mathlib.Core.Logic.{◌⊎◌, inl, inr, ◌≢◌}

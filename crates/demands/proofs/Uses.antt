@@ -1,12 +1,12 @@
 -- One use of a public function: its contract is an equation with a definition, and the claims of `promises` are about
 -- the definition, so they hold of what the function returned and left. In order:
---   check-meets, fresh_meets   the check and a fresh store
---   look-meets, span-meets     the look: the words returned, and those between the word numbers of a span
---   sound-or-not               a store is sound or not
---   refusal-not                the refusal of an unsound store has another status than 0
---   collect-meets              collecting
---   run-meets                  a batch
---   print-meets, prints-never-show   a print, and two prints of stores that are alike
+--   check_meets, fresh_meets   the check and a fresh store
+--   look_meets, span_meets     the look: the words returned, and those between the word numbers of a span
+--   sound_or_not               a store is sound or not
+--   refusal_not                the refusal of an unsound store has another status than 0
+--   collect_meets              collecting
+--   run_meets                  a batch
+--   print_meets, prints_never_show   a print, and two prints of stores that are alike
 -- Assumes nothing.
 use mathlib.Core.Path.{◌≡◌, refl, sym, ap, ◌∙◌, subst}
 use mathlib.Core.Logic.{◌⊎◌, inl, inr, ◌≢◌}

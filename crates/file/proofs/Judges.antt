@@ -1,8 +1,8 @@
 -- The verdict on a file, test by test, and on the store in it from its occupied cells. In order:
---   found-damaged, found-ready, found-uncollected   3 and 34, as the code finds them
+--   found_damaged, found_ready, found_uncollected   3 and 34, as the code finds them
 --   store_found                                     what the code finds is what the definition says
 --   part_body                                       the part of a file from its first heap cell on
---   judge-edition to judge-stored                   the tests of the trailer, as the code makes them, then the store
+--   judge_edition to judge_stored                   the tests of the trailer, as the code makes them, then the store
 -- Assumes nothing.
 use mathlib.Core.Path.{◌≡◌, refl, sym, ap, ◌∙◌}
 use mathlib.Core.Logic.{◌⊎◌, inl, inr, ◌≢◌}

@@ -1,8 +1,8 @@
 -- What loading leaves, from what is found of the file. In order:
---   load-short     a file under 16 bytes
---   load-refused   one that is refused
+--   load_short     a file under 16 bytes
+--   load_refused   one that is refused
 --   is_framed      one that is taken, and the room that its store needs
---   load-filled    what is left where the store is written
+--   load_filled    what is left where the store is written
 -- Assumes nothing.
 use mathlib.Core.Path.{◌≡◌, refl, sym, ap, ◌∙◌, subst}
 use mathlib.Core.Bool.{Bool, true, false}
@@ -13,7 +13,7 @@ use lib.Dec.{eqb}
 use lib.ListN.{length}
 use borrow.Author.Tests.{eqb-true, eqb-false}
 use Rattle.octets.specs.Space.{filled}
-use Rattle.meaning.specs.Verdicts.{Verdict, ifSound}
+use Rattle.meaning.specs.Verdicts.{Verdict, if_sound}
 use Rattle.meaning.specs.File.{first_of, file_cells, file_edition, image, check_as, check_file, load_in}
 use Rattle.meaning.proofs.check.Checking.{on_zero_no}
 use Rattle.meaning.proofs.file.Accepted.{Framed, Accepted, accepted_as, checked_short, checked_long}
@@ -39,8 +39,8 @@ module _ (bs ws : List ℕ) (l : 16 ≤ length bs) (R : Loaded)
   is_checked : check_file bs (length ws) ≡ verdict_of R
   is_checked = checked_long bs (length ws) l ∙ sym g.0
 
-  is_top : top_of R ≡ ifSound (verdict_of R) (f + file_cells bs) 0
-  is_top = subst (λ (v : Verdict). top_of R ≡ ifSound v (f + file_cells bs) 0) (sym g.0) g.1
+  is_top : top_of R ≡ if_sound (verdict_of R) (f + file_cells bs) 0
+  is_top = subst (λ (v : Verdict). top_of R ≡ if_sound v (f + file_cells bs) 0) (sym g.0) g.1
 
   pub load_refused : t ≡ false → Loads bs ws R ws
   unfolding load_in

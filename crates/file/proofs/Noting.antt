@@ -1,11 +1,11 @@
 -- A window's notes: one cell more, and what a look along them tells. In order:
---   noted-none, noted-run          a cell without a run that belongs to the window, and one with such a run
---   window-length, noted-begin     before the first cell
---   noted-turn                     a turn of the loop over the cells
---   between-past, held-past        a cell is held where a run that begins at or before it reaches beyond it
---   past-or, past-none             how far the runs reach that pass one test or another, or none
---   along-held                     a look along a window tells whether each of its cells is held
---   look-end, look_stop, look-turn the loop of the look
+--   noted_none, noted_run          a cell without a run that belongs to the window, and one with such a run
+--   window_length, noted_begin     before the first cell
+--   noted_turn                     a turn of the loop over the cells
+--   between_past, held_past        a cell is held where a run that begins at or before it reaches beyond it
+--   past_or, past_none             how far the runs reach that pass one test or another, or none
+--   along_held                     a look along a window tells whether each of its cells is held
+--   look_end, look_stop, look_turn the loop of the look
 -- Assumes nothing.
 use mathlib.Core.Path.{◌≡◌, refl, sym, ap, ap₂, ◌∙◌, subst}
 use mathlib.Core.Bool.{Bool, true, false, cond, ◌&&◌, ◌||◌}

@@ -1,7 +1,7 @@
 -- Parts of lists: the part of bytes from one on; and a slice into which a store is written in two parts, its registers,
 -- then its heap and the zeros after it. In order:
---   part, part-drop   the part from a place on
---   filled-parts      the two parts are the store
+--   part, part_drop   the part from a place on
+--   filled_parts      the two parts are the store
 -- Assumes nothing.
 use mathlib.Core.Path.{◌≡◌, refl, sym, ap, ◌∙◌}
 use mathlib.Core.List.{List, [], ◌++◌, append-nil}

@@ -1,7 +1,7 @@
 -- What saving leaves, from what is written and from the answer of the check. In order:
---   write-file                 the file of a store, part by part
---   save-short, save-written   a sound store, once it is collected: the space is short, or has the file
---   save-sound                 any sound store
+--   write_file                 the file of a store, part by part
+--   save_short, save_written   a sound store, once it is collected: the space is short, or has the file
+--   save_sound                 any sound store
 -- Assumes nothing.
 use mathlib.Core.Path.{◌≡◌, refl, sym, ap, ◌∙◌}
 use mathlib.Core.Logic.{◌⊎◌, inl, inr}

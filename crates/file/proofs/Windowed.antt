@@ -1,7 +1,7 @@
 -- The heap window by window. In order:
 --   turn, stop, finish    cells that are held one after the other, a part of them and the rest
---   held-each, each-held  all of them are held where each is;  there and back
---   held-live             a store all of whose heap cells are held is collected
+--   held_each, each_held  all of them are held where each is;  there and back
+--   held_live             a store all of whose heap cells are held is collected
 -- Assumes nothing.
 use mathlib.Core.Path.{◌≡◌, refl, sym, ap, ◌∙◌, subst}
 use mathlib.Core.Bool.{Bool, true, false, ◌&&◌}

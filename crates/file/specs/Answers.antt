@@ -1,7 +1,7 @@
 -- SCOPE's number and values for each case of an answer (5.9, 5.10). Assumes nothing.
 use Rattle.std.specs.Prelude.{◌≡◌, List, ℕ, length}
 use Rattle.meaning.specs.Limits.{first_heap_cell, edition}
-use Rattle.meaning.specs.Verdicts.{Verdict, only, damaged_at, Done, ifSound}
+use Rattle.meaning.specs.Verdicts.{Verdict, only, damaged_at, Done, if_sound}
 use Rattle.meaning.specs.File as file
 use Rattle.store.specs.Answers.{refusal_of}
 use Rattle.file.specs.declared.Loaded.{Loaded}
@@ -39,7 +39,7 @@ loaded_in r ws = record { verdict = verdict_of r; words = ws; top = top_of r }
 
 -- the answer gives the verdict v and, where that is 0, `top`
 abbrev pub Gives : Loaded → Verdict → ℕ → Type 0
-Gives r v top = (verdict_of r ≡ v) × (top_of r ≡ ifSound v top 0)
+Gives r v top = (verdict_of r ≡ v) × (top_of r ≡ if_sound v top 0)
 
 -- saving: 0 with the new `top` and the length of the file; 22 with the new `top`; the check's refusal with `top` as it
 -- came. And the words and the space that are left

@@ -1,10 +1,10 @@
 -- Tests of numbers, and how many cells below one are in a set. In order:
---   leb-suc                      a test at the next number is the test at this one, but for one number
+--   leb_suc                      a test at the next number is the test at this one, but for one number
 --   positive                     a number that is not 0
 --   both_true                    two tests that hold together hold each;  refuted  one that fails refutes what it tests
---   within, yes-within           a test of two bounds
+--   within, yes_within           a test of two bounds
 --   count                        how many cells below c are in a set
---   count_same, count-less-one   of two sets alike, and of a set with one cell taken out
+--   count_same, count_less_one   of two sets alike, and of a set with one cell taken out
 -- Assumes nothing.
 use mathlib.Core.Path.{◌≡◌, refl, sym, ◌∙◌}
 use mathlib.Core.Logic.{◌≢◌}

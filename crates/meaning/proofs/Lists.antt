@@ -1,15 +1,15 @@
 -- Ascending lists of numbers: membership, places, and counts of what is below a number. In order:
---   lt-or-ge                   a number is below another or not
+--   lt_or_ge                   a number is below another or not
 --   In, Asc                    membership;  strictly ascending, from lo on
---   asc-weaken, asc-in         from a lower number on;  no member is below lo
---   in-getD                    what stands at a place is a member
---   below-low                  none is below lo
---   place, below-getD          at the place that a member's count gives stands the member, and back
---   countIf-mono, below-mono   a greater number has no fewer below it
---   below_suc, below-run       past a member one more, past a run of n members n more
---   below-le                   lo and the count below c come to c at most
---   asc-length                 there are no more members than numbers between
---   asc-within                 nor more than a list has that has them all
+--   asc_weaken, asc_in         from a lower number on;  no member is below lo
+--   in_get_d                    what stands at a place is a member
+--   below_low                  none is below lo
+--   place, below_get_d          at the place that a member's count gives stands the member, and back
+--   count_if_mono, below_mono   a greater number has no fewer below it
+--   below_suc, below_run       past a member one more, past a run of n members n more
+--   below_le                   lo and the count below c come to c at most
+--   asc_length                 there are no more members than numbers between
+--   asc_within                 nor more than a list has that has them all
 -- Assumes nothing.
 use mathlib.Core.Path.{◌≡◌, refl, sym, ap, ◌∙◌}
 use mathlib.Core.Logic.{◌⊎◌, inl, inr}

@@ -2,7 +2,7 @@
 -- Assumes nothing.
 use Rattle.std.specs.Prelude.{◌≡◌, Bool, false, cond, List, [], ◌∷◌, ◌++◌, ℕ, ◌-◌, ◌*◌, ◌/◌, ◌%◌, ◌≤◌, leb, eqb, length, replicate}
 use Rattle.meaning.specs.Limits.{calls_limit}
-use Rattle.meaning.specs.Verdicts.{Verdict, only, ifSound, Done}
+use Rattle.meaning.specs.Verdicts.{Verdict, only, if_sound, Done}
 use Rattle.meaning.specs.Check.{check}
 use Rattle.meaning.specs.Call.{step}
 
@@ -64,4 +64,4 @@ batch_of F ws top calls out =
 -- 1 to 3 first
 unfoldable pub batch : ℕ → List ℕ → ℕ → List ℕ → List ℕ → Outcome
 batch F ws top calls out =
-    ifSound (check F ws top) (batch_of F ws top calls out) (as_lent (check F ws top) ws top out)
+    if_sound (check F ws top) (batch_of F ws top calls out) (as_lent (check F ws top) ws top out)

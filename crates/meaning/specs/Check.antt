@@ -7,7 +7,7 @@ use Rattle.meaning.specs.Limits.{limit, code_test}
 use Rattle.meaning.specs.Sound.{capacity}
 use Rattle.meaning.specs.Reach.{live}
 use Rattle.meaning.specs.Collected.{collected, collected_top}
-use Rattle.meaning.specs.Verdicts.{Verdict, only, damaged_at, Done, done, refused, ifSound}
+use Rattle.meaning.specs.Verdicts.{Verdict, only, damaged_at, Done, done, refused, if_sound}
 
 -- ---- the rules of a cell: the number of the first that the words a and b break, or 0 where they break none
 
@@ -63,6 +63,6 @@ check F ws top =
 -- Collecting alone: 1 to 3 with everything as it came, or 0 with live and the new `top`.
 unfoldable pub collect_in : ℕ → List ℕ → ℕ → Done
 collect_in F ws top =
-    ifSound (check F ws top)
+    if_sound (check F ws top)
     (done (collected F ws top) (collected_top F ws top) (live F ws top))
     (refused ws top (check F ws top))

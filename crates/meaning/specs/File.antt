@@ -10,7 +10,7 @@ use Rattle.meaning.specs.Limits.{limit, kinds}
 use Rattle.meaning.specs.Sound.{capacity}
 use Rattle.meaning.specs.Reach.{live}
 use Rattle.meaning.specs.Collected.{collected, collected_top}
-use Rattle.meaning.specs.Verdicts.{Verdict, only, Done, ifSound}
+use Rattle.meaning.specs.Verdicts.{Verdict, only, Done, if_sound}
 use Rattle.meaning.specs.Check.{check}
 
 -- ---- the bytes of a file
@@ -76,7 +76,7 @@ capacity_test f bs = cond (leb (f + file_cells bs) (file_capacity bs)) (leb (fil
 -- 3 and 34: a store with n heap cells is sound, by the check of a lent one, and each of them is reached
 unfoldable pub check_store : ℕ → List ℕ → ℕ → Verdict
 check_store f ws n =
-    ifSound (check f ws (f + n)) (cond (eqb (live f ws (f + n)) n) (only 0) (only 34)) (check f ws (f + n))
+    if_sound (check f ws (f + n)) (cond (eqb (live f ws (f + n)) n) (only 0) (only 34)) (check f ws (f + n))
 
 -- 31 to 34, where the edition has stores whose first heap cell is f, and a slice of `len` words is lent
 unfoldable pub check_as : ℕ → List ℕ → ℕ → Verdict
@@ -96,7 +96,7 @@ unfoldable pub load_in : List ℕ → List ℕ → Done
 load_in bs ws =
     let f = first_of (file_edition bs) in
     let v = check_file bs (length ws) in
-    record { verdict = v; words = ifSound v (image f bs) ws; top = ifSound v (f + file_cells bs) 0 }
+    record { verdict = v; words = if_sound v (image f bs) ws; top = if_sound v (f + file_cells bs) 0 }
 
 -- ---- a store saved: 1 to 3, else it is collected; then 22
 
@@ -124,4 +124,4 @@ unfoldable pub save_in : ℕ → ℕ → List ℕ → ℕ → ℕ → Saved
 save_in e F ws top n =
     let low = collected F ws top in
     let end = collected_top F ws top in
-    ifSound (check F ws top) (saved_as (file_of e F low end) low end n) (unsaved (check F ws top) ws top n)
+    if_sound (check F ws top) (saved_as (file_of e F low end) low end n) (unsaved (check F ws top) ws top n)

@@ -1,9 +1,9 @@
 -- A text counted, whole and as it arrives in pieces (SCOPE 5.11). The judgement of a byte is that of Judge, and the
 -- place in the text is that of Reader. In order:
---   mostTerms, countText   what a whole text has, as it is read
+--   most_terms, count_text   what a whole text has, as it is read
 --   Pieces, feeds          the state between pieces, and bytes fed to it
---   fits, fed, fedAll      the states that go on;  a piece, and pieces, fed to any state
---   noPieces, counted      before the first piece;  the end
+--   fits, fed, fed_all      the states that go on;  a piece, and pieces, fed to any state
+--   no_pieces, counted      before the first piece;  the end
 -- Assumes nothing.
 use Rattle.std.specs.Prelude.{Bool, true, false, cond, ◌&&◌, List, [], ◌∷◌, ℕ, suc, ◌+◌, ◌-◌, ◌*◌, ◌^◌, max, ltb, leb, get_or, set, take, replicate}
 use Rattle.meaning.specs.Limits.{depth_limit, terms_limit}

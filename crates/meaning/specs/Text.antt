@@ -7,7 +7,7 @@ use Rattle.meaning.specs.Limits.{depth_limit}
 use Rattle.meaning.specs.Expr.{Expr, nothing, symbol, parens}
 use Rattle.meaning.specs.Sound.{IsCode}
 use Rattle.meaning.specs.Meaning.{meaning}
-use Rattle.meaning.specs.Verdicts.{Verdict, only, on_zero, ifSound}
+use Rattle.meaning.specs.Verdicts.{Verdict, only, on_zero, if_sound}
 use Rattle.meaning.specs.Check.{check}
 
 -- what stands between a term and the rest of its expression: one space, where there is a rest
@@ -63,6 +63,6 @@ printed t n =
 -- register i in a text space of n bytes: 1 to 3 first, then 20 for a register that is none, then the text's trouble
 unfoldable pub print_in : ℕ → List ℕ → ℕ → ℕ → ℕ → Printed
 print_in F ws top i n =
-    ifSound (check F ws top)
+    if_sound (check F ws top)
     (cond (ltb i F) (printed (text (meaning ws i)) n) (unprinted (only 20) n))
     (unprinted (check F ws top) n)

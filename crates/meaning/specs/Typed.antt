@@ -2,7 +2,7 @@
 -- Assumes nothing.
 use Rattle.std.specs.Prelude.{false, cond, List, ℕ, ltb}
 use Rattle.meaning.specs.Expr.{Expr}
-use Rattle.meaning.specs.Verdicts.{Done, refused, only, ifSound}
+use Rattle.meaning.specs.Verdicts.{Done, refused, only, if_sound}
 use Rattle.meaning.specs.Check.{check}
 use Rattle.meaning.specs.Call.{Plan, laying, sought, carry_out}
 use Rattle.meaning.specs.Reader.{Draft, reads, blank, is_whole, stop_verdict, expression}
@@ -22,6 +22,6 @@ typed_of F ws top d r =
 -- the text bs into register d of any words: 1 to 3 first, then 20 for a register that is none
 unfoldable pub type_in : ℕ → List ℕ → ℕ → ℕ → List ℕ → Done
 type_in F ws top d bs =
-    ifSound (check F ws top)
+    if_sound (check F ws top)
     (cond (ltb d F) (typed_of F ws top d (reads blank bs)) (refused ws top (only 20)))
     (refused ws top (check F ws top))

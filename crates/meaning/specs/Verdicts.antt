@@ -38,5 +38,5 @@ abbrev pub on_zero {ℓ} : {A : Type ℓ} → ℕ → A → A → A
 on_zero zero x y = x
 on_zero (suc s) x y = y
 
-abbrev pub ifSound {ℓ} : {A : Type ℓ} → Verdict → A → A → A
-ifSound v x y = on_zero v.status x y
+abbrev pub if_sound {ℓ} : {A : Type ℓ} → Verdict → A → A → A
+if_sound v x y = on_zero v.status x y

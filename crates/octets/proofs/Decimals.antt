@@ -1,9 +1,9 @@
 -- Laws of decimal digits. In order:
 --   by_digits                   what holds of one digit, and of a number if it holds of the number less its last digit
---   decimal-one, decimal-more   the digits of a number; decimal-rows
---   length_most                 a number below 10 to the d has at most d digits; word-digits, long-digits
---   decimal-back                they stand for the number
---   only-digits, no-leading-zero
+--   decimal_one, decimal_more   the digits of a number; decimal_rows
+--   length_most                 a number below 10 to the d has at most d digits; word_digits, long_digits
+--   decimal_back                they stand for the number
+--   only_digits, no_leading_zero
 -- Assumes nothing.
 use mathlib.Core.Path.{◌≡◌, refl, sym, ap, ◌∙◌}
 use mathlib.Core.Bool.{Bool, true, false}

@@ -1,8 +1,8 @@
 -- Laws of words of bytes and bytes of words. In order:
---   words-length, bytes-length   how many there are
---   word-at, word_none           word j of bytes, and that there is none
---   words_take, words-drop       the words of the first bytes, and of those after them
---   bytes-append                 the bytes of words, then of words
+--   words_length, bytes_length   how many there are
+--   word_at, word_none           word j of bytes, and that there is none
+--   words_take, words_drop       the words of the first bytes, and of those after them
+--   bytes_append                 the bytes of words, then of words
 --   words_back, bytes_back       there and back
 -- Assumes nothing.
 use mathlib.Core.Path.{◌≡◌, refl, ap, ap₂}

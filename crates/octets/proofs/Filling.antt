@@ -1,10 +1,10 @@
 -- A list that is filled, an element a turn. In order:
---   padded-at                 zeros after a list
---   filled-length, filled_at  the length and the elements of a filled list
---   filled-fits               a list that fits is filled up with zeros
---   filled-long, filled-then  a list that is too long; a list, then what fills the rest
+--   padded_at                 zeros after a list
+--   filled_length, filled_at  the length and the elements of a filled list
+--   filled_fits               a list that fits is filled up with zeros
+--   filled_long, filled_then  a list that is too long; a list, then what fills the rest
 --   Filling                   the elements below i are as they are to be
---   begin, begin-at           none is to be, and those below a place are already
+--   begin, begin_at           none is to be, and those below a place are already
 --   beyond, onward, finish    what is beyond that place; one element more; all of them
 -- Assumes nothing.
 use mathlib.Core.Path.{◌≡◌, refl, sym, ◌∙◌, subst}

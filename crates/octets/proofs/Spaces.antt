@@ -1,13 +1,13 @@
 -- Laws of a space that is written from left to right. In order:
---   put_in, put-past, put-short, put-stopped   one byte: written, one too many, nothing any more
+--   put_in, put_past, put_short, put_stopped   one byte: written, one too many, nothing any more
 --   write_then, write_step                   bytes, then bytes; the first of what is left to write is written
---   bytes_next, bytes-none                   bytes, a byte a turn
---   words-next, words-none                   words, a word a turn
---   sets-next, sets-none                     the same where all of them fit, from a place on
---   same-space                               the space stays as long
---   words-fit, words-set                     words whose bytes all fit, set at once
---   write-fits, pen-fits                     bytes that fit, and the pen after them
---   write-stops, write-short                 bytes that do not
+--   bytes_next, bytes_none                   bytes, a byte a turn
+--   words_next, words_none                   words, a word a turn
+--   sets_next, sets_none                     the same where all of them fit, from a place on
+--   same_space                               the space stays as long
+--   words_fit, words_set                     words whose bytes all fit, set at once
+--   write_fits, pen_fits                     bytes that fit, and the pen after them
+--   write_stops, write_short                 bytes that do not
 -- Assumes nothing.
 use mathlib.Core.Path.{◌≡◌, refl, sym, ap, ◌∙◌}
 use mathlib.Core.Bool.{Bool, true, false, cond, false≢true}

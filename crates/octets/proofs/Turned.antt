@@ -1,9 +1,9 @@
 -- A number's digits, found from the last one on and put into a list from its end. In order:
---   front, front-last   the digits of a number but the last one
---   some-digit          a number has a digit
---   drop-set            what stands from a place on where that place is set
+--   front, front_last   the digits of a number but the last one
+--   some_digit          a number has a digit
+--   drop_set            what stands from a place on where that place is set
 --   Turned              the digits found so far, from place f on; those of r but the last are to come
---   turned-begin, turned-room, turned_more, turned-end
+--   turned_begin, turned_room, turned_more, turned_end
 -- Assumes nothing.
 use mathlib.Core.Path.{◌≡◌, refl, sym, ap, ◌∙◌}
 use mathlib.Core.Bool.{Bool, true, false, cond}

@@ -1,6 +1,6 @@
 -- What stays in range as a piece is fed, a byte a turn. In order:
---   can-read, can-count   a byte may be read and counted, in a state that goes on
---   counted-as            a state by its parts
+--   can_read, can_count   a byte may be read and counted, in a state that goes on
+--   counted_as            a state by its parts
 --   Fed, begin, onward    the first i bytes are fed, and what is left of the definition equals the whole
 --   halted, finish        a byte has stopped it;  after the last byte
 -- Assumes nothing.

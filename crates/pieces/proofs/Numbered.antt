@@ -1,7 +1,7 @@
 -- The struct of a state gives the state back, wherever bytes lead from a struct. In order:
---   Numbered, numbered-back   a stand that a number can say, and its number says it
---   from-numbered             where a struct's reader stands is such
---   feeds-numbered            and bytes lead to no other
+--   Numbered, numbered_back   a stand that a number can say, and its number says it
+--   from_numbered             where a struct's reader stands is such
+--   feeds_numbered            and bytes lead to no other
 --   back                      so the struct of what they lead to gives it back
 -- Assumes nothing.
 use mathlib.Core.Path.{◌≡◌, refl, ap, subst}

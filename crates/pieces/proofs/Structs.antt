@@ -1,8 +1,8 @@
 -- The state as a struct of numbers and as the definitions have it. In order:
---   stand-kept, kept-fits     the number so far is kept where the reader stands in one, and fits 28 bits
---   code-kept                 of the code's own stands
---   from-struct               a struct as the state that bytes are fed to
---   to-struct, in-numbers     and that state as a struct
+--   stand_kept, kept_fits     the number so far is kept where the reader stands in one, and fits 28 bits
+--   code_kept                 of the code's own stands
+--   from_struct               a struct as the state that bytes are fed to
+--   to_struct, in_numbers     and that state as a struct
 -- Assumes nothing.
 use mathlib.Core.Path.{◌≡◌, refl, ap, ◌∙◌, subst}
 use mathlib.Core.Bool.{Bool, true, false, cond}

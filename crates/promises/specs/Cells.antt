@@ -2,10 +2,10 @@
 -- 4.3).
 -- w is the store in which it acts, t the first new cell; a register's bracket has its first cell and its size. In
 -- order:
---   dCells, newCells   d's cell and new cell number j, by a row for each operation that sets d
+--   d_cells, new_cells   d's cell and new cell number j, by a row for each operation that sets d
 --   OnlyThere          no other cell changes
 --   Leaves             all three
---   laidOn, laidFrom   the store in which new cells are laid, and the first of them
+--   laid_on, laid_from   the store in which new cells are laid, and the first of them
 -- Assumes nothing.
 use Rattle.std.specs.Prelude.{◌≡◌, ◌⊎◌, ◌≢◌, cond, List, [], ◌∷◌, ℕ, suc, ◌+◌, ◌-◌, ◌≤◌, ◌<◌, ltb, leb, eqb, get_or}
 use Rattle.words.specs.Cell.{first_word, second_word}

@@ -1,8 +1,8 @@
 -- The program: what it writes for what it reads (SCOPE 6). Which input is refused with 1 and
 -- which with 4, in that order; for any other the lines of its batch, and `top`. An input is a list of bytes. In order:
 --   CapacityRule, BytesRule   what an input has to be
---   batchIn                   the batch that it stands for
---   linesFor, topLine         what is written of that batch
+--   batch_in                   the batch that it stands for
+--   lines_for, top_line         what is written of that batch
 --   ProgramWrites             what is written for every input
 --   ProgramReads              how much of an input counts
 -- That the running program reads and writes these bytes no statement of Rattle says: docs/GAPS.md.

@@ -1,7 +1,7 @@
 -- Demand 2, a text read (SCOPE 5.8): what is read is what was written, and a text is refused at the byte farthest to
 -- the left. In order:
 --   BeginsText, AreText        bytes that begin a text;  bytes that are one
---   termsBegun, TermsBegin     the terms that begin in bytes;  in a text, they are its terms on all levels
+--   terms_begun, TermsBegin     the terms that begin in bytes;  in a text, they are its terms on all levels
 --   MayBegin                   bytes that begin a text, with no more terms than it may have
 --   ReadsBack, WritesBack      what was written is read back, and what is read is written back
 --   TermMayBegin               where a term may begin

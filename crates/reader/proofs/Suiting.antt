@@ -1,6 +1,6 @@
 -- What a byte is, by its move and by what is asked of it. In order:
---   code-asked    what is asked of a number, whether it is a code, is asked of an equal one
---   judge-suits   the byte is what its move says
+--   code_asked    what is asked of a number, whether it is a code, is asked of an equal one
+--   judge_suits   the byte is what its move says
 -- Assumes nothing.
 use mathlib.Core.Path.{◌≡◌, sym, ap, ◌∙◌}
 use mathlib.Core.Bool.{Bool}

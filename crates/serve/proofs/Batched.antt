@@ -1,9 +1,9 @@
 -- A batch on a fresh store is not refused, and what it leaves is what the program has to write. In order:
---   made-top, ran-top                  the `top` that an answer says, whatever the words and the answers are
---   run-output                         what the calls leave in the fresh store is what the program has to write
---   cells_fit, calls-fit               the store and the answers fit the program's buffers
---   part, part_length, part-capacity   a part of a buffer of zeros, its words and its cells
---   lent-parts                         what the program lends is enough for the batch and its lines
+--   made_top, ran_top                  the `top` that an answer says, whatever the words and the answers are
+--   run_output                         what the calls leave in the fresh store is what the program has to write
+--   cells_fit, calls_fit               the store and the answers fit the program's buffers
+--   part, part_length, part_capacity   a part of a buffer of zeros, its words and its cells
+--   lent_parts                         what the program lends is enough for the batch and its lines
 -- Assumes nothing.
 use mathlib.Core.Path.{◌≡◌, refl, sym, ap, ap₂, ◌∙◌}
 use mathlib.Core.List.{List, [], ◌++◌}

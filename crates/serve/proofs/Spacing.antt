@@ -1,8 +1,8 @@
 -- What the lines of the output are made of, and how many bytes they take. In order:
---   line-fields             two fields are a line
+--   line_fields             two fields are a line
 --   lines_next, lines_none  the lines of the answers, one after the other
---   refusal-short           the bytes of a refusal
---   report-fits             the bytes of lines and the last one
+--   refusal_short           the bytes of a refusal
+--   report_fits             the bytes of lines and the last one
 --   front                   what a pen wrote that had room
 -- Assumes nothing.
 use mathlib.Core.Path.{◌≡◌, refl}

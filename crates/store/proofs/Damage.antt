@@ -1,7 +1,7 @@
 -- Passes that gather damage in one word and are never left: the word is zero only where no cell added to it. In order:
---   Clear, clear_none, clear-more  what a pass knows, at its start and after a turn; all three passes are of this form
---   register-keeps, heap-keeps     what a cell adds is zero only where it keeps its rule
---   free-keep, all_keep            the free cells by their words; the three passes together
+--   Clear, clear_none, clear_more  what a pass knows, at its start and after a turn; all three passes are of this form
+--   register_keeps, heap_keeps     what a cell adds is zero only where it keeps its rule
+--   free_keep, all_keep            the free cells by their words; the three passes together
 -- Assumes nothing.
 use mathlib.Core.Path.{◌≡◌, refl, sym, subst}
 use mathlib.Core.Bool.{Bool, true, false, not}

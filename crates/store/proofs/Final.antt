@@ -5,7 +5,7 @@ use mathlib.Core.Path.{◌≡◌, refl, sym, ap, ◌∙◌}
 use mathlib.Core.List.{List}
 use Prim.Native.Nat.{ℕ, ◌-◌}
 use lib.ListN.{take, drop}
-use Rattle.meaning.specs.Verdicts.{Verdict, Done, on_zero, ifSound}
+use Rattle.meaning.specs.Verdicts.{Verdict, Done, on_zero, if_sound}
 use Rattle.meaning.specs.Look.{Span, look}
 use Rattle.store.specs.Answers.{verdict_of, made_in}
 use Rattle.store.specs.Unique.{VerdictsDiffer, OneCheck, OneFresh, OneSpan, OneLook, LookAtSpan}
@@ -17,7 +17,7 @@ use Rattle.store.specs.declared.Span as span
 use Rattle.store.proofs.Refusals.{unsound_of, unsound_of_back, if_sound_refusal}
 
 abbrev checked_of : Verdict → Checked
-checked_of v = ifSound v checked.Sound (checked.Refused (unsound_of v))
+checked_of v = if_sound v checked.Sound (checked.Refused (unsound_of v))
 
 checked_back : (r : Checked) → checked_of (verdict_of r) ≡ r
 checked_back checked.Sound = refl

@@ -1,11 +1,11 @@
 -- A bracket's contents, and a term, from the fields of the second word. In order:
---   br-tested                   the bit br of a second word, as it was read and tested
+--   br_tested                   the bit br of a second word, as it was read and tested
 --   Contents                    what a bracket with the first word a and the right end r is
---   bracket-second              a bracket's second word has the bit br
+--   bracket_second              a bracket's second word has the bit br
 --   contents                    the contents of a cell that keeps the rule of a bracket
---   term-bracket, term-symbol   a term with the bit is a bracket, and one without is a symbol
---   symbol-is, bracket-is       what a caller's `match` on a term learns, in each arm
---   bracket-by                  what holds of an empty bracket and of one with ends holds of that cell
+--   term_bracket, term_symbol   a term with the bit is a bracket, and one without is a symbol
+--   symbol_is, bracket_is       what a caller's `match` on a term learns, in each arm
+--   bracket_by                  what holds of an empty bracket and of one with ends holds of that cell
 -- Assumes nothing.
 use mathlib.Core.Path.{◌≡◌, refl, sym, ap, ◌∙◌}
 use mathlib.Core.Logic.{◌≢◌}

@@ -4,7 +4,7 @@ use mathlib.Core.Path.{◌≡◌, refl}
 use mathlib.Core.Bool.{false}
 use Prim.Native.Nat.{ℕ, zero, suc, ◌-◌}
 use lib.Dec.{eqb}
-use Rattle.meaning.specs.Verdicts.{Verdict, on_zero, ifSound}
+use Rattle.meaning.specs.Verdicts.{Verdict, on_zero, if_sound}
 use Rattle.store.specs.Answers.{refusal_of}
 use Rattle.store.specs.declared.Unsound.{Unsound}
 use Rattle.store.specs.declared.Unsound.TheVariants as unsound
@@ -33,5 +33,5 @@ refusal_by f y p q r (unsound.Damaged c n) = r
 pub refusal_positive : (u : Unsound) → eqb (refusal_of u).status 0 ≡ false
 refusal_positive = refusal_by (λ (s : ℕ). eqb s 0) false refl refl refl
 
-pub if_sound_refusal : {A : Type 0} (u : Unsound) (x y : A) → ifSound (refusal_of u) x y ≡ y
+pub if_sound_refusal : {A : Type 0} (u : Unsound) (x y : A) → if_sound (refusal_of u) x y ≡ y
 if_sound_refusal u x y = refusal_by (λ (s : ℕ). on_zero s x y) y refl refl refl u

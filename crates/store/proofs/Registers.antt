@@ -1,9 +1,9 @@
 -- The contents of a register of a sound store. In order:
---   bracket-in          a register is a bracket whose ends lie in the heap, below `top`
+--   bracket_in          a register is a bracket whose ends lie in the heap, below `top`
 --   readable            its words may be read as a bracket's
---   is-empty, is-full   by its run: empty, or a bracket with ends
---   first-in            the first cell of a run that is not empty is an occupied heap cell
---   run-below           its run ends below `top`
+--   is_empty, is_full   by its run: empty, or a bracket with ends
+--   first_in            the first cell of a run that is not empty is an occupied heap cell
+--   run_below           its run ends below `top`
 -- Assumes nothing.
 use mathlib.Core.Path.{◌≡◌, refl, sym, ◌∙◌, subst}
 use mathlib.Core.Logic.{◌≢◌}

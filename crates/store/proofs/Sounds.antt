@@ -1,11 +1,11 @@
 -- What the answer of the check says of the store, for those that go on only where it is sound. In order:
---   firstHeapCell-pos                 there is a register
---   sound-no                          where the test of `is_sound` fails, the status is not 0
---   sound-iff                         it passes exactly for a sound store
---   ifSound-no                        what depends on the check, where the test fails
---   found-sound, found-refused        the arms of a `match` on the answer of the check
---   register-bracketed, heap-termed   a sound store's registers and heap cells may be read
---   register-inside, heap-inside      their words lie in the store
+--   first_heap_cell_pos                 there is a register
+--   sound_no                          where the test of `is_sound` fails, the status is not 0
+--   sound_iff                         it passes exactly for a sound store
+--   if_sound_no                        what depends on the check, where the test fails
+--   found_sound, found_refused        the arms of a `match` on the answer of the check
+--   register_bracketed, heap_termed   a sound store's registers and heap cells may be read
+--   register_inside, heap_inside      their words lie in the store
 -- Assumes nothing.
 use mathlib.Core.Path.{◌≡◌, sym, ap, ◌∙◌}
 use mathlib.Core.Logic.{◌≢◌, ◌↔◌}
@@ -18,7 +18,7 @@ use lib.ListN.{length}
 use borrow.Author.Tests.{eqb-true, eqb-false, eq-eqb}
 use Rattle.meaning.specs.Limits.{first_heap_cell, limit}
 use Rattle.meaning.specs.Sound.{Sound}
-use Rattle.meaning.specs.Verdicts.{Verdict, ifSound}
+use Rattle.meaning.specs.Verdicts.{Verdict, if_sound}
 use Rattle.meaning.specs.Check.{check}
 use Rattle.meaning.proofs.check.Checking.{sound_check, check_sound, on_zero_no}
 use Rattle.meaning.proofs.sound.Cells.{register_rule, heap_rule}
@@ -52,7 +52,7 @@ module _ (F : ℕ) (ws : List ℕ) (top : ℕ) (found : Checked) (q : verdict_of
     λ s. eq-eqb (verdict_of found).status 0 (status ∙ ap (λ (v : Verdict). v.status) (sound_check F ws top s)),
   )
 
-  pub if_sound_no : {A : Type 0} (x y : A) → zero? ≡ false → ifSound (check F ws top) x y ≡ y
+  pub if_sound_no : {A : Type 0} (x y : A) → zero? ≡ false → if_sound (check F ws top) x y ≡ y
   if_sound_no x y e = on_zero_no (check F ws top).status x y (sound_no e)
 
   -- the arms of a `match` on the answer: the store is sound
@@ -61,7 +61,7 @@ module _ (F : ℕ) (ws : List ℕ) (top : ℕ) (found : Checked) (q : verdict_of
 
   -- or it is refused, and what depends on the check is what the refusal gives
   pub found_refused : {A : Type 0} {u : Unsound} (x : A) (f : Verdict → A) → found ≡ checked.Refused u
-      → f (refusal_of u) ≡ ifSound (check F ws top) x (f (check F ws top))
+      → f (refusal_of u) ≡ if_sound (check F ws top) x (f (check F ws top))
   found_refused {u = u} x f e = rw (← q, e) (sym (if_sound_refusal u x (f (refusal_of u))))
 
 -- a sound store's cells may be read

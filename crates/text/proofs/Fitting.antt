@@ -1,8 +1,8 @@
 -- A text that is written as far as it goes is printed as the definition says. In order:
---   deep-ended, short-ended, whole-ended   what comes of a page, by how the text ended
+--   deep_ended, short_ended, whole_ended   what comes of a page, by how the text ended
 --   Fate, fate                             the first trouble, and the page that it leaves
---   ended-printed                          a text written into a whole space
---   register-printed                       so of a register's expression
+--   ended_printed                          a text written into a whole space
+--   register_printed                       so of a register's expression
 --   zeroed                                 a refusal
 -- Assumes nothing.
 use mathlib.Core.Path.{◌≡◌, refl, sym, ap, ◌∙◌}

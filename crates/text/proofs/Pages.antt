@@ -1,11 +1,11 @@
 -- Laws of a text that is written byte by byte. In order:
---   next-plain, next-open, next-deep      one byte, by whether it opens a bracket
---   left-plain, left-close, left_open     how many more brackets may be open after it
---   writes-stopped, stopped-short         nothing more is written
---   writes-plain, -space, -digits         bytes that are no brackets
---   writes-close, -open, -deep            brackets
+--   next_plain, next_open, next_deep      one byte, by whether it opens a bracket
+--   left_plain, left_close, left_open     how many more brackets may be open after it
+--   writes_stopped, stopped_short         nothing more is written
+--   writes_plain, -space, -digits         bytes that are no brackets
+--   writes_close, -open, -deep            brackets
 --   Apart                                 what is written behind a text has as many brackets to open as the text had
---   writes-bracket, writes-text           a bracket around such a text;  the text of an expression is such
+--   writes_bracket, writes_text           a bracket around such a text;  the text of an expression is such
 -- Assumes nothing.
 use mathlib.Core.Path.{◌≡◌, refl, sym, ap, ◌∙◌}
 use mathlib.Core.Logic.{◌≢◌}

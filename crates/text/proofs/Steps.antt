@@ -1,12 +1,12 @@
 -- What the term writer and the expression writer do, step by step; t has the terms of the cells. In order:
---   with-space, stop-short, stop-here                a page by its space;  the end before a bracket
---   gap-none, gap-one                                the space before a term
---   symbol-written, deep-stopped, bracket-written    a term: a symbol, a bracket that is one too many, any other
+--   with_space, stop_short, stop_here                a page by its space;  the end before a bracket
+--   gap_none, gap_one                                the space before a term
+--   symbol_written, deep_stopped, bracket_written    a term: a symbol, a bracket that is one too many, any other
 --   unwritten, finished                              what is left of an expression where i of its terms are written,
 --                                                    and the page once it is
---   begun, one_more, left-stopped, left-none         the loop over its cells
---   term-filled, symbol-arm, bracket-arm             the term of a cell in a sound store, by the arms of a `match`
---   register-within, register-is                     the cells of a register, and what it denotes
+--   begun, one_more, left_stopped, left_none         the loop over its cells
+--   term_filled, symbol_arm, bracket_arm             the term of a cell in a sound store, by the arms of a `match`
+--   register_within, register_is                     the cells of a register, and what it denotes
 -- Assumes nothing.
 use mathlib.Core.Path.{◌≡◌, refl, sym, ap, ◌∙◌, subst}
 use mathlib.Core.Logic.{◌≢◌}

@@ -1,10 +1,10 @@
 -- The bytes of a text from some place on. In order:
---   drop-in, drop_past, drop-inside                a byte at a place, or none;  where something is left, there is one
---   codeAt-le                                      a code only grows
---   Numbering, digit-inside, number-onward .. -end   a number, a digit a turn
---   NoDigit, decimal-code, decimal-left            the digits of a code, read where no digit follows
---   decimal-first, decimal-goes-on                 its first byte is a digit, so a term stands there
---   goes-inside                                    where a term stands, there is a byte
+--   drop_in, drop_past, drop_inside                a byte at a place, or none;  where something is left, there is one
+--   code_at_le                                      a code only grows
+--   Numbering, digit_inside, number_onward .. -end   a number, a digit a turn
+--   NoDigit, decimal_code, decimal_left            the digits of a code, read where no digit follows
+--   decimal_first, decimal_goes_on                 its first byte is a digit, so a term stands there
+--   goes_inside                                    where a term stands, there is a byte
 -- Assumes nothing.
 use mathlib.Core.Path.{◌≡◌, refl, sym, ap, ◌∙◌}
 use mathlib.Core.Bool.{Bool, true, false, cond, false≢true}

@@ -1,7 +1,7 @@
 -- An expression laid term by term: what is done, what is to do, and what waits. In order:
 --   Going                                the terms that are laid or wait, and those to come
---   some-terms, filled-goes-on           an expression with a term in it takes a cell, and its text goes on
---   begin, room, ready-term, filled      before the first term;  what is needed for the next
+--   some_terms, filled_goes_on           an expression with a term in it takes a cell, and its text goes on
+--   begin, room, ready_term, filled      before the first term;  what is needed for the next
 --   onward, finish                       one term more;  the last term is done, and what waits is turned round
 -- Assumes nothing.
 use mathlib.Core.Path.{◌≡◌, refl, sym, ap, ◌∙◌, subst}

@@ -1,8 +1,8 @@
 -- One term laid: a bracket, whose contents are laid first, or a symbol. In order:
---   byte_inside, room-high, own-inside            where a term stands there is a byte, and a free cell for it
---   left-some, bracket-ready, can-lay-inside      a bracket may be open, and its contents may be laid
---   inside-long, inside-small, inside-next        what laying them leaves
---   bracket-laid, code-small, symbol-laid         the term laid
+--   byte_inside, room_high, own_inside            where a term stands there is a byte, and a free cell for it
+--   left_some, bracket_ready, can_lay_inside      a bracket may be open, and its contents may be laid
+--   inside_long, inside_small, inside_next        what laying them leaves
+--   bracket_laid, code_small, symbol_laid         the term laid
 -- Assumes nothing.
 use mathlib.Core.Path.{◌≡◌, refl, sym, ap, ap₂, ◌∙◌, subst}
 use mathlib.Core.List.{List, [], ◌∷◌, ◌++◌, append_assoc, append-nil}

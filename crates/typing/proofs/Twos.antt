@@ -1,10 +1,10 @@
 -- Cells by their two words. In order:
---   two-put-same, two-put-other                    a cell put, and the others
---   two-swapped-first .. swapped-length            two cells that change places
---   kept-all, kept_then, kept-wide, kept_put       what is kept
---   lie-append, lie-kept, wait-append, wait-kept   cells that lie upward, and that wait downward
---   lie-turned                                     cells that waited, turned round
---   lie-puts                                       a store that is kept but for cells that lie in it
+--   two_put_same, two_put_other                    a cell put, and the others
+--   two_swapped_first .. swapped_length            two cells that change places
+--   kept_all, kept_then, kept_wide, kept_put       what is kept
+--   lie_append, lie_kept, wait_append, wait_kept   cells that lie upward, and that wait downward
+--   lie_turned                                     cells that waited, turned round
+--   lie_puts                                       a store that is kept but for cells that lie in it
 --   last_none, last_some                           a bracket around the last cells
 -- Assumes nothing.
 use mathlib.Core.Path.{◌≡◌, refl, sym, ap, ap₂, ◌∙◌}

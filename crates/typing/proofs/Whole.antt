@@ -1,8 +1,8 @@
 -- A whole text laid, and a text typed in by what the code finds. In order:
---   text-ready, can-lay              a whole text may be laid where there is room for its terms
---   text-long, text-small, text-laid what laying it leaves
---   found-whole, found-bad           what reading finds
---   whole-text, type-whole, type-bad a text that is found whole, or refused
+--   text_ready, can_lay              a whole text may be laid where there is room for its terms
+--   text_long, text_small, text_laid what laying it leaves
+--   found_whole, found_bad           what reading finds
+--   whole_text, type_whole, type_bad a text that is found whole, or refused
 -- Assumes nothing.
 use mathlib.Core.Path.{◌≡◌, refl, sym, ap, ◌∙◌, subst}
 use mathlib.Core.Bool.{true, false}

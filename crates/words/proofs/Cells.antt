@@ -1,9 +1,9 @@
 -- The words of a store, cell by cell: what a cell put leaves at each cell, and that the words of all cells are the
 -- store. In order:
---   putCell-length                      as many words as before
---   firstWord-same, secondWord-same     at the cell put, the two words put
---   firstWord-other, secondWord-other   at any other cell, its own
---   words-ext                           two stores as long, with the same words at every cell, are the same
+--   put_cell_length                      as many words as before
+--   first_word_same, second_word_same     at the cell put, the two words put
+--   first_word_other, second_word_other   at any other cell, its own
+--   words_ext                           two stores as long, with the same words at every cell, are the same
 -- Assumes nothing.
 use mathlib.Core.Path.{◌≡◌, ◌∙◌}
 use mathlib.Core.Logic.{◌≢◌}

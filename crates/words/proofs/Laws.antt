@@ -1,8 +1,8 @@
 -- A second word and its five fields: each is known from the other. In order:
---   bit_le, bit-flag               a bit is 0 or 1;  a flag as a number
---   ri-lt                          a right end is below 2 ^ 28
---   decode-encode, encode-decode   fields to a word and back, a word to its fields and back
---   decode-inj                     two words with the same fields are one word
+--   bit_le, bit_flag               a bit is 0 or 1;  a flag as a number
+--   ri_lt                          a right end is below 2 ^ 28
+--   decode_encode, encode_decode   fields to a word and back, a word to its fields and back
+--   decode_inj                     two words with the same fields are one word
 --   decodes                        what a word decodes to, from what it is the code of
 -- Assumes nothing.
 use mathlib.Core.Path.{◌≡◌, refl, sym, ap, ◌∙◌}

@@ -1,10 +1,10 @@
 -- Masks in plain arithmetic: what reading, testing, setting and clearing the bit k, or all below it, do to a number.
 -- In order:
 --   read, test                 `w & (1 << k)`, and `w & (1 << k) != 0`
---   or-bit, xor-bit            `w | (1 << k)`, and `w ^ (1 << k)`
+--   or_bit, xor_bit            `w | (1 << k)`, and `w ^ (1 << k)`
 --   low_bits                   the bits up to k are bit k and those below
---   and_not_bit, and-not-low   `w & !(1 << k)`, and `w & !ones`, where the ones are the k low bits
---   or-low                     `v | n`, where the k low bits of v are free and n has no others
+--   and_not_bit, and_not_low   `w & !(1 << k)`, and `w & !ones`, where the ones are the k low bits
+--   or_low                     `v | n`, where the k low bits of v are free and n has no others
 -- Assumes nothing.
 use mathlib.Core.Path.{◌≡◌, sym, ap, ap₂, ◌∙◌}
 use mathlib.Core.Bool.{not}

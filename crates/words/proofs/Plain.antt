@@ -1,8 +1,8 @@
 -- The second words that stand between calls, which have no mark and no chain: a bracket's, and any other cell's.
 -- In order:
---   decode-code, decode-zero   the fields of a number below 2 ^ 28, and of 0;  decode-bracket  of a bracket's word
+--   decode_code, decode_zero   the fields of a number below 2 ^ 28, and of 0;  decode_bracket  of a bracket's word
 --   plain_word, plain_code     and back: the fields say which word it is
---   plain-full                 one is larger than an empty bracket's only where the bracket has contents
+--   plain_full                 one is larger than an empty bracket's only where the bracket has contents
 -- Assumes nothing.
 use mathlib.Core.Path.{◌≡◌, refl, ap}
 use mathlib.Core.Bool.{Bool, true, false, not}

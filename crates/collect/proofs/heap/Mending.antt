@@ -1,7 +1,7 @@
 -- When a holder is mended, and what its two fields are then and before. In order:
---   mended-same, mended-off  one place down the chain, for a cell elsewhere in the order or with another right end
---   mended-yes, mended-no    the holder at that place itself
---   heldL-same .. heldR-no   its fields
+--   mended_same, mended_off  one place down the chain, for a cell elsewhere in the order or with another right end
+--   mended_yes, mended_no    the holder at that place itself
+--   held_l_same .. held_r_no   its fields
 -- Assumes nothing.
 use mathlib.Core.Path.{◌≡◌, refl, sym}
 use mathlib.Core.Logic.{◌≢◌}

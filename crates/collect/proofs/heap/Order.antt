@@ -1,9 +1,9 @@
 -- The order of the sweep: the registers, then the heap from the top down; and what a holder is. In order:
---   pos-reg, pos-heap, pos-free  where a cell comes in the order;  pos-other  no two in one place;  pos-low
---   turn-pos, pos-turn           the cell at a place in the order, and back
---   holder-br .. holder-low      what makes a holder
---   pos-holder                   a holder has its turn before its right end;  ri-other  which is another cell
---   ri-live                      and reached
+--   pos_reg, pos_heap, pos_free  where a cell comes in the order;  pos_other  no two in one place;  pos_low
+--   turn_pos, pos_turn           the cell at a place in the order, and back
+--   holder_br .. holder_low      what makes a holder
+--   pos_holder                   a holder has its turn before its right end;  ri_other  which is another cell
+--   ri_live                      and reached
 -- Assumes nothing.
 use mathlib.Core.Path.{◌≡◌, sym, ◌∙◌, ap}
 use mathlib.Core.Logic.{◌≢◌}

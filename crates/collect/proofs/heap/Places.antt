@@ -1,11 +1,11 @@
 -- Where the cells stand after their turns. In order:
---   new-bound             new addresses: from F on, never up, and no more cells are passed over below c than below T
---   new-run               reached cells side by side stay so
---   place-own, place_kept  a register stays, and without packing so does every cell
+--   new_bound             new addresses: from F on, never up, and no more cells are passed over below c than below T
+--   new_run               reached cells side by side stay so
+--   place_own, place_kept  a register stays, and without packing so does every cell
 --   place_up              a reached cell goes no lower, and stays below T
---   place-next            two side by side stay so;  place-less  order is kept
---   place-run             a holder's left end, from its right end and its length less one
---   place-lift            a cell's place, from the number of unreached cells above it
+--   place_next            two side by side stay so;  place_less  order is kept
+--   place_run             a holder's left end, from its right end and its length less one
+--   place_lift            a cell's place, from the number of unreached cells above it
 -- Assumes nothing.
 use mathlib.Core.Path.{◌≡◌, refl}
 use mathlib.Core.Bool.{Bool, true, false, cond}

@@ -1,8 +1,8 @@
 -- The cells' fields in closed form, and where the cells stand, by what their turns are. In order:
---   last-hit .. last_some     the chain of a cell, one place on; where it leads on
---   ahead-l, ahead-r          the fields of a cell whose turn is ahead
---   past-l, past-r            of a holder whose turn is over;  other-l, other-r  of any other cell
---   spot-ahead, spot_past     where a cell stands;  spot-other  no two in one spot
+--   last_hit .. last_some     the chain of a cell, one place on; where it leads on
+--   ahead_l, ahead_r          the fields of a cell whose turn is ahead
+--   past_l, past_r            of a holder whose turn is over;  other_l, other_r  of any other cell
+--   spot_ahead, spot_past     where a cell stands;  spot_other  no two in one spot
 -- Assumes nothing.
 use mathlib.Core.Path.{◌≡◌, refl, sym, ◌∙◌, ap}
 use mathlib.Core.Logic.{◌≢◌, ◌⊎◌, inl, inr}

@@ -1,6 +1,6 @@
 -- The loop that zeroes the cells from m up to n. In order:
 --   Clearing         the cells from m up to c are zero, and the others as they were
---   clearing-start   before the first cell;  clearing-again  one cell more;  clearing-end  after the last
+--   clearing_start   before the first cell;  clearing_again  one cell more;  clearing_end  after the last
 -- Assumes nothing.
 use mathlib.Core.Path.{◌≡◌, refl, ◌∙◌, subst}
 use mathlib.Core.Logic.{◌≢◌}

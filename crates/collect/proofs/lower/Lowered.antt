@@ -1,7 +1,7 @@
 -- A cell's words from its fields, and a placed cell lowered. In order:
 --   fields_of       a cell's second word as fields
---   bracket-is, code_is  the words of a cell without mark and chains
---   lowered-holder, lowered-other  a placed cell lowered;  lowered-zero  by nothing
+--   bracket_is, code_is  the words of a cell without mark and chains
+--   lowered_holder, lowered_other  a placed cell lowered;  lowered_zero  by nothing
 -- Assumes nothing.
 use mathlib.Core.Path.{◌≡◌, refl, sym, ◌∙◌, ap}
 use mathlib.Core.Bool.{Bool, true, false, cond, ◌||◌}

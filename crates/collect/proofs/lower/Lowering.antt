@@ -1,10 +1,10 @@
 -- Both loops of the pass up: the cells from `from + by` up to `high` go down by `by`, their ends by d. In the heap `by`
 -- is d; the registers stay where they are. In order:
 --   Lowering                          the cells below i are done
---   lowering-start                    before the first cell
---   lowering-lay                      the next cell may be laid down, by its words as they are now
---   lowering-again                    one cell more
---   heap-lowered, registers-lowered   after the last, in the heap and among the registers
+--   lowering_start                    before the first cell
+--   lowering_lay                      the next cell may be laid down, by its words as they are now
+--   lowering_again                    one cell more
+--   heap_lowered, registers_lowered   after the last, in the heap and among the registers
 -- Assumes nothing.
 use mathlib.Core.Path.{◌≡◌, refl, sym, ◌∙◌, ap, subst}
 use mathlib.Core.Logic.{◌⊎◌, inl, inr}

@@ -1,7 +1,7 @@
 -- The loop down the whole heap. In order:
---   registered  where it starts;  down-start  the loop there;  down-end  the loop left
---   down-head   the turn of a cell with a chain;  down-known  the loop after it and those that become known;  down-less
---   down-dead   the loop after an unreached cell;  down-room  what fits;  down-pred  the cell above the next
+--   registered  where it starts;  down_start  the loop there;  down_end  the loop left
+--   down_head   the turn of a cell with a chain;  down_known  the loop after it and those that become known;  down_less
+--   down_dead   the loop after an unreached cell;  down_room  what fits;  down_pred  the cell above the next
 -- Assumes nothing.
 use mathlib.Core.Path.{◌≡◌, refl, sym, ◌∙◌, ap, subst}
 use mathlib.Core.Bool.{Bool, true, false, cond}

@@ -1,8 +1,8 @@
 -- The loop over the cells that become known, one after the other. In order:
---   chain-is    the chain flag of the cell whose turn it is;  known-none  what is known of none
---   run-turn    the first turn;  run-within  what it leaves;  run-start  the loop there;  run_end  the loop left
---   run-next    the next turn;   run-again  the loop after it
---   run-place, run_room  what fits;  run-pred  the loop's cell as the one above the next
+--   chain_is    the chain flag of the cell whose turn it is;  known_none  what is known of none
+--   run_turn    the first turn;  run_within  what it leaves;  run_start  the loop there;  run_end  the loop left
+--   run_next    the next turn;   run_again  the loop after it
+--   run_place, run_room  what fits;  run_pred  the loop's cell as the one above the next
 -- Assumes nothing.
 use mathlib.Core.Path.{◌≡◌, refl, sym, ◌∙◌, ap, subst}
 use mathlib.Core.Bool.{true}

@@ -1,12 +1,12 @@
 -- A cell put down in its turn: what `stand` leaves, what it is asked for, and the phase after it; a reached cell's
 -- turn; the loop over the registers. In order:
---   stood-held, stood-laid            what `stand` leaves: the cell linked, if it has contents, else as it is
+--   stood_held, stood_laid            what `stand` leaves: the cell linked, if it has contents, else as it is
 --   frame_on                          the frame of a phase holds for any words as long
---   can-stand, has-stood              in a cell's turn: what `stand` is asked for, and the phase after it
+--   can_stand, has_stood              in a cell's turn: what `stand` is asked for, and the phase after it
 --   turn_small                        a reached cell's new address fits 28 bits
---   turn-stands, turn-over            a reached cell's turn, its chain undone: it may stand, and the phase after it
---   Registers                         r registers are done;  registers-start  none is;  registers-end  all are
---   registers-room, registers-stand   the next one lies within the words, and may stand;  registers-again  it has
+--   turn_stands, turn_over            a reached cell's turn, its chain undone: it may stand, and the phase after it
+--   Registers                         r registers are done;  registers_start  none is;  registers_end  all are
+--   registers_room, registers_stand   the next one lies within the words, and may stand;  registers_again  it has
 -- Assumes nothing.
 use mathlib.Core.Path.{◌≡◌, refl, sym, ◌∙◌, ap, subst}
 use mathlib.Core.Logic.{◌≢◌}

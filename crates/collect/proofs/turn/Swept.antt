@@ -1,8 +1,8 @@
 -- The store when every cell has had its turn. In order:
 --   last_none    a cell that nothing holds has no chain
---   swept-place  a register or reached cell stands at its place, and both ends are places
---   swept-free   a cell from T on is as it was
---   place-onto   packed, every cell from F plus their number on is some cell's place
+--   swept_place  a register or reached cell stands at its place, and both ends are places
+--   swept_free   a cell from T on is as it was
+--   place_onto   packed, every cell from F plus their number on is some cell's place
 --   swept_kept   unpacked, every cell is as it was
 -- Assumes nothing.
 use mathlib.Core.Path.{◌≡◌, refl, sym, ◌∙◌, ap, subst}

@@ -1,6 +1,6 @@
 -- What a chain tells of the cell m whose turn it is. In order:
---   reg-undone   a register has no chain;  dead-undone  nor has an unreached cell
---   is_live      a cell with a chain is reached;  is-dead  one that is not known, without a chain, is not
+--   reg_undone   a register has no chain;  dead_undone  nor has an unreached cell
+--   is_live      a cell with a chain is reached;  is_dead  one that is not known, without a chain, is not
 -- Assumes nothing.
 use mathlib.Core.Path.{◌≡◌, refl, sym, ◌∙◌, ap, subst}
 use mathlib.Core.Bool.{Bool, true, false, true≢false}

@@ -1,7 +1,7 @@
 -- The turn of m, its chain undone: m is put down at its place, and linked if it is a holder. In order:
 --   own         the fields of m then
---   turn-held   a holder;  turn-laid  any other register or reached cell
---   dead-turn   an unreached cell is passed over
+--   turn_held   a holder;  turn_laid  any other register or reached cell
+--   dead_turn   an unreached cell is passed over
 --   known_on    what is known stays
 -- Assumes nothing.
 use mathlib.Core.Path.{◌≡◌, refl, sym, ◌∙◌, ap, subst}

@@ -1,9 +1,9 @@
 -- The chain of m undone, in its turn; with the cells goes what the sweep knows of them. In order:
 --   Undone       the cells and what is known, the chain undone down to a place in the order
---   chain_head   where it leads on, the next holder;  chain-end  where it does not, the chain is gone
---   unlink-none  a cell without holders has no chain
---   unlink-apart, unlink-low, unlink-span, unlink-first  what is known of the next holder
---   unlink-hit   it is taken off
+--   chain_head   where it leads on, the next holder;  chain_end  where it does not, the chain is gone
+--   unlink_none  a cell without holders has no chain
+--   unlink_apart, unlink_low, unlink_span, unlink_first  what is known of the next holder
+--   unlink_hit   it is taken off
 -- Assumes nothing.
 use mathlib.Core.Path.{◌≡◌, refl, sym, ◌∙◌, ap, subst}
 use mathlib.Core.Logic.{◌≢◌}

@@ -1,5 +1,5 @@
 -- A run copied cell by cell: at each turn what is left to copy gives the whole. In order:
---   copy-length   a copied cell leaves the length as it is
+--   copy_length   a copied cell leaves the length as it is
 --   Copying       i of the n cells are copied
 --   begin         none is;  onward  one more is;  finish  all are
 -- Assumes nothing.

@@ -1,9 +1,9 @@
 -- New cells laid from `top` upward: what was there keeps its meaning, and a copy of a cell means what the cell means.
 -- A run copied, and two runs copied one after the other. In order:
 --   Extends                        a sound store with the old cells below `top`, and perhaps new ones from there on
---   extends-trans, extends-self    new cells twice, and none;  extends-put  one
---   extends-term, extends-inside   a heap cell, and what is inside a bracket, keeps its meaning
---   extends-meaning                a register does
+--   extends_trans, extends_self    new cells twice, and none;  extends_put  one
+--   extends_term, extends_inside   a heap cell, and what is inside a bracket, keeps its meaning
+--   extends_meaning                a register does
 --   twin                           two cells that are equal have one meaning
 --   Both, both                     n cells copied from l on, then k from l₂ on;  both_of  by two brackets
 -- Assumes nothing.

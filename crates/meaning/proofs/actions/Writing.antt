@@ -1,12 +1,12 @@
 -- Writing a cell: a register, or the first free cell. What stays sound, and what keeps its meaning. In order:
---   length-put                   the length stays
---   at-put-other, at-put         the other cells, and the one written
---   copy-put                     a copied cell is the cell written there
---   termIn-wider                 a term that lies below lim lies below any greater number
---   sound-register, sound-top    a register, or the first free cell, is written: the store is sound
---   term-same, inside-same       the meaning of a heap cell, and of a bracket, depends on heap cells only
---   term-law                     the equation of terms, without depth
---   meaning-set, meaning-other   what a register set to a bracket denotes;  no other register changes
+--   length_put                   the length stays
+--   at_put_other, at_put         the other cells, and the one written
+--   copy_put                     a copied cell is the cell written there
+--   term_in_wider                 a term that lies below lim lies below any greater number
+--   sound_register, sound_top    a register, or the first free cell, is written: the store is sound
+--   term_same, inside_same       the meaning of a heap cell, and of a bracket, depends on heap cells only
+--   term_law                     the equation of terms, without depth
+--   meaning_set, meaning_other   what a register set to a bracket denotes;  no other register changes
 -- Assumes nothing.
 use mathlib.Core.Path.{◌≡◌, refl, sym, ap}
 use mathlib.Core.Logic.{◌⊎◌, inl, inr, ◌≢◌}

@@ -1,10 +1,10 @@
 -- A batch by its tests: each one that fails is one refusal, and past the last the calls run. In order:
---   calls-yes, yes-calls                the test of the call list passes exactly where its length is allowed
---   bad-calls, short-answers, all-run   in a sound store, by the tests after the check
---   batch-sound                         a batch in a sound store is what those tests say
+--   calls_yes, yes_calls                the test of the call list passes exactly where its length is allowed
+--   bad_calls, short_answers, all_run   in a sound store, by the tests after the check
+--   batch_sound                         a batch in a sound store is what those tests say
 --   Cases, cases                        the four cases of a batch, and that it is one of them
---   batch_run, batch-runs               the one that runs, from its tests, and from status 0
---   batch-answers, batch-top            with just room for the answers: they and `top` are those of the calls
+--   batch_run, batch_runs               the one that runs, from its tests, and from status 0
+--   batch_answers, batch_top            with just room for the answers: they and `top` are those of the calls
 -- Assumes nothing.
 use mathlib.Core.Path.{◌≡◌, refl, sym, ap, ◌∙◌}
 use mathlib.Core.Logic.{◌≢◌}

@@ -7,7 +7,7 @@ use native.Mathlib.Omega.{arith}
 use lib.ListN.{length}
 use Rattle.meaning.specs.Limits.{limit}
 use Rattle.meaning.specs.Sound.{Sound}
-use Rattle.meaning.specs.Verdicts.{Verdict, Done, on_zero, ifSound}
+use Rattle.meaning.specs.Verdicts.{Verdict, Done, on_zero, if_sound}
 use Rattle.meaning.specs.Check.{check, collect_in}
 use Rattle.meaning.specs.Batch.{Outcome, ended, batch}
 use Rattle.meaning.proofs.check.Checking.{CheckCases, length_bad, top_bad, cell_bad, sound, check_cases}
@@ -27,7 +27,7 @@ module _ (F : ℕ) (ws : List ℕ) (top : ℕ) where
 
   -- what holds of both, where the store is sound and where it is not
   pub by_check : {A : Type 0} (P : A → Type 0) (x y : A) → (Sound F ws top → P x) → P y
-      → P (ifSound (check F ws top) x y)
+      → P (if_sound (check F ws top) x y)
   by_check P x y h k = go (check F ws top).status refl
     where
       go : (s : ℕ) → (check F ws top).status ≡ s → P (on_zero s x y)

@@ -1,8 +1,8 @@
 -- One call by its operation: which of its words name registers, and which operation the last arm is. In order:
---   d-register, a-register, b-register   d, a or b is a register where the operation uses it as one
+--   d_register, a_register, b_register   d, a or b is a register where the operation uses it as one
 --   Missed                               o is none of the first k numbers
 --   collects                             an operation past the first eleven is COLLECT
---   step-refused, step-performed         one call, by what is wrong with its words
+--   step_refused, step_performed         one call, by what is wrong with its words
 -- Assumes nothing.
 use mathlib.Core.Path.{◌≡◌, refl, subst}
 use mathlib.Core.Logic.{◌≢◌}

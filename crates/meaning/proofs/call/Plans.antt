@@ -1,12 +1,12 @@
 -- A plan carried out: what a call does where it acts, it does to the store; and the rule for room. In order:
---   planLacks, planTop           is there no room for a plan, and `top` when it is done
---   topAfter, WordsAfter         `top` and the words after a call, by its status
+--   plan_lacks, plan_top           is there no room for a plan, and `top` when it is done
+--   top_after, WordsAfter         `top` and the words after a call, by its status
 --   PlanMeets                    what carrying out a plan has to give for its effect
---   room-sound, room-length      the store with room for n cells is sound, and as long
---   room-denote, room_fits       its registers denote what they did, and n cells of it are free
---   as-it-is, once-collected     as the code goes about it: a test of `top`, then one of the collected store's
+--   room_sound, room_length      the store with room for n cells is sound, and as long
+--   room_denote, room_fits       its registers denote what they did, and n cells of it are free
+--   as_it_is, once_collected     as the code goes about it: a test of `top`, then one of the collected store's
 --   PlanDoes                     what a plan's action has to do
---   carry-meets                  a plan whose action does so gives what it has to
+--   carry_meets                  a plan whose action does so gives what it has to
 -- Assumes nothing.
 use mathlib.Core.Path.{◌≡◌, refl, sym, ◌∙◌}
 use mathlib.Core.Bool.{Bool, true, false, cond}

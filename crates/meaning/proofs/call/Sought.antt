@@ -1,11 +1,11 @@
 -- The store in which room is sought, by laws. Nothing else unfolds it, but for `sought_twin` (twins/Twins) and rows that
 -- compute. In order:
---   sought-length, sought-kept   it is as long as the store, and where d is kept the store itself
---   sought-empty, sought-other   where d is not kept it is empty;  no cell but d differs
---   sought-back                  the store again, once d's words are put back
---   sought-sound, sought-stays   it is sound;  where d is kept or empty it is the store itself
---   sought-meaning               what its registers denote
---   sought-live                  no more is reached in it
+--   sought_length, sought_kept   it is as long as the store, and where d is kept the store itself
+--   sought_empty, sought_other   where d is not kept it is empty;  no cell but d differs
+--   sought_back                  the store again, once d's words are put back
+--   sought_sound, sought_stays   it is sound;  where d is kept or empty it is the store itself
+--   sought_meaning               what its registers denote
+--   sought_live                  no more is reached in it
 -- Assumes nothing.
 use mathlib.Core.Path.{◌≡◌, refl, ◌∙◌}
 use mathlib.Core.Logic.{◌≢◌}

@@ -1,13 +1,13 @@
 -- The check answers 0 exactly for a sound store, and 3 with the first damaged cell. In order:
---   length-yes, yes-length       the test and the rule of the length, each from the other;  top-yes, yes-top  of `top`
---   damaged-low                  the first damaged cell is none before the first that is tested
---   damaged-before, damaged-at   the cells before it are in order, and it is not;  damaged-none  where all are, none is
---   cell-yes, yes-cell           a cell's test and its rule, each from the other
---   tests-sound, sound-test      the tests, all passed, are soundness, and back
---   sound-check                  a sound store is answered 0
---   CheckCases, check-cases               the four answers, and that the check's is one of them
+--   length_yes, yes_length       the test and the rule of the length, each from the other;  top_yes, yes_top  of `top`
+--   damaged_low                  the first damaged cell is none before the first that is tested
+--   damaged_before, damaged_at   the cells before it are in order, and it is not;  damaged_none  where all are, none is
+--   cell_yes, yes_cell           a cell's test and its rule, each from the other
+--   tests_sound, sound_test      the tests, all passed, are soundness, and back
+--   sound_check                  a sound store is answered 0
+--   CheckCases, check_cases               the four answers, and that the check's is one of them
 --   check_sound                  0 is the answer for a sound store only
---   onZero-no                    what depends on a status that is not 0
+--   on_zero_no                    what depends on a status that is not 0
 -- Assumes nothing.
 use mathlib.Core.Path.{◌≡◌, refl}
 use mathlib.Core.Logic.{◌⊎◌, inl, inr, ◌≢◌}

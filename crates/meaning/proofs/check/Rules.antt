@@ -1,10 +1,10 @@
 -- The judgement of a cell, by cases: what its two words are where it gives a rule's number, and where it gives none.
 -- No other proof looks into it. In order:
 --   Kept                         the words of a cell that breaks no rule: a bracket's, a symbol's, or two zeros
---   RuleCases, rule-cases        the seven answers, each with what it says of the words;  the judgement's is one
+--   RuleCases, rule_cases        the seven answers, each with what it says of the words;  the judgement's is one
 --   none_kept, kept_rule         it gives 0 where a cell breaks no rule, and there alone
---   register-kept to kept_free   what such a cell is, by its place: a register, an occupied heap cell, or a free one
---   cell-kept, kept-cell         so it is one that keeps its rule, and back
+--   register_kept to kept_free   what such a cell is, by its place: a register, an occupied heap cell, or a free one
+--   cell_kept, kept_cell         so it is one that keeps its rule, and back
 -- Assumes nothing.
 use mathlib.Core.Path.{◌≡◌, refl, sym, subst}
 use mathlib.Core.Logic.{◌⊎◌, inl, inr, ◌≢◌}

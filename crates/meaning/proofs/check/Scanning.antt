@@ -1,11 +1,11 @@
 -- The check by its tests, and the scan of the cells a step at a time: what the loop of `check` does. In order:
 --   ruled                            the rule of a cell's words, from the rule of what was read;  unbroken, broken
 --                                    and by a test whether one is broken
---   check-length, check-top          the check by its tests: 1, or 2;  check-cells  else what the scan finds
+--   check_length, check_top          the check by its tests: 1, or 2;  check_cells  else what the scan finds
 --   placed                           where the cells are, once the first two tests passed
---   check-kept                       0 where all cells keep their rules
+--   check_kept                       0 where all cells keep their rules
 --   turn                             one cell more;  stop  at the damaged cell;  finish  at the end
---   verdict-damaged, verdict-sound   the answer by the cell at which the scan stopped
+--   verdict_damaged, verdict_sound   the answer by the cell at which the scan stopped
 -- Assumes nothing.
 use mathlib.Core.Path.{◌≡◌, refl, sym}
 use mathlib.Core.Logic.{◌≢◌, ◌↔◌}

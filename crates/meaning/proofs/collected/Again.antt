@@ -1,10 +1,10 @@
 -- After collecting, every occupied heap cell is reached. In order:
 --   full            an ascending list of all numbers from lo up to lo + n is `up_from lo n`
---   lay-ext         the words laid are the same where the cells are
---   reached-kept    a reached cell is reached at its new address
---   all-reached     every occupied heap cell of the result is reached
---   reached-again   the list of its reached cells
---   live-kept       live stays when it is collected again, and with it `top`
+--   lay_ext         the words laid are the same where the cells are
+--   reached_kept    a reached cell is reached at its new address
+--   all_reached     every occupied heap cell of the result is reached
+--   reached_again   the list of its reached cells
+--   live_kept       live stays when it is collected again, and with it `top`
 -- Assumes nothing.
 use mathlib.Core.Path.{◌≡◌, refl, sym, ap, ap₂, ◌∙◌, subst}
 use mathlib.Core.Logic.{inl, inr}

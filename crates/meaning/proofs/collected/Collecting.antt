@@ -1,14 +1,14 @@
 -- Collecting a sound store: the result is sound, each register keeps its meaning, every occupied cell is reached.
 -- In order:
---   held-register, held-heap   the cells of a register's run, and of a reached bracket's, are reached
---   reg-one, reg-two           the words of the registers;  heap_one, heap-two  of the heap cells
---   length-collected           the length stays;  free-after  past the last cell the words are zero
---   good-register, good-heap   the ends lie where a sound store's do
---   at_register, at-kth        the cells of the result: a register, and the j-th heap cell
+--   held_register, held_heap   the cells of a register's run, and of a reached bracket's, are reached
+--   reg_one, reg_two           the words of the registers;  heap_one, heap_two  of the heap cells
+--   length_collected           the length stays;  free_after  past the last cell the words are zero
+--   good_register, good_heap   the ends lie where a sound store's do
+--   at_register, at_kth        the cells of the result: a register, and the j-th heap cell
 --   at_new                     a reached cell, at its new address
---   collected-sound            the result is sound
+--   collected_sound            the result is sound
 --   along                      new addresses go along with the run of a bracket
---   term-kept, meaning-kept    reached cells and registers keep their meaning
+--   term_kept, meaning_kept    reached cells and registers keep their meaning
 -- Assumes nothing.
 use mathlib.Core.Path.{◌≡◌, sym, ap, ◌∙◌, subst}
 use mathlib.Core.List.{List, ◌++◌}

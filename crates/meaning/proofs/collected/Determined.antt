@@ -1,11 +1,11 @@
 -- What an algorithm has to show to have collected: its words, cell by cell. And the new address by counting upward.
 -- In order:
---   new-first, new-after   the new address by a pass upward: F at first, and one more after a reached cell
---   new-skip, new-last     the same after any other cell, and at the end the new `top`
---   new-le                 no cell moves up
---   new-order, new-meet    reached cells keep their order, and no two of them meet
---   is-collected           words that are those of the collected store cell by cell are its words
---   term-unique            the meaning of cells is the one solution of its equation
+--   new_first, new_after   the new address by a pass upward: F at first, and one more after a reached cell
+--   new_skip, new_last     the same after any other cell, and at the end the new `top`
+--   new_le                 no cell moves up
+--   new_order, new_meet    reached cells keep their order, and no two of them meet
+--   is_collected           words that are those of the collected store cell by cell are its words
+--   term_unique            the meaning of cells is the one solution of its equation
 -- Assumes nothing.
 use mathlib.Core.Path.{◌≡◌, refl, sym, ap, ◌∙◌, subst}
 use mathlib.Core.Logic.{◌⊎◌, inl, inr, ◌≢◌}

@@ -1,9 +1,9 @@
 -- A store is its own collection exactly where each heap cell lies between the ends of some register or heap bracket.
 -- References in the heap point down, so a bracket that holds a cell is itself held by a higher cell, and so on up to a
 -- register. In order:
---   reached-all, all_whole   each heap cell is reached, where live says so;  there and back
---   held-reached             a heap cell is reached, where each of them is held
---   held_whole, whole-held   there and back
+--   reached_all, all_whole   each heap cell is reached, where live says so;  there and back
+--   held_reached             a heap cell is reached, where each of them is held
+--   held_whole, whole_held   there and back
 -- Assumes nothing.
 use mathlib.Core.Path.{◌≡◌, ap, ◌∙◌}
 use mathlib.Core.Logic.{◌⊎◌, inl, inr}

@@ -1,8 +1,8 @@
 -- The words of cells laid out one after the other. In order:
---   lay-length                         two words a cell;  lay-fst, lay-snd  the two of the j-th
---   upFrom-length, upFrom-getD         n numbers from c on: how many, and the j-th
---   kept_low, kept_high, kept-length   the numbers below F and then a list
---   zeros-after                        past the cells stand zeros
+--   lay_length                         two words a cell;  lay_fst, lay_snd  the two of the j-th
+--   up_from_length, up_from_get_d         n numbers from c on: how many, and the j-th
+--   kept_low, kept_high, kept_length   the numbers below F and then a list
+--   zeros_after                        past the cells stand zeros
 -- Assumes nothing.
 use mathlib.Core.Path.{◌≡◌, refl, sym, ap, ◌∙◌}
 use mathlib.Core.List.{List, [], ◌∷◌, ◌++◌}

@@ -1,9 +1,9 @@
 -- A store in which every occupied heap cell is reached: collecting changes no word of it. So collecting a collected
 -- store changes nothing. In order:
 --   filled            an ascending list of n numbers from lo on, all below lo + n, is `up_from lo n`
---   below-upFrom      how many of those are below c
---   collected-whole   where `top` stays as it is, so does every word
---   collected-again   collecting again
+--   below_up_from      how many of those are below c
+--   collected_whole   where `top` stays as it is, so does every word
+--   collected_again   collecting again
 -- Assumes nothing.
 use mathlib.Core.Path.{◌≡◌, refl, sym, ap, ap₂, ◌∙◌}
 use mathlib.Core.Logic.{inl, inr}

@@ -3,9 +3,9 @@
 --   Denote, Others           the registers of a store denote e;  all but d do
 --   Stays                    the words after a refusal are those before it
 --   Acts                     what an action has to do in the store in which it acts
---   meaning-at               a register denotes what is inside its bracket
---   new-acts, set-acts       register d is set, with new cells and without
---   refuse-acts, tell-acts   a refusal;  an answer that changes no register
+--   meaning_at               a register denotes what is inside its bracket
+--   new_acts, set_acts       register d is set, with new cells and without
+--   refuse_acts, tell_acts   a refusal;  an answer that changes no register
 -- Assumes nothing.
 use mathlib.Core.Path.{◌≡◌, refl, sym, ◌∙◌}
 use mathlib.Core.Logic.{◌≢◌}

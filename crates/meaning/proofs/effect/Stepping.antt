@@ -1,11 +1,11 @@
 -- Each call without new cells does to the expressions what the table says, with the status and the value that it says.
 -- In order:
 --   wrapped                                a bracket's term is what is inside it, in parentheses
---   size-terms                             the number of terms of a register is its size
---   clear-acts, copy-acts                  CLEAR and COPY
+--   size_terms                             the number of terms of a register is its size
+--   clear_acts, copy_acts                  CLEAR and COPY
 --   head_at, rest_at, open_at, code_at     HEAD, REST, OPEN and FIRST, by the register's cell
---   length-acts, live-acts, collect-acts   LENGTH, LIVE and COLLECT
---   unfit-small                            the status of what is wrong with an expression is at most 15
+--   length_acts, live_acts, collect_acts   LENGTH, LIVE and COLLECT
+--   unfit_small                            the status of what is wrong with an expression is at most 15
 -- Assumes nothing.
 use mathlib.Core.Path.{◌≡◌, refl, sym, ap, ◌∙◌}
 use mathlib.Core.Bool.{Bool, true, false, cond}

@@ -1,8 +1,8 @@
 -- One call, whatever its words are. In order:
---   sound-by, length-by   the store in which a call seeks room is sound and as long
---   size-a, size-b        an operand has as many terms in it as before
---   no-need               a call that needs no cell never lacks room
---   Steps, step-meets     what one call has to give, and that it does, whatever its words are
+--   sound_by, length_by   the store in which a call seeks room is sound and as long
+--   size_a, size_b        an operand has as many terms in it as before
+--   no_need               a call that needs no cell never lacks room
+--   Steps, step_meets     what one call has to give, and that it does, whatever its words are
 -- Assumes nothing.
 use mathlib.Core.Path.{◌≡◌, refl, sym, ap, ◌∙◌}
 use mathlib.Core.Bool.{Bool, true, false}

@@ -1,11 +1,11 @@
 -- What a file that is not refused must be. In order:
 --   Framed                             30 to 33 are passed
---   body-long, words_long, occupied    how many bytes and words the file has from its first heap cell on
---   image-long, image-is               the store in it, its words and zeros after them
---   distance-yes, yes-distance, capacity-yes, yes-capacity   what the tests of the trailer say
---   as-edition to as_store             the verdict, test by test
---   checked-short, checked-long        30, or those
---   Accepted, accepted-as, accepted    all tests are passed
+--   body_long, words_long, occupied    how many bytes and words the file has from its first heap cell on
+--   image_long, image_is               the store in it, its words and zeros after them
+--   distance_yes, yes_distance, capacity_yes, yes_capacity   what the tests of the trailer say
+--   as_edition to as_store             the verdict, test by test
+--   checked_short, checked_long        30, or those
+--   Accepted, accepted_as, accepted    all tests are passed
 -- Assumes nothing.
 use mathlib.Core.Path.{◌≡◌, refl, ◌∙◌}
 use mathlib.Core.Logic.{◌≢◌}

@@ -1,7 +1,7 @@
 -- The store in a file, word by word, and its verdict from its occupied cells alone. In order:
---   at-zeros, held-zeros, damaged-zeros     zeros after the words of some cells change nothing
---   regs_long, heap-long, cells-long        how many words there are
---   cells_low, cells-high                   word i of the store: in a register, in the heap
+--   at_zeros, held_zeros, damaged_zeros     zeros after the words of some cells change nothing
+--   regs_long, heap_long, cells_long        how many words there are
+--   cells_low, cells_high                   word i of the store: in a register, in the heap
 -- Assumes nothing.
 use mathlib.Core.Path.{◌≡◌, refl, ap₂, ◌∙◌, subst}
 use mathlib.Core.Bool.{Bool, true, false}

@@ -1,9 +1,9 @@
 -- Saving and loading gives the collected store; loading and saving gives the bytes from the first heap cell on.
 -- In order:
---   judged, read-back        the file of a store that is its own collection, after any bytes
---   saved-loads              the file of any sound store
---   words-again, file-again  the words and bytes of a file are those of the store in it
---   LoadedFrom, loaded-from  a loaded store
+--   judged, read_back        the file of a store that is its own collection, after any bytes
+--   saved_loads              the file of any sound store
+--   words_again, file_again  the words and bytes of a file are those of the store in it
+--   LoadedFrom, loaded_from  a loaded store
 -- Assumes nothing.
 use mathlib.Core.Path.{◌≡◌, refl, sym, ap, ◌∙◌}
 use mathlib.Core.List.{List, [], ◌∷◌, ◌++◌, append_assoc}

@@ -1,9 +1,9 @@
 -- The file of a store, part by part, and its store read back, whatever bytes stand before it. In order:
---   heap-long, regs_long                 how many words its cells have, sound or not
---   file-parts                           its bytes part by part
---   file-words, file-bytes               how many there are
---   trailer-of, distance-of, cells_of, capacity-of, edition-of   its trailer
---   body_of, image-of                    its bytes, and the store in it
+--   heap_long, regs_long                 how many words its cells have, sound or not
+--   file_parts                           its bytes part by part
+--   file_words, file_bytes               how many there are
+--   trailer_of, distance_of, cells_of, capacity_of, edition_of   its trailer
+--   body_of, image_of                    its bytes, and the store in it
 -- Assumes nothing.
 use mathlib.Core.Path.{◌≡◌, sym, ap, ◌∙◌}
 use mathlib.Core.List.{List, [], ◌∷◌, ◌++◌, append_assoc}

@@ -1,6 +1,6 @@
 -- The codes of what a sound store's registers denote are codes. In order:
---   coded-append, coded-run      of two expressions side by side, and of a run
---   coded-term, coded-meaning    of a heap cell, and of a register
+--   coded_append, coded_run      of two expressions side by side, and of a run
+--   coded_term, coded_meaning    of a heap cell, and of a register
 -- Assumes nothing.
 use Prim.Native.Nat.{ℕ, zero, suc, ◌+◌, ◌-◌, ◌≤◌, ◌<◌}
 use mathlib.Core.List.{List}

@@ -1,10 +1,10 @@
 -- The cells of an expression, put from `top` on, extend a sound store and denote the expression. In order:
---   LieAs, lie-at, each_at     a row of cells lies from cell c on;  its j-th cell, and what holds of it
---   last-in                    a bracket around the last cells below another
---   run-denotes                where an expression's cells lie, the run of its own terms denotes it
---   Put, puts-put              a row of cells put from `top` on
---   laid-put, laid_in          the cells of an expression put from `top` on;  the bracket around its own terms
---   laid-denotes, text-acts    what that denotes;  a register set to it
+--   LieAs, lie_at, each_at     a row of cells lies from cell c on;  its j-th cell, and what holds of it
+--   last_in                    a bracket around the last cells below another
+--   run_denotes                where an expression's cells lie, the run of its own terms denotes it
+--   Put, puts_put              a row of cells put from `top` on
+--   laid_put, laid_in          the cells of an expression put from `top` on;  the bracket around its own terms
+--   laid_denotes, text_acts    what that denotes;  a register set to it
 -- Assumes nothing.
 use mathlib.Core.Path.{◌≡◌, refl, ap, ap₂, ◌∙◌}
 use mathlib.Core.List.{List, [], ◌∷◌, ◌++◌}

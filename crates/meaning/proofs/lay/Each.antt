@@ -2,8 +2,8 @@
 -- and of a bracket on cells that are laid already. In order:
 --   Coded                  the codes of an expression are codes
 --   Each, each_append      a relation holds of two rows of cells, place by place, from cell c on
---   terms-le               an expression's own terms are no more than all
---   own-each, deep-each    it holds of the own terms, and of the contents of the brackets
+--   terms_le               an expression's own terms are no more than all
+--   own_each, deep_each    it holds of the own terms, and of the contents of the brackets
 --   laid_each              of all cells
 -- Assumes nothing.
 use mathlib.Core.Path.{◌≡◌}

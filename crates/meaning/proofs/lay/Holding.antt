@@ -1,9 +1,9 @@
 -- Which cells the brackets of an expression hold as it is laid: cells of its own, and no cell is held by two. In order:
---   each-mono                            from one relation to a weaker one, place by place
+--   each_mono                            from one relation to a weaker one, place by place
 --   holder                               the cell that holds another, by the regions in which brackets are laid
---   last-holds                           the bracket around an expression's own terms holds just these
+--   last_holds                           the bracket around an expression's own terms holds just these
 --   Holds                                what a cell of an expression holds
---   own-holds, deep-holds, laid-holds    it is so of the own terms, of the contents of the brackets, and of all cells
+--   own_holds, deep_holds, laid_holds    it is so of the own terms, of the contents of the brackets, and of all cells
 -- Assumes nothing.
 use mathlib.Core.Path.{◌≡◌, refl, sym, ◌∙◌}
 use mathlib.Core.Bool.{cond}

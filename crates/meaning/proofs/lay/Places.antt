@@ -1,8 +1,8 @@
 -- Where the cells of an expression are laid, as terms are added to it. In order:
---   own-length, deep-length, laid-length   how many cells its own terms take, the contents of its brackets, and all
---   allTerms-append                        the terms on all levels of two expressions side by side
---   after, after-parens                    where the contents of a further bracket begin;  past a bracket in front
---   own-append, deep-append                the cells of two side by side
+--   own_length, deep_length, laid_length   how many cells its own terms take, the contents of its brackets, and all
+--   all_terms_append                        the terms on all levels of two expressions side by side
+--   after, after_parens                    where the contents of a further bracket begin;  past a bracket in front
+--   own_append, deep_append                the cells of two side by side
 -- Assumes nothing.
 use mathlib.Core.Path.{◌≡◌, refl, sym, ap, ◌∙◌}
 use mathlib.Core.List.{List, ◌∷◌, ◌++◌, append_assoc}

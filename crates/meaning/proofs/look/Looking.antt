@@ -1,12 +1,12 @@
 -- The look: the words from a register's left end to its right end, and no word where there is nothing to look at.
 -- In order:
 --   run_in                     a bracket's cells lie below the limit of its right end
---   span-register, span_none   the word numbers of a look at a register, and at what is none
---   look_none, look-empty      no word where there is no register, or an empty one
+--   span_register, span_none   the word numbers of a look at a register, and at what is none
+--   look_none, look_empty      no word where there is no register, or an empty one
 --   run_fits                   a register's run lies within the words
---   look-size                  two words a cell
---   look-word                  the words from the left end on
---   look-unsound               no word of an unsound store
+--   look_size                  two words a cell
+--   look_word                  the words from the left end on
+--   look_unsound               no word of an unsound store
 -- Assumes nothing.
 use mathlib.Core.Path.{◌≡◌, refl}
 use mathlib.Core.Logic.{◌⊎◌, inl, inr}

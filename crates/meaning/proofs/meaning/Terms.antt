@@ -1,10 +1,10 @@
 -- The meaning of cells: what it depends on, and how it goes along with a map of addresses. In order:
---   append-nothing, append-append   laws of `append`;  terms-append  the number of terms adds up
---   run-split, run-ext              a run in two;  two runs of the same terms
+--   append_nothing, append_append   laws of `append`;  terms_append  the number of terms adds up
+--   run_split, run_ext              a run in two;  two runs of the same terms
 --   Along                           a map of addresses goes along with the run of a bracket
---   inside-along, termOf-along      what is inside a bracket, and its term, are kept along such a map
---   term-along                      so is a cell's term
---   term-depth                      a cell's term is the same at any depth that is enough
+--   inside_along, term_of_along      what is inside a bracket, and its term, are kept along such a map
+--   term_along                      so is a cell's term
+--   term_depth                      a cell's term is the same at any depth that is enough
 -- Assumes nothing.
 use mathlib.Core.Path.{◌≡◌, refl, sym, ap, ap₂, ◌∙◌}
 use Prim.Native.Nat.{ℕ, zero, suc, ◌+◌, ◌-◌, ◌≤◌, ◌<◌}

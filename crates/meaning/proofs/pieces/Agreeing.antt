@@ -1,8 +1,8 @@
 -- The counts are those of the expressions that stand open, and at the end those of the whole text. In order:
---   most-append                 the most of two expressions put together
---   mostAround, Waits, Agrees   the counts of a state, by the draft of the same bytes
---   judged, bytes-agree         a byte that is not refused keeps them so, and so do bytes
---   whole-counted               the end after any bytes is the count of the whole text
+--   most_append                 the most of two expressions put together
+--   most_around, Waits, Agrees   the counts of a state, by the draft of the same bytes
+--   judged, bytes_agree         a byte that is not refused keeps them so, and so do bytes
+--   whole_counted               the end after any bytes is the count of the whole text
 -- Assumes nothing.
 use mathlib.Core.Path.{◌≡◌, refl, sym, ap, ap₂, ◌∙◌, subst}
 use mathlib.Core.Logic.{◌≢◌}

@@ -1,9 +1,9 @@
 -- A piece is fed as its parts are, one after the other. In order:
---   feeds-append, feeds-stopped   bytes behind bytes;  a state that is stopped stays as it is
---   feeds-before, feeds-fits      one that is not stopped was not before;  a state that goes on does so until then
---   fed-stopped                   no piece changes a state that is stopped
---   fed-append                    whatever the state
---   start_fits .. start-place     from the start: it goes on, so bytes are fed, and where they lead
+--   feeds_append, feeds_stopped   bytes behind bytes;  a state that is stopped stays as it is
+--   feeds-before, feeds_fits      one that is not stopped was not before;  a state that goes on does so until then
+--   fed_stopped                   no piece changes a state that is stopped
+--   fed_append                    whatever the state
+--   start_fits .. start_place     from the start: it goes on, so bytes are fed, and where they lead
 -- Assumes nothing.
 use mathlib.Core.Path.{◌≡◌, refl, sym, ap, ◌∙◌, subst}
 use mathlib.Core.Logic.{◌⊎◌, inl, inr}

@@ -1,8 +1,8 @@
 -- The states that go on, and that every byte that is not refused keeps them so. In order:
---   each_within_lem, within-each   numbers that are each at most n
---   Fits, fits-yes, yes-fits   a state that goes on, and its test;  not-fits  one that does not
+--   each_within_lem, within_each   numbers that are each at most n
+--   Fits, fits_yes, yes_fits   a state that goes on, and its test;  not_fits  one that does not
 --   fits_each                  where all but the counts are in range, they decide
---   feed-fits                  a byte that is not refused leads to another such
+--   feed_fits                  a byte that is not refused leads to another such
 -- Assumes nothing.
 use mathlib.Core.Path.{◌≡◌, refl, ◌∙◌}
 use mathlib.Core.Logic.{◌≢◌}

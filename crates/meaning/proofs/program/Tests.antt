@@ -1,9 +1,9 @@
 -- Laws of what the program writes. In order:
 --   too_short to right   what is wrong with an input, by its tests in their order;  long  whatever its calls are
---   fault-few            it is at most 4;  fits  what an input is that nothing is wrong with
---   program-refused, program-output   what is written by what is wrong
---   program-take         bytes after the first that is too many change nothing
---   program-cells        every capacity that it takes is one that a store may have
+--   fault_few            it is at most 4;  fits  what an input is that nothing is wrong with
+--   program_refused, program_output   what is written by what is wrong
+--   program_take         bytes after the first that is too many change nothing
+--   program_cells        every capacity that it takes is one that a store may have
 -- Assumes nothing.
 use mathlib.Core.Path.{◌≡◌, refl, sym, ap, ◌∙◌}
 use mathlib.Core.Logic.{◌⊎◌, inl, inr, ◌≢◌}

@@ -1,14 +1,14 @@
 -- The list of reached cells that is computed has exactly the reached cells, in ascending order. In order:
 --   or_left, or_right, or_cases   laws of `||`
---   listed-reached                what is listed is reached
---   listed-asc, listed_below      the list ascends, and its members are below `top`
---   between-reg, between-term     what a register and an occupied heap cell hold
---   reached-heap                  a reached cell is an occupied heap cell
---   holder-above                  a reached bracket holds lower cells only
---   reached-listed                what is reached is listed
---   listed-iff                    in a sound store the list and the wording agree
---   reached-asc, reached-below    its list ascends from F on, below `top`
---   live-le                       F + live is at most `top`
+--   listed_reached                what is listed is reached
+--   listed_asc, listed_below      the list ascends, and its members are below `top`
+--   between_reg, between_term     what a register and an occupied heap cell hold
+--   reached_heap                  a reached cell is an occupied heap cell
+--   holder_above                  a reached bracket holds lower cells only
+--   reached_listed                what is reached is listed
+--   listed_iff                    in a sound store the list and the wording agree
+--   reached_asc, reached_below    its list ascends from F on, below `top`
+--   live_le                       F + live is at most `top`
 -- Assumes nothing.
 use mathlib.Core.Path.{◌≡◌, refl, sym}
 use mathlib.Core.Logic.{◌⊎◌, inl, inr}

@@ -1,9 +1,9 @@
 -- The text of an expression, read, gives the expression back. In order:
 --   Became                    what the text of an expression leads to, from some draft on
---   goes_on_lem, inside           behind a space;  in a bracket, and after-bracket
---   begins-read               an expression read, from where a term may begin
+--   goes_on_lem, inside           behind a space;  in a bracket, and after_bracket
+--   begins_read               an expression read, from where a term may begin
 --   GivesBack                 a text read from its start
---   read-freely, read-back    freely, and where it has no more terms than a text may have
+--   read_freely, read_back    freely, and where it has no more terms than a text may have
 -- Assumes nothing.
 use mathlib.Core.Path.{◌≡◌, refl, sym, ap, ◌∙◌, subst}
 use mathlib.Core.Bool.{true}

@@ -1,8 +1,8 @@
 -- What single bytes do where they may stand, and a code read digit by digit, freely. In order:
---   reads-append                 bytes read behind bytes
---   digit-is, digit-behind       a digit's byte;  a code with one behind it
+--   reads_append                 bytes read behind bytes
+--   digit_is, digit_behind       a digit's byte;  a code with one behind it
 --   Ready, Ended, Closing        where a term may begin, where one has ended, where a bracket may close
---   move-digit .. move-part      what a byte does there;  read_as  a byte read by its move
+--   move_digit .. move_part      what a byte does there;  read_as  a byte read by its move
 --   numbered, code_read          a code read, from where a term may begin
 -- Assumes nothing.
 use mathlib.Core.Path.{◌≡◌, refl, sym, ap, ◌∙◌, subst}

@@ -1,8 +1,8 @@
 -- Bytes that do not stop the reader begin a text: behind a space a term is put, and every open bracket is closed.
 -- In order:
 --   Completed        bytes that begin a text;  earlier  so do fewer of them
---   shut-all         an expression with those around it, closed
---   Going            the reader is not stopped;  begins-text  what it has read then begins a text
+--   shut_all         an expression with those around it, closed
+--   Going            the reader is not stopped;  begins_text  what it has read then begins a text
 -- Assumes nothing.
 use mathlib.Core.Path.{◌≡◌, refl, sym, ap, ◌∙◌, subst}
 use mathlib.Core.List.{List, [], ◌∷◌, ◌++◌, append_assoc, append-nil}

@@ -1,6 +1,6 @@
 -- What a draft is of the bytes read so far. As long as it is not stopped they are its text: that of the expressions
 -- around, each up to its open bracket, then that of the innermost one, up to where the reader stands. In order:
---   behind, ownBytes         the bytes of a draft, around the innermost expression and in it
+--   behind, own_bytes         the bytes of a draft, around the innermost expression and in it
 --   Shape, Stack, sizes      what is open by where the reader stands, the expressions around, and their terms
 --   Open, Kept, Inv, InvOf   what is kept, byte by byte (Keeping)
 --   so_far                   what a draft means, where its code ends

@@ -1,7 +1,7 @@
 -- A text that is read whole is the text of what it is read as. In order:
 --   TextOf         the bytes are the text of an expression that may be read, with so many terms
---   text-of-read   so they are where the reader may end
---   reads-place    the reader of a draft goes its own way
+--   text_of_read   so they are where the reader may end
+--   reads_place    the reader of a draft goes its own way
 -- Assumes nothing.
 use mathlib.Core.Path.{◌≡◌, refl, ap, ◌∙◌, subst}
 use mathlib.Core.Bool.{true, false≢true}

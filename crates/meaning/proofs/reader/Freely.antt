@@ -1,14 +1,14 @@
 -- A text read freely: by the reader that never asks whether the text is full. What goes on does so freely too, to the
 -- same place; and what goes on freely does so where no more terms begin than a text may have. In order:
---   advances-append, stays           bytes behind bytes;  a reader that is stopped stays as it is
---   going_before, whole-going        one that is not stopped was not stopped before;  nor is one that has read a text
---   freely, advancesFree, readsFree  what a byte does freely;  bytes read freely, without the draft and with it
---   free-place .. free-before        the same of these
+--   advances_append, stays           bytes behind bytes;  a reader that is stopped stays as it is
+--   going_before, whole_going        one that is not stopped was not stopped before;  nor is one that has read a text
+--   freely, advances_free, reads_free  what a byte does freely;  bytes read freely, without the draft and with it
+--   free_place .. free_before        the same of these
 --   Goes, Begins                     moves that go on, and those that begin a term
---   goes-free, goes-unless           what goes on does so freely;  what goes on freely does so unless the text is full
---   going-free, within-free          so do bytes, the one way and the other
---   full-terms, terms-full, unfull-terms   the terms of a text that is full, and of one that is not
---   few-terms                        no more terms begin than a text may have
+--   goes_free, goes_unless           what goes on does so freely;  what goes on freely does so unless the text is full
+--   going_free, within_free          so do bytes, the one way and the other
+--   full_terms, terms_full, unfull_terms   the terms of a text that is full, and of one that is not
+--   few_terms                        no more terms begin than a text may have
 -- Assumes nothing.
 use mathlib.Core.Path.{◌≡◌, refl, sym, ap, ◌∙◌, subst}
 use mathlib.Core.Logic.{◌⊎◌, inl, inr}

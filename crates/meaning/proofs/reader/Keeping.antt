@@ -1,9 +1,9 @@
 -- What a draft is of the bytes read so far (Drafts) is kept by every byte. In order:
---   code_one, code-more          a code of one digit, and one with a digit more
---   begins-kept .. closes_kept   it is kept at each move;  closed-bytes  the bytes where a bracket closes
---   grows-kept, judged-kept      and at the move that is judged
---   read-inv, reads-inv          by a byte, and by bytes
---   bytes-inv                    so it holds after any bytes
+--   code_one, code_more          a code of one digit, and one with a digit more
+--   begins_kept .. closes_kept   it is kept at each move;  closed_bytes  the bytes where a bracket closes
+--   grows_kept, judged_kept      and at the move that is judged
+--   read_inv, reads_inv          by a byte, and by bytes
+--   bytes_inv                    so it holds after any bytes
 -- Assumes nothing.
 use mathlib.Core.Path.{◌≡◌, refl, sym, ap, ap₂, ◌∙◌, subst}
 use mathlib.Core.Bool.{Bool, false}

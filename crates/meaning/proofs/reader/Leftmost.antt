@@ -1,9 +1,9 @@
 -- Where bytes stop the reader: at the first that it refuses, and there it stays. In order:
 --   StopsAt                           byte k is the first to be refused, and with which status
 --   GoesOn, way                       bytes are read to their end, or stop the reader at one of them
---   completed-free, completed-going   what begins a text does not stop the reader: freely, and unless it is full
+--   completed_free, completed_going   what begins a text does not stop the reader: freely, and unless it is full
 --   Why, why, StopNumber              what is refused with each status, and the four that there are
---   zero-stops, deep-stops, many-stops, large-stops   and that it is
+--   zero_stops, deep_stops, many_stops, large_stops   and that it is
 -- Assumes nothing.
 use mathlib.Core.Path.{◌≡◌, refl, sym, ap, ◌∙◌, subst}
 use mathlib.Core.Logic.{◌⊎◌, inl, inr}

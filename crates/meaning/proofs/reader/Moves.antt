@@ -1,11 +1,11 @@
 -- What a byte can do, by cases: what holds of every move that can be judged, with what the byte is, holds of the one
 -- that is. In order:
---   either, stops-once                     a choice by a test;  a byte stops the reader with one status
---   digit-range, is_digit_lem                  a byte that is a digit
---   first-digit, more-digit                a digit where a term may begin, and after a digit
---   first-bracket                          a bracket where a term may begin
---   first-cases, later-cases, more-cases   a byte where a term may begin, after a whole term, after a digit
---   judge-cases                            a byte wherever the reader stands
+--   either, stops_once                     a choice by a test;  a byte stops the reader with one status
+--   digit_range, is_digit_lem                  a byte that is a digit
+--   first_digit, more_digit                a digit where a term may begin, and after a digit
+--   first_bracket                          a bracket where a term may begin
+--   first_cases, later_cases, more_cases   a byte where a term may begin, after a whole term, after a digit
+--   judge_cases                            a byte wherever the reader stands
 -- Assumes nothing.
 use mathlib.Core.Path.{◌≡◌, refl, ap}
 use mathlib.Core.Bool.{Bool, true, false, cond}

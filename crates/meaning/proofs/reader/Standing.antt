@@ -1,7 +1,7 @@
 -- Where the reader stands, by the bytes that it has read last. In order:
 --   EndsReady                   bytes behind which a term may begin: none, or the last is a space or an opening bracket
---   ready-after, code-after     where it stands behind such a byte, freely, and behind a code
---   ready-ends, code-ends       what it has read last, where a term may begin and where it stands in a number
+--   ready_after, code_after     where it stands behind such a byte, freely, and behind a code
+--   ready_ends, code_ends       what it has read last, where a term may begin and where it stands in a number
 -- Assumes nothing.
 use mathlib.Core.Path.{◌≡◌, refl, sym, ap, ◌∙◌, subst}
 use mathlib.Core.Logic.{◌⊎◌, inl, inr}

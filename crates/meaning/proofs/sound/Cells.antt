@@ -1,17 +1,17 @@
 -- What soundness says of a store's cells, apart from words; and back to words. In order:
---   limit-fits, limit-within    an address fits 28 bits;  a store has no more cells than a text may have terms
---   code-range, range-code      what a code may be;  zero-no-code  0 is none;  code_fits  one fits 28 bits
+--   limit_fits, limit_within    an address fits 28 bits;  a store has no more cells than a text may have terms
+--   code_range, range_code      what a code may be;  zero_no_code  0 is none;  code_fits  one fits 28 bits
 --   BracketIn, TermIn           a bracket, or any term, whose ends lie from F on and below a limit
 --   SoundCells                  what the cells of a sound store are
---   term-of-bracket             such a bracket is such a term
+--   term_of_bracket             such a bracket is such a term
 --   read                        two words as a cell
---   read-ends, read-words       a bracket's words, and any cell's, are read as that cell
---   is-bracket, is-term         the words of such a cell keep the rule
+--   read_ends, read_words       a bracket's words, and any cell's, are read as that cell
+--   is_bracket, is_term         the words of such a cell keep the rule
 --   Words                       two words that are those of the cell that they are read as
---   bracket-words, term_words   words that keep the rule are
---   words-of-cells              what holds of both words of each cell holds of each word
---   register-rule, heap-rule    a sound store's cells keep their rules;  free-rule  the free ones too
---   free-words                  each word from `top` on is zero
+--   bracket_words, term_words   words that keep the rule are
+--   words_of_cells              what holds of both words of each cell holds of each word
+--   register_rule, heap_rule    a sound store's cells keep their rules;  free_rule  the free ones too
+--   free_words                  each word from `top` on is zero
 --   good                        a sound store's cells are `SoundCells`
 -- Assumes nothing.
 use mathlib.Core.Path.{◌≡◌, refl, sym, subst}

@@ -1,11 +1,11 @@
 -- What `at ws c` says of the words and fields of cell c of a sound store, for every c, also past the end, where it
 -- reads as a symbol of code 0 whatever a code may be. In order:
 --   Fields       what a cell's kind says of its first word and its second word's fields
---   cell-fields  that it holds;  second_lt  a second word is below 2 ^ 32
---   cell-ends    `ends l r`: first word l, second word's fields `plain true r`, 0 < r
---   ends-in      the ends of any cell: F ≤ l ≤ r < top;  ends-down  of a heap cell, r < c
---   cell-plain   no second word has a mark or a chain
---   full-ends    where `words::is_full` says yes, the cell is `ends` of its words;  ends-full  and the other way
+--   cell_fields  that it holds;  second_lt  a second word is below 2 ^ 32
+--   cell_ends    `ends l r`: first word l, second word's fields `plain true r`, 0 < r
+--   ends_in      the ends of any cell: F ≤ l ≤ r < top;  ends_down  of a heap cell, r < c
+--   cell_plain   no second word has a mark or a chain
+--   full_ends    where `words::is_full` says yes, the cell is `ends` of its words;  ends_full  and the other way
 -- Assumes nothing.
 use mathlib.Core.Path.{◌≡◌, refl, sym, ap, ◌∙◌, subst}
 use mathlib.Core.Logic.{◌⊎◌, inl, inr}

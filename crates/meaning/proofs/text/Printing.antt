@@ -1,6 +1,6 @@
 -- What printing answers, by its cases. In order:
---   print-register, print-none   in a sound store: a register, and one that is none
---   print-unsound                in any other
+--   print_register, print_none   in a sound store: a register, and one that is none
+--   print_unsound                in any other
 --   whole, troubled              a text that meets no trouble, and one that does
 -- Assumes nothing.
 use mathlib.Core.Path.{◌≡◌, refl}

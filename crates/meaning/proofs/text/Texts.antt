@@ -1,11 +1,11 @@
 -- Laws of the text of an expression. In order:
---   tail, tail-append        what stands behind a term: the text of the rest, with its space
---   text-append              an expression, and another behind it
---   gap-filled, gap-append   the space before an expression that is not empty
---   text-one, text-joined    a symbol;  two rows of terms
---   text-after, text-code    what is not empty behind any expression;  a symbol behind one
---   readable-append          two that may be read
---   termOf-filled            a cell's term is one term
+--   tail, tail_append        what stands behind a term: the text of the rest, with its space
+--   text_append              an expression, and another behind it
+--   gap_filled, gap_append   the space before an expression that is not empty
+--   text_one, text_joined    a symbol;  two rows of terms
+--   text_after, text_code    what is not empty behind any expression;  a symbol behind one
+--   readable_append          two that may be read
+--   term_of_filled            a cell's term is one term
 -- Assumes nothing.
 use mathlib.Core.Path.{◌≡◌, refl, sym, ap, ◌∙◌}
 use mathlib.Core.List.{List, [], ◌∷◌, ◌++◌, append_assoc, append-nil}

@@ -2,9 +2,9 @@
 -- meets nothing. In order:
 --   Next                        a byte that may stand there: no bracket, a closing one, or an opening one
 --   Passes                      with room for bytes, what is met is what the bytes behind them meet
---   text-fits                   an expression that may be read meets nothing where its text fits
+--   text_fits                   an expression that may be read meets nothing where its text fits
 --   Clear                       bytes that meet nothing in some room
---   text-readable               an expression whose text meets nothing may be read
+--   text_readable               an expression whose text meets nothing may be read
 -- Assumes nothing.
 use mathlib.Core.Path.{◌≡◌, refl, sym, subst, ◌∙◌}
 use mathlib.Core.Logic.{◌≢◌}

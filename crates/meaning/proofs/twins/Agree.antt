@@ -1,11 +1,11 @@
 -- What an action does in a store, it does in the same store collected: it answers the same, and leaves stores with the
 -- same canonical words. In order:
 --   Agree                                the same answer, and stores with the same canonical words
---   size-moved, moved_in                 a bracket moved to new addresses: its size, and where its ends lie
---   share-same                           COPY
---   size-register                        a register's size is the same in the store collected
---   head-same, rest-same, open-same      HEAD, REST and OPEN;  first-same  FIRST
---   length-same, live_same, clear-same   LENGTH, LIVE and CLEAR
+--   size_moved, moved_in                 a bracket moved to new addresses: its size, and where its ends lie
+--   share_same                           COPY
+--   size_register                        a register's size is the same in the store collected
+--   head_same, rest_same, open_same      HEAD, REST and OPEN;  first_same  FIRST
+--   length_same, live_same, clear_same   LENGTH, LIVE and CLEAR
 -- Assumes nothing.
 use mathlib.Core.Path.{◌≡◌, refl, sym, ap, ◌∙◌}
 use mathlib.Core.Bool.{Bool, true, false, cond}

@@ -1,7 +1,7 @@
 -- The actions that lay new cells, where there is room: what SYMBOL, WRAP and JOIN do in a store, they do in that
 -- store collected. In order:
 --   room'                              where there is room in a store, there is in that store collected
---   symbol-same, wrap-same, run-same   SYMBOL, WRAP and JOIN
+--   symbol_same, wrap_same, run_same   SYMBOL, WRAP and JOIN
 -- Assumes nothing.
 use mathlib.Core.Path.{◌≡◌, refl, sym, ap, ◌∙◌}
 use mathlib.Core.Logic.{◌⊎◌, inl, inr}

@@ -1,11 +1,11 @@
 -- A map of addresses, from one store's cells to another's, that keeps their order: then the reached cells correspond,
 -- one by one. In order:
---   asc-same                       ascending lists with the same members are equal
+--   asc_same                       ascending lists with the same members are equal
 --   Follows                        f maps cells in their order, each bracket to the one over the images of its contents
---   follow-P                       f maps every reached cell
---   follow-to, follow-from         its image is reached, and what is reached in the other store is an image
+--   follow_P                       f maps every reached cell
+--   follow_to, follow_from         its image is reached, and what is reached in the other store is an image
 --   canon_kept                     the canonical words over a list of cells are those over their images
---   follow-reached, follow-canon   of sound stores: the reached cells, and the canonical words
+--   follow_reached, follow_canon   of sound stores: the reached cells, and the canonical words
 -- Assumes nothing.
 use mathlib.Core.Path.{◌≡◌, refl, sym, ap, ap₂, ◌∙◌, subst}
 use mathlib.Core.Logic.{◌⊎◌, inl, inr, ◌≢◌}

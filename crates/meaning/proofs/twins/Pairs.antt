@@ -1,14 +1,14 @@
 -- A store and the same store collected, side by side: what a call does to the one it does to the other. In order:
---   set-follow                     a register set in each of two stores, the second of which follows the first
+--   set_follow                     a register set in each of two stores, the second of which follows the first
 --   sound'                         the collected store is sound
---   new-low, new-high, new-rises   new addresses: from F on, below the new `top`, in order
---   along-register, along-heap     they go along with the run of a register, and of a reached bracket
---   follows-collected              the collected store follows the store
---   canon-collected                it has the same canonical words
+--   new_low, new_high, new_rises   new addresses: from F on, below the new `top`, in order
+--   along_register, along_heap     they go along with the run of a register, and of a reached bracket
+--   follows_collected              the collected store follows the store
+--   canon_collected                it has the same canonical words
 --   set_both                       so they have once a register is set in both
 --   Kept, far                      where both get n new cells: a cell that is reached or new, and where it goes
---   old-along, new-along           a cell with old contents only, and a run of new cells
---   new-register, new-both         a register set in both, to old cells or new ones;  to the run of all new cells
+--   old_along, new_along           a cell with old contents only, and a run of new cells
+--   new_register, new_both         a register set in both, to old cells or new ones;  to the run of all new cells
 -- Assumes nothing.
 use mathlib.Core.Path.{◌≡◌, refl, sym, ap, ap₂, ◌∙◌}
 use mathlib.Core.Logic.{◌⊎◌, inl, inr, ◌≢◌}

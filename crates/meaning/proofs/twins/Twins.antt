@@ -2,14 +2,14 @@
 -- that store collected answers the same in twins and leaves twins; so does one for which room is sought first.
 -- In order:
 --   Twin                               two such stores
---   twin-self, twin-flip, twin-trans   a store and itself;  the other way round;  by a third
---   twin-collected                     a store, collected or not, and the store
+--   twin_self, twin_flip, twin_trans   a store and itself;  the other way round;  by a third
+--   twin_collected                     a store, collected or not, and the store
 --   Steady                             an action answers the same in a store and in that store collected
---   twin-live, twin-size               live and the sizes of registers are the same in twins
---   via, via-collected                 a steady action in twins, and any action in twins once collected
---   sought-twin                        the stores in which twins seek room are twins
+--   twin_live, twin_size               live and the sizes of registers are the same in twins
+--   via, via_collected                 a steady action in twins, and any action in twins once collected
+--   sought_twin                        the stores in which twins seek room are twins
 --   Builds                             an action for n new cells, steady where the registers denote what they do in v
---   room-twin                          such an action in twins, once room is sought
+--   room_twin                          such an action in twins, once room is sought
 -- Assumes nothing.
 use mathlib.Core.Path.{◌≡◌, refl, sym, ap, ◌∙◌}
 use mathlib.Core.Bool.{Bool, true, false, cond}

@@ -1,8 +1,8 @@
 -- What typing a text in answers, by its cases. In order:
---   type-unsound               in words that are no sound store
---   type-none, type-register   in a sound store: into a register that is none, and into one
---   type-stopped, type-whole   then by the text: one that is refused, and one that is whole
---   TypeCases, type-cases      all four
+--   type_unsound               in words that are no sound store
+--   type_none, type_register   in a sound store: into a register that is none, and into one
+--   type_stopped, type_whole   then by the text: one that is refused, and one that is whole
+--   TypeCases, type_cases      all four
 -- Assumes nothing.
 use mathlib.Core.Path.{◌≡◌, refl}
 use mathlib.Core.Logic.{◌⊎◌, inl, inr, ◌≢◌}

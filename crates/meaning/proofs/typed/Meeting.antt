@@ -1,7 +1,7 @@
 -- A whole text typed into a register of a sound store does to expressions what it says. In order:
---   coded-read   the codes of what is read are codes
---   type-does    what the plan's action does, wherever there is room
---   type-meets   what carrying out the plan gives
+--   coded_read   the codes of what is read are codes
+--   type_does    what the plan's action does, wherever there is room
+--   type_meets   what carrying out the plan gives
 -- Assumes nothing.
 use mathlib.Core.Path.{◌≡◌, refl, ◌∙◌}
 use mathlib.Core.Bool.{true, false}

@@ -1,10 +1,10 @@
 -- Stores are alike, in the words of SCOPE 8.4, exactly when their canonical words are equal, and so exactly when
 -- collecting makes them equal. In order:
---   alike-canon, canon-alike         alike stores have the same canonical words, and back
---   collect-sound                    what collecting a sound store answers and leaves
+--   alike_canon, canon_alike         alike stores have the same canonical words, and back
+--   collect_sound                    what collecting a sound store answers and leaves
 --   same_length                      sound stores of the same capacity have as many words
---   canon-collects, collects-canon   the same canonical words give the same by collecting, and back
---   alike-is-collected               the claim
+--   canon_collects, collects_canon   the same canonical words give the same by collecting, and back
+--   alike_is_collected               the claim
 -- Assumes nothing.
 use mathlib.Core.Path.{◌≡◌, refl, sym, ap, ap₂, ◌∙◌, subst}
 use mathlib.Core.Logic.{◌⊎◌, inl, inr}

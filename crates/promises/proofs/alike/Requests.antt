@@ -1,11 +1,11 @@
 -- Lists of requests, run one after the other: a call list is run as its requests are, and a list may be cut anywhere.
 -- In order:
---   ran, ranWords                     what a list of requests leaves and answers, and the same as a batch has it
---   runs-ran                          a call list is run as its requests are
---   ran-cut                           a list cut anywhere
---   ran-length                        an answer to each request
---   requests-length, inWords-length   four words a call, two an answer
---   verdicts-ran                      answers written as words are read as those answers
+--   ran, ran_words                     what a list of requests leaves and answers, and the same as a batch has it
+--   runs_ran                          a call list is run as its requests are
+--   ran_cut                           a list cut anywhere
+--   ran_length                        an answer to each request
+--   requests_length, in_words_length   four words a call, two an answer
+--   verdicts_ran                      answers written as words are read as those answers
 -- Assumes nothing.
 use mathlib.Core.Path.{◌≡◌, refl, sym, ap, ap₂}
 use mathlib.Core.List.{List, [], ◌∷◌, ◌++◌}

@@ -1,6 +1,6 @@
 -- What each action leaves in the cells of a sound store: register d's cell, the new cells, and no other. In order:
---   clear-leaves .. open-leaves    actions without new cells
---   symbol-leaves, wrap-leaves, run-leaves   with new cells, where there is room for them
+--   clear_leaves .. open_leaves    actions without new cells
+--   symbol_leaves, wrap_leaves, run_leaves   with new cells, where there is room for them
 -- Assumes nothing.
 use mathlib.Core.Path.{◌≡◌, refl, ◌∙◌}
 use mathlib.Core.Logic.{◌⊎◌, inl, inr, ◌≢◌}

@@ -1,7 +1,7 @@
 -- New cells where room is sought in a store v, which differs from the store at register d at most. In order:
---   as-was                   a refusal but 16 leaves the words and `top`
+--   as_was                   a refusal but 16 leaves the words and `top`
 --   stays                    without need there is no collecting
---   room-top, room-leaves    `top` of the store in which the cells are laid, and what is left of that store
+--   room_top, room_leaves    `top` of the store in which the cells are laid, and what is left of that store
 -- Assumes nothing.
 use mathlib.Core.Path.{◌≡◌, refl}
 use mathlib.Core.Logic.{◌≢◌}

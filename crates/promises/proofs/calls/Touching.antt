@@ -1,8 +1,8 @@
 -- Which words an action touches: those of register d, and of the new cells. In order:
---   only_same, only-trans               no word, and two actions one after the other
---   clear-only, share-only, head-only   CLEAR, COPY and HEAD;  rest-only, openFirst-only  REST and OPEN
---   first-words                         FIRST changes no word
---   symbol-only, wrap-only, run_only    the actions that lay cells from `top` on;  text-only  those of an expression
+--   only_same, only_trans               no word, and two actions one after the other
+--   clear_only, share_only, head_only   CLEAR, COPY and HEAD;  rest_only, open_first_only  REST and OPEN
+--   first_words                         FIRST changes no word
+--   symbol_only, wrap_only, run_only    the actions that lay cells from `top` on;  text_only  those of an expression
 -- Assumes nothing.
 use mathlib.Core.Path.{◌≡◌, refl, ◌∙◌}
 use mathlib.Core.Logic.{◌⊎◌, inl, inr, ◌≢◌}

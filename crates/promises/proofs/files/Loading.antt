@@ -1,7 +1,7 @@
 -- A file loaded: every answer is from its table, and no second one is. In order:
---   load-refused, load-taken   what is left, by the verdict
---   image-store                the store in a file
---   load-answers, one-load     the claims
+--   load_refused, load_taken   what is left, by the verdict
+--   image_store                the store in a file
+--   load_answers, one_load     the claims
 -- Assumes nothing.
 use mathlib.Core.Path.{◌≡◌, refl, sym, subst, ◌∙◌}
 use mathlib.Core.Logic.{◌⊎◌, inl, inr, ◌≢◌}

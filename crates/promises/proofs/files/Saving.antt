@@ -1,6 +1,6 @@
 -- A store saved: every answer is from its table, and no second one is. In order:
---   save-unsound, save-short, save-fits   what is left, by the check and by the space
---   save-answers, one-save                the claims
+--   save_unsound, save_short, save_fits   what is left, by the check and by the space
+--   save_answers, one_save                the claims
 -- Assumes nothing.
 use mathlib.Core.Path.{◌≡◌, refl, sym, ◌∙◌}
 use mathlib.Core.Logic.{◌⊎◌, inl, inr, ◌≢◌}

@@ -1,6 +1,6 @@
 -- A controller swap: saved and loaded, loaded and saved. In order:
---   saved-sound, saved-fits                        what a good save tells: a sound store, and room for its file
---   saved-loads, loaded-is-sound, loaded-saves     the claims
+--   saved_sound, saved_fits                        what a good save tells: a sound store, and room for its file
+--   saved_loads, loaded_is_sound, loaded_saves     the claims
 -- Assumes nothing.
 use mathlib.Core.Path.{◌≡◌, refl, sym, ap, ◌∙◌}
 use mathlib.Core.Logic.{◌⊎◌, inl, inr, ◌≢◌}

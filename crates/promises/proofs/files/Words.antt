@@ -1,8 +1,8 @@
 -- The file of a store, word by word. In order:
---   is-file, file-is          the words of a file are those that the definition lists;  there and back
---   file-in-words, one-file   the claims
---   one-edition               the table of kinds, by its places
---   store-once                one store is in a file
+--   is_file, file_is          the words of a file are those that the definition lists;  there and back
+--   file_in_words, one_file   the claims
+--   one_edition               the table of kinds, by its places
+--   store_once                one store is in a file
 -- Assumes nothing.
 use mathlib.Core.Path.{◌≡◌, refl, sym, ap, ◌∙◌, subst}
 use mathlib.Core.Logic.{◌⊎◌, inl, inr}

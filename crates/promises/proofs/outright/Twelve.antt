@@ -1,6 +1,6 @@
 -- The twelve outright, from what is said of any call. In order:
---   fault-d .. fault-none   operands that are right
---   sets-d                  a call that sets d, needs n cells and has room for them;  no_room  and has none
+--   fault_d .. fault_none   operands that are right
+--   sets_d                  a call that sets d, needs n cells and has room for them;  no_room  and has none
 --   refuses                 a call that its operand does not fit
 --   asks                    a call that sets no register
 -- Assumes nothing.

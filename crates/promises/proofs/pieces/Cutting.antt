@@ -1,6 +1,6 @@
 -- However a text is cut, and after a refusal. In order:
---   start-joined, cut-anywhere   pieces are fed as what they make together
---   refused-stays                where a byte is refused, nothing changes any more
+--   start_joined, cut_anywhere   pieces are fed as what they make together
+--   refused_stays                where a byte is refused, nothing changes any more
 -- Assumes nothing.
 use mathlib.Core.Path.{◌≡◌, sym, ap, ◌∙◌, subst}
 use mathlib.Core.Logic.{◌⊎◌, inl, inr}

@@ -1,8 +1,8 @@
 -- What counting a whole text answers: by cases, from its table, and nothing else; and what typing it in will. In order:
---   count-whole, count-refused   what counting answers, by whether the text is read whole
---   stop-listed                  a refusal's number is in the table
---   count-answers, one-count     the claims
---   count-tells                  what typing it in will answer
+--   count_whole, count_refused   what counting answers, by whether the text is read whole
+--   stop_listed                  a refusal's number is in the table
+--   count_answers, one_count     the claims
+--   count_tells                  what typing it in will answer
 -- Assumes nothing.
 use mathlib.Core.Path.{◌≡◌, refl, sym, ap, ap₂, ◌∙◌, subst}
 use mathlib.Core.Logic.{inl, inr, ◌≢◌}

@@ -1,10 +1,10 @@
 -- What a text meets as it is written, by the place of the first trouble. In order:
---   text_in-words, one-text          the text of an expression
---   deep_is, not-deep                the test of the definition at one byte
---   many-here, none_here             whether the first byte opens one bracket too many
+--   text_in_words, one_text          the text of an expression
+--   deep_is, not_deep                the test of the definition at one byte
+--   many_here, none_here             whether the first byte opens one bracket too many
 --   balance, later, back, up_to      and a later one, by the bytes behind the first
 --   meets                            the trouble of the definition is what is met
---   met-once                         a text meets one thing
+--   met_once                         a text meets one thing
 -- Assumes nothing.
 use mathlib.Core.Path.{◌≡◌, refl, sym, ap, ap₂, ◌∙◌}
 use mathlib.Core.Logic.{◌≢◌}

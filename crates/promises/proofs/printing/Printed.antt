@@ -1,7 +1,7 @@
 -- Printing: every answer is from its table, no second one is, and a print goes by what the register denotes. In order:
---   print-answers   the claim, by whether the store is sound, the register there, and what its text meets
---   prints-once     one verdict;  one-print  one answer
---   prints-alike, collections-unprinted, alike-printed   stores that print alike
+--   print_answers   the claim, by whether the store is sound, the register there, and what its text meets
+--   prints_once     one verdict;  one_print  one answer
+--   prints_alike, collections_unprinted, alike_printed   stores that print alike
 -- Assumes nothing.
 use mathlib.Core.Path.{◌≡◌, refl, sym, ap, ◌∙◌}
 use mathlib.Core.Logic.{◌⊎◌, inl, inr, ◌≢◌}

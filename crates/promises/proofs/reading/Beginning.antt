@@ -1,9 +1,9 @@
 -- The terms that begin in bytes, as the bytes show them and as the reader counts them. In order:
---   inNumber                the reader stands in a number
---   begun-byte              a byte begins as many terms as the reader counts
---   begun-so, begun_all     so do bytes with more behind them, and by themselves
---   going-may, may-going    bytes may begin a text exactly where they do not stop the reader
---   terms-begin             in a text, a term begins for each that its expression has
+--   in_number                the reader stands in a number
+--   begun_byte              a byte begins as many terms as the reader counts
+--   begun_so, begun_all     so do bytes with more behind them, and by themselves
+--   going_may, may_going    bytes may begin a text exactly where they do not stop the reader
+--   terms_begin             in a text, a term begins for each that its expression has
 -- Assumes nothing.
 use mathlib.Core.Path.{◌≡◌, refl, sym, ap, ◌∙◌, subst}
 use mathlib.Core.Bool.{Bool, true, false, cond, not, ◌&&◌, ◌||◌}

@@ -1,8 +1,8 @@
 -- A text read: what is read is what was written; a text is refused leftmost, and in one way. In order:
---   reads-back, writes-back   the one way and the other
+--   reads_back, writes_back   the one way and the other
 --   shorter                   fewer of the bytes that may begin a text may begin one
---   too-soon, at_byte         a text that ends too soon, and one that is refused at a byte;  stops-leftmost
---   whole-refused             no refusal where it is read;  one-refusal  and one verdict
+--   too_soon, at_byte         a text that ends too soon, and one that is refused at a byte;  stops_leftmost
+--   whole_refused             no refusal where it is read;  one_refusal  and one verdict
 -- Assumes nothing.
 use mathlib.Core.Path.{◌≡◌, refl, sym, ap, ap₂, ◌∙◌, subst}
 use mathlib.Core.Logic.{◌⊎◌, inl, inr}

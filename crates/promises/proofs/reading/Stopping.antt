@@ -1,9 +1,9 @@
 -- What stops the reader at a byte, in terms of the bytes before it. In order:
---   depth-counts                                 the open brackets are those opened less those closed
---   ready-free, ready_at, may-begin              where a term may begin, by the bytes and by where the reader stands
---   begin-here .. many-here                      what a refusal says of the bytes
---   zero-refused .. many-refused                 and what is refused so
---   stops-with, status-once                      the status at the byte that stops the reader, and no other is
+--   depth_counts                                 the open brackets are those opened less those closed
+--   ready_free, ready_at, may_begin              where a term may begin, by the bytes and by where the reader stands
+--   begin_here .. many_here                      what a refusal says of the bytes
+--   zero_refused .. many_refused                 and what is refused so
+--   stops_with, status_once                      the status at the byte that stops the reader, and no other is
 --   no_zero                                      what does not stop the reader, freely, has no 0 that begins a term
 -- Assumes nothing.
 use mathlib.Core.Path.{◌≡◌, refl, sym, ap, ap₂, ◌∙◌, subst}

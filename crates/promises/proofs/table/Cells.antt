@@ -1,10 +1,10 @@
 -- The rules of a cell in words. In order:
---   stray-yes, stray-no   the test of a mark or a chain flag, in words
---   first-once            of several claims one is the first that holds
---   first-broken          the judgement gives the number of the first rule that a cell breaks
---   rules-in-words        and so each number exactly where that rule is the first
---   none-broken           0 exactly where the cell keeps the rule of a sound store
---   broken-number         a damaged cell has one of six numbers
+--   stray_yes, stray_no   the test of a mark or a chain flag, in words
+--   first_once            of several claims one is the first that holds
+--   first_broken          the judgement gives the number of the first rule that a cell breaks
+--   rules_in_words        and so each number exactly where that rule is the first
+--   none_broken           0 exactly where the cell keeps the rule of a sound store
+--   broken_number         a damaged cell has one of six numbers
 -- Assumes nothing.
 use mathlib.Core.Path.{◌≡◌, refl, sym, ap, subst}
 use mathlib.Core.Logic.{◌⊎◌, inl, inr}

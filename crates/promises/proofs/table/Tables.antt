@@ -1,7 +1,7 @@
 -- Demand 1: the tables of the public functions. In order:
---   check-answers, fresh-answers    the check, and a fresh store
---   collect-answers, look-answers   collecting alone, and the look
---   batch-answers, call-answers     a batch, and one call
+--   check_answers, fresh_answers    the check, and a fresh store
+--   collect_answers, look_answers   collecting alone, and the look
+--   batch_answers, call_answers     a batch, and one call
 -- Assumes nothing.
 use mathlib.Core.Path.{◌≡◌, refl, ap, ◌∙◌}
 use mathlib.Core.Logic.{inl, inr, ◌≢◌}

@@ -1,9 +1,9 @@
 -- Printed and typed in again, typed in and printed again. In order:
---   print-done, printed-text   a print that is done: in a sound store, of an expression that may be read;  its text
---   said-done                  a typed text that is done sets d to what it says
---   printed-typed              what was printed, typed in again
---   type-done, typed-printed   a typed text that is done, and printed again
---   prints-no-zero             no print has a 0 that begins a term
+--   print-done, printed_text   a print that is done: in a sound store, of an expression that may be read;  its text
+--   said_done                  a typed text that is done sets d to what it says
+--   printed_typed              what was printed, typed in again
+--   type_done, typed_printed   a typed text that is done, and printed again
+--   prints_no_zero             no print has a 0 that begins a term
 -- Assumes nothing.
 use mathlib.Core.Path.{◌≡◌, refl, ap, ◌∙◌, subst}
 use mathlib.Core.Bool.{false}

@@ -1,5 +1,5 @@
 -- A text typed into any words: every answer is from its table, and no second one is. In order:
---   type-answers   the claim, by whether the words are a sound store
+--   type_answers   the claim, by whether the words are a sound store
 --   one_type       one answer
 -- Assumes nothing.
 use mathlib.Core.Path.{◌≡◌, refl, sym, ◌∙◌}

@@ -1,8 +1,8 @@
 -- The new cells of a typed text: no new cell refers to an old one, and none is shared. In order:
---   new-holds, d-holds, old-holds   what a new cell, register d and any other cell hold
+--   new_holds, d_holds, old_holds   what a new cell, register d and any other cell hold
 --   own_alone                       so no new cell is held by two
---   on-sound                        the store in which the text is laid is sound
---   new-cells-only                  the claim
+--   on_sound                        the store in which the text is laid is sound
+--   new_cells_only                  the claim
 -- Assumes nothing.
 use mathlib.Core.Path.{◌≡◌, refl, sym, ◌∙◌, subst}
 use mathlib.Core.Logic.{◌⊎◌, inl, inr, ◌≢◌}

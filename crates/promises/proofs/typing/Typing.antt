@@ -1,9 +1,9 @@
 -- Demand 2, a text typed into a register of a sound store: what `meaning` shows of it through its plan, in the words of
 -- SCOPE 5.8. In order:
---   text-leaves                  what it leaves in the cells, where it is laid
---   refused-number, stop-away    the status of a text's refusal
---   refusal, whole-does          a refusal but 16;  a whole text
---   types-do                     the claim
+--   text_leaves                  what it leaves in the cells, where it is laid
+--   refused_number, stop_away    the status of a text's refusal
+--   refusal, whole_does          a refusal but 16;  a whole text
+--   types_do                     the claim
 -- Assumes nothing.
 use mathlib.Core.Path.{◌≡◌, refl, sym, ap, subst, ◌∙◌}
 use mathlib.Core.Logic.{inl, inr, ◌≢◌}

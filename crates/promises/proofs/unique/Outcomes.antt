@@ -1,10 +1,10 @@
 -- One outcome: two that satisfy the same claim are equal. In order:
 --   one_answer                   an answer of which the promise says its number and values
---   judged-once                  a store is judged once
---   one-check, one-fresh         the check, and a fresh store;  done-parts  an answer by its parts
---   one-collected, one-collect   the collected store, and collecting;  unsound-check  a store that is refused
+--   judged_once                  a store is judged once
+--   one_check, one_fresh         the check, and a fresh store;  done_parts  an answer by its parts
+--   one_collected, one_collect   the collected store, and collecting;  unsound_check  a store that is refused
 --   Left                         what is left of a list of requests: the answers, the words and `top`
---   one_batch, one-look          a batch, and the look
+--   one_batch, one_look          a batch, and the look
 -- Assumes nothing.
 use mathlib.Core.Path.{◌≡◌, refl, sym, ap, ap₂, subst, ◌∙◌}
 use mathlib.Core.Logic.{◌⊎◌, inl, inr, ◌≢◌}

@@ -1,7 +1,7 @@
 -- One outcome of a text typed into a sound store: what is said of its status, its value, `top` and its cells leaves no
 -- second one. In order:
---   says-once    one status and value
---   typed-once   one outcome
+--   says_once    one status and value
+--   typed_once   one outcome
 -- Assumes nothing.
 use mathlib.Core.Path.{◌≡◌, refl, sym, ap, ◌∙◌}
 use mathlib.Core.Bool.{Bool, true, false, cond}

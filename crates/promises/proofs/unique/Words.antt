@@ -1,9 +1,9 @@
 -- A sound store's words, cell by cell: those of a cell follow from what the cell is; and two outcomes of one request.
 -- In order:
---   Holds, register-words, heap-words   the words of a cell of a sound store, by the cell
---   same-register, same_heap            a cell that is the same in two sound stores has the same words
---   laid-once                           two stores in which d's cell and the new cells are the same, and the others too
---   left-once                           what is left by a request that is done, refused for room or refused otherwise
+--   Holds, register_words, heap_words   the words of a cell of a sound store, by the cell
+--   same_register, same_heap            a cell that is the same in two sound stores has the same words
+--   laid_once                           two stores in which d's cell and the new cells are the same, and the others too
+--   left_once                           what is left by a request that is done, refused for room or refused otherwise
 -- Assumes nothing.
 use mathlib.Core.Path.{◌≡◌, refl, sym, ◌∙◌}
 use mathlib.Core.Logic.{◌⊎◌, inl, inr, ◌≢◌}
