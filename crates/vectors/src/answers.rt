@@ -8,7 +8,7 @@ use calls::Ran;
 use store::{Checked, Made, Unsound};
 
 // A status, the value that goes with it, the rule of a damaged cell, and `top` afterwards.
-#[derive(Drop)]
+#[derive(Clone, Copy)]
 pub struct Answer {
     pub status: u64,
     pub value: u64,

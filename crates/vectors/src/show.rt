@@ -2,16 +2,18 @@
 // grows faster than the calls of a function.
 use crate::answers;
 use crate::answers::Answer;
-use libc::STDOUT_FILENO;
+
+// The number of standard output.
+const STDOUT: i32 = 1;
 
 pub fn text(s: &[u8]) {
-    io::write_all(STDOUT_FILENO, s);
+    io::write_all(STDOUT, s);
 }
 
 // A space and a number.
 pub fn number(n: u64) {
-    io::write_all(STDOUT_FILENO, b" ");
-    io::print_decimal(STDOUT_FILENO, n);
+    io::write_all(STDOUT, b" ");
+    io::print_decimal(STDOUT, n);
 }
 
 // A name and a number.
@@ -21,7 +23,7 @@ pub fn named(name: &[u8], n: u64) {
 }
 
 pub fn end() {
-    io::write_all(STDOUT_FILENO, b"\n");
+    io::write_all(STDOUT, b"\n");
 }
 
 pub fn words(ws: &[u32]) {

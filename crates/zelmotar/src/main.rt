@@ -6,12 +6,15 @@
 // whole exactly if it ends with a line `top N` or `refused N V`. tools/program-test holds that each byte read is served.
 #![tactic(auto)]
 
-use libc::{STDIN_FILENO, STDOUT_FILENO};
+// The numbers of the two streams.
+const STDIN: i32 = 0;
+
+const STDOUT: i32 = 1;
 
 fn main() {
     let mut input = [0u8; meaning::PROGRAM_BYTES + 1];
     let mut out = [0u8; serve::OUTPUT];
-    let n = io::read_full(STDIN_FILENO, &mut input);
+    let n = io::read_full(STDIN, &mut input);
     let r = serve::serve(&input[..n], &mut out);
-    io::write_all(STDOUT_FILENO, &out[..r]);
+    io::write_all(STDOUT, &out[..r]);
 }
