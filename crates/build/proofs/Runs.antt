@@ -3,7 +3,7 @@ use mathlib.Core.Path.{◌≡◌, refl}
 use mathlib.Core.List.{List}
 use Prim.Native.Nat.{ℕ, ◌+◌, ◌-◌}
 use native.Mathlib.Nat.{add_assoc}
-use Rattle.meaning.specs.Sound.{at, ends, start, size}
+use Rattle.meaning.specs.Sound.{at, ends, size}
 use Rattle.meaning.specs.Verdicts.{done}
 use Rattle.meaning.specs.Actions.{put, copies, new_run, new_run_of}
 use Rattle.store.specs.Holds.{RunIs}

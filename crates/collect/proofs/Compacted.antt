@@ -18,7 +18,6 @@ use Rattle.words.specs.Second.{Second, decode, plain, full, full_word}
 use Rattle.words.proofs.Plain.{decode_zero}
 use Rattle.meaning.specs.Limits.{first_heap_cell}
 use Rattle.meaning.specs.Sound as S
-use Rattle.meaning.specs.Reach.{live}
 use Rattle.meaning.specs.Collected.{map_ends, collected, collected_top, new}
 use Rattle.meaning.proofs.sound.Cells.{words_of_cells, free_rule}
 use Rattle.meaning.proofs.collected.Determined.{new_last, is_collected}

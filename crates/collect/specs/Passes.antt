@@ -1,7 +1,7 @@
 -- What the functions of the collector ask for and leave, on words: a function is asked for some heap in its phase, and
 -- leaves every such heap in the next. In order: a cell put down, then the sweep. Lowering has the pass up.
 -- Assumes nothing.
-use Rattle.std.specs.Prelude.{◌≡◌, ◌≢◌, Bool, true, false, List, ℕ, suc, ◌+◌, ◌-◌, ◌*◌, ◌^◌, ◌≤◌, ◌<◌, length}
+use Rattle.std.specs.Prelude.{◌≡◌, ◌≢◌, Bool, true, false, List, ℕ, suc, ◌+◌, ◌*◌, ◌^◌, ◌≤◌, ◌<◌, length}
 use Rattle.words.specs.Cell.{first_word, put_cell}
 use Rattle.words.specs.Second.{decode, plain, full_word}
 use Rattle.meaning.specs.Limits.{limit}

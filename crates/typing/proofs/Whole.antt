@@ -11,7 +11,7 @@ use Prim.Native.Nat.{ℕ, ◌+◌, ◌≤◌}
 use native.Mathlib.Omega.{arith}
 use lib.ListN.{length}
 use Rattle.meaning.specs.Limits.{first_heap_cell, limit, depth_limit}
-use Rattle.meaning.specs.Expr.{Expr, terms}
+use Rattle.meaning.specs.Expr.{Expr}
 use Rattle.meaning.specs.Verdicts.{Verdict, done, refused}
 use Rattle.meaning.specs.Actions.{put}
 use Rattle.meaning.specs.Call.{sought, with_room, carry_out}

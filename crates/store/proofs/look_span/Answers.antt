@@ -4,7 +4,7 @@ use Prim.Native.Nat.{◌+◌, ◌*◌, ◌≤◌}
 use native.Mathlib.Omega.{arith}
 use lib.ListN.{length}
 use Rattle.meaning.specs.Limits.{first_heap_cell}
-use Rattle.meaning.specs.Sound.{Sound, start, size}
+use Rattle.meaning.specs.Sound.{Sound}
 use Rattle.store.proofs.Sounds.{first_heap_cell_pos, sound_iff, register_bracketed, register_inside}
 use Rattle.store.proofs.Looked.{span_unsound, span_none, span_run, run_inside}
 use borrow.Author.Rules.{rules}

@@ -1,12 +1,12 @@
 -- `calls::step::perform` meets its contract: an arm for each operation, whose words the table of uses has shown to be
 -- registers. Assumes nothing.
 use mathlib.Core.Path.{◌≡◌, refl, sym, ◌∙◌}
-use Prim.Native.Nat.{ℕ, ◌<◌, ◌≤◌}
+use Prim.Native.Nat.{ℕ, ◌<◌}
 use Rattle.std.proofs.Common.{List}
 use borrow.Author.Rules.{rules}
 use Rattle.meaning.specs.Limits.{first_heap_cell}
 use Rattle.meaning.specs.Sound.{Sound}
-use Rattle.meaning.specs.Operands.{SYMBOL, WRAP, JOIN, fault, uses, use_d, use_a, use_b, op_at, ops}
+use Rattle.meaning.specs.Operands.{SYMBOL, WRAP, JOIN, fault, uses, use_d, use_a, op_at, ops}
 use Rattle.meaning.specs.Call.{plan_of, carry_out, perform}
 use Rattle.meaning.proofs.collected.Again.{live_kept}
 use Rattle.meaning.proofs.operands.Uses.{keeps_operand, keeps_a, keeps_b}
