@@ -7,7 +7,7 @@
 -- Assumes nothing.
 use mathlib.Core.Path.{◌≡◌, refl, sym, ap, ap₂, ◌∙◌}
 use mathlib.Core.List.{List, [], ◌++◌}
-use Prim.Native.Nat.{ℕ, ◌+◌, ◌-◌, ◌*◌, ◌/◌, ◌≤◌}
+use Prim.Native.Nat.{ℕ, ◌+◌, ◌*◌, ◌/◌, ◌≤◌}
 use native.Mathlib.Omega.{arith}
 use lib.ListN.{length, take, replicate, length-replicate}
 use lib.Seq.{length-take-le}
@@ -15,7 +15,7 @@ use Rattle.meaning.specs.Limits.{first_heap_cell, calls_limit, program_cells, pr
 use Rattle.meaning.specs.Sound.{Sound, capacity}
 use Rattle.meaning.specs.Verdicts.{Done, done}
 use Rattle.meaning.specs.Fresh.{fresh, fresh_in}
-use Rattle.meaning.specs.Batch.{Ran, runs, Outcome, batch}
+use Rattle.meaning.specs.Batch.{runs, Outcome, batch}
 use Rattle.meaning.specs.Program.{lines_of, written, output}
 use Rattle.meaning.proofs.fresh.Fresh.{fresh_sound}
 use Rattle.meaning.proofs.check.Checking.{yes_length}

@@ -8,10 +8,10 @@ use native.Mathlib.Nat.{add-zero}
 use native.Mathlib.Omega.{arith}
 use lib.Dec.{ltb}
 use borrow.Author.Tests.{ltb-true, lt-ltb}
-use Rattle.meaning.specs.Sound.{at, capacity, Sound}
+use Rattle.meaning.specs.Sound.{capacity, Sound}
 use Rattle.meaning.specs.Reach.{live}
 use Rattle.meaning.specs.Collected.{collected}
-use Rattle.meaning.specs.Verdicts.{Done, refused}
+use Rattle.meaning.specs.Verdicts.{Done}
 use Rattle.meaning.specs.Operands.{op_at, fault}
 use Rattle.meaning.specs.Call.{plan_of, perform, step_after, step}
 use Rattle.meaning.specs.Effect.{effect, live_for_room, call_status}
