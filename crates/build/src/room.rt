@@ -12,7 +12,7 @@ ghost use Rattle.build.specs.Room.{Sought, RoomMade};
 use crate::cells::put_empty;
 
 // Where the new cells go, or `top` of the collected store that has no room for them.
-#[derive(Drop)]
+#[derive(Clone, Copy)]
 pub enum Room {
     Ready(usize),
     Lacking(usize),

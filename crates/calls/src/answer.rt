@@ -2,7 +2,7 @@
 ghost use Rattle.calls.specs.Answers.{IsDone, IsRefused};
 
 // What one call answers: its status and value, and `top` after it.
-#[derive(Drop)]
+#[derive(Clone, Copy)]
 pub struct Stepped {
     pub status: u32,
     pub value: u32,

@@ -19,7 +19,7 @@ mod sharing;
 mod step;
 
 // What becomes of a batch: `top` after its last call, or why it is refused.
-#[derive(Drop)]
+#[derive(Clone, Copy)]
 pub enum Ran {
     Ended(usize),
     Refused(store::Unsound),

@@ -23,7 +23,7 @@ use typing::Typed;
 
 // A status, the rule of a damaged cell or 0, the value that goes with the status, and `top` afterwards.
 #[repr(C)]
-#[derive(Drop)]
+#[derive(Clone, Copy)]
 pub struct Reply {
     pub status: u32,
     pub rule: u32,
@@ -45,7 +45,7 @@ fn reply_with(status: u32, value: usize, top: usize) -> Reply
 }
 
 // The numbers of a refusal.
-#[derive(Drop)]
+#[derive(Clone, Copy)]
 pub struct Numbers {
     pub status: u32,
     pub rule: u32,
@@ -143,7 +143,7 @@ pub extern "C" fn zelmotar_run(
 
 // What printing gives: status, rule and value as above, and the length of the text.
 #[repr(C)]
-#[derive(Drop)]
+#[derive(Clone, Copy)]
 pub struct Text {
     pub status: u32,
     pub rule: u32,
@@ -188,7 +188,7 @@ pub extern "C" fn zelmotar_print(words: &[u32], top: usize, reg: usize, space: &
 // What typing gives: status, rule and value as above, where the value may be an offset into the text, and `top`
 // afterwards.
 #[repr(C)]
-#[derive(Drop)]
+#[derive(Clone, Copy)]
 pub struct Entry {
     pub status: u32,
     pub rule: u32,
@@ -264,7 +264,7 @@ pub extern "C" fn zelmotar_look(words: &[u32], top: usize, reg: usize) -> Span
 
 // What saving gives: status, rule and value as above, `top` afterwards and the length of the file.
 #[repr(C)]
-#[derive(Drop)]
+#[derive(Clone, Copy)]
 pub struct Filed {
     pub status: u32,
     pub rule: u32,

@@ -18,7 +18,7 @@ pub fn link(ws: &mut [u32], m: usize, a: u32, w: u32)
 }
 
 // A cell's own two words, and the lowest cell known to be reached.
-#[derive(Drop)]
+#[derive(Clone, Copy)]
 pub struct Released {
     pub first: u32,
     pub second: u32,

@@ -74,7 +74,7 @@ pub fn collect_for(ws: &mut [u32], top: usize, wanted: usize) -> usize
 }
 
 // What collecting answers: live and the new `top`, or why it is refused.
-#[derive(Drop)]
+#[derive(Clone, Copy)]
 pub enum Collected {
     Done(usize, usize),
     Refused(Unsound),

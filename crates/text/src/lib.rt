@@ -20,7 +20,7 @@ use store::{Checked, Unsound};
 mod writers;
 
 // What printing answers: the length of the text, or why there is none.
-#[derive(Drop)]
+#[derive(Clone, Copy)]
 pub enum Printed {
     Done(usize),
     Refused(Unsound),

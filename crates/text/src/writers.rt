@@ -16,7 +16,7 @@ use octets::writing::Pen;
 
 // How far a text has come: where the next byte goes, whether nothing more is written, and whether that is for a bracket
 // that is one too many. It holds a pen's fields and no pen, which would be copied with the bytes behind its flag.
-#[derive(Drop)]
+#[derive(Clone, Copy)]
 pub struct Progress {
     pub place: usize,
     pub short: bool,

@@ -25,7 +25,7 @@ mod scanning;
 
 // What typing answers: the new `top`; why the store is unsound; that the register is none; why the text is refused, and
 // at which byte; or the `top` of the collected store, which has no room.
-#[derive(Drop)]
+#[derive(Clone, Copy)]
 pub enum Typed {
     Done(usize),
     Refused(Unsound),
