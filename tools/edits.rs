@@ -281,9 +281,8 @@ impl Lent {
             ("end", []) => {
                 let a = capi::zelmotar_text_end(self.state);
                 let c = format!("(counted {})", self.p);
-                let term = format!(
-                    "{c}.verdict.status ∷ {c}.verdict.value ∷ {c}.need ∷ {c}.most ∷ []"
-                );
+                let term =
+                    format!("{c}.verdict.status ∷ {c}.verdict.value ∷ {c}.need ∷ {c}.most ∷ []");
                 let numbers = [a.status, a.value as u32, a.terms as u32, a.most as u32];
                 self.say(text, &numbers, term);
             }
@@ -309,9 +308,8 @@ impl Lent {
         let mut space = vec![7; n];
         let done = format!("(save_in edition 16 {} {} {n})", self.ws, self.t);
         let a = capi::zelmotar_save(&mut self.words, self.top, &mut space);
-        let term = format!(
-            "{done}.verdict.status ∷ {done}.verdict.value ∷ {done}.top ∷ {done}.size ∷ []"
-        );
+        let term =
+            format!("{done}.verdict.status ∷ {done}.verdict.value ∷ {done}.top ∷ {done}.size ∷ []");
         self.say(text, &[a.status, a.value, a.top as u32, a.length as u32], term);
         self.rule(a.rule, format!("{done}.verdict"));
         for (i, four) in space.chunks(4).enumerate() {
