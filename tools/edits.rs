@@ -36,12 +36,12 @@
 // `rule`. The cells come last.
 #![allow(warnings)]
 mod build;
-mod bytes;
 mod calls;
 mod capi;
 mod collect;
 mod file;
 mod meaning;
+mod octets;
 mod pieces;
 mod reader;
 mod serve;
@@ -142,22 +142,22 @@ impl Lent {
     // An answer to collecting, to a fresh store, to a text that is typed or to a file, by the term for it.
     fn answered(&mut self, name: &str, numbers: [u32; 3], top: usize, done: String) {
         let [status, rule, value] = numbers;
-        let term = format!("{done} .verdict .status ∷ {done} .verdict .value ∷ {done} .top ∷ []");
+        let term = format!("{done}.verdict.status ∷ {done}.verdict.value ∷ {done}.top ∷ []");
         self.say(name, &[status, value, top as u32], term);
-        self.rule(rule, format!("{done} .verdict"));
+        self.rule(rule, format!("{done}.verdict"));
         self.left(top, done);
     }
 
     // The rule that goes with an answer, by the term for its verdict.
     fn rule(&self, rule: u32, verdict: String) {
-        self.say("rule", &[rule], format!("{verdict} .rule ∷ []"));
+        self.say("rule", &[rule], format!("{verdict}.rule ∷ []"));
     }
 
     // The store and `top` that a function leaves, by the term for what it does.
     fn left(&mut self, top: usize, done: String) {
         self.top = top;
-        self.ws = format!("({done} .words)");
-        self.t = format!("({done} .top)");
+        self.ws = format!("({done}.words)");
+        self.t = format!("({done}.top)");
     }
 
     // The calls since the last other step, as one batch.
@@ -172,15 +172,15 @@ impl Lent {
         let (ws, t, list) = (&self.ws, &self.t, list(&calls));
         let done = format!("(batch 16 {ws} {t} ({list}) (replicate {space} 7))");
         let a = capi::zelmotar_run(&mut self.words, self.top, &calls, &mut answers);
-        let verdict = format!("{done} .verdict .status ∷ {done} .verdict .value ∷ []");
+        let verdict = format!("{done}.verdict.status ∷ {done}.verdict.value ∷ []");
         self.say("run", &[a.status, a.value], verdict);
-        self.rule(a.rule, format!("{done} .verdict"));
+        self.rule(a.rule, format!("{done}.verdict"));
         let used = if a.status == 0 { 2 * batch.len() } else { 0 };
         for (i, pair) in answers[..used].chunks(2).enumerate() {
-            self.say(&batch[i].0, pair, format!("take 2 (drop {} ({done} .answers))", 2 * i));
+            self.say(&batch[i].0, pair, format!("take 2 (drop {} ({done}.answers))", 2 * i));
         }
-        self.say("answers", &answers[used..], format!("drop {used} ({done} .answers)"));
-        self.say("top", &[a.top as u32], format!("{done} .top ∷ []"));
+        self.say("answers", &answers[used..], format!("drop {used} ({done}.answers)"));
+        self.say("top", &[a.top as u32], format!("{done}.top ∷ []"));
         self.left(a.top, done);
     }
 
@@ -205,7 +205,7 @@ impl Lent {
             }
             ("cell", &[c, a, b]) => {
                 self.words[2 * c as usize..][..2].copy_from_slice(&[a, b]);
-                self.ws = format!("(putCell {ws} {c} {a} {b})");
+                self.ws = format!("(put_cell {ws} {c} {a} {b})");
             }
             ("top", &[n]) => {
                 self.top = n as usize;
@@ -215,24 +215,24 @@ impl Lent {
             ("check", []) => {
                 let a = capi::zelmotar_check(&self.words, self.top);
                 let v = format!("(check 16 {ws} {t})");
-                let term = format!("{v} .status ∷ {v} .value ∷ {t} ∷ []");
+                let term = format!("{v}.status ∷ {v}.value ∷ {t} ∷ []");
                 self.say(text, &[a.status, a.value, a.top as u32], term);
                 self.rule(a.rule, v);
             }
             ("fresh", []) => {
                 let a = capi::zelmotar_fresh(&mut self.words);
-                let done = format!("(freshIn 16 {ws})");
+                let done = format!("(fresh_in 16 {ws})");
                 self.answered(text, [a.status, a.rule, a.value], a.top, done);
             }
             ("collect", []) => {
                 let a = capi::zelmotar_collect(&mut self.words, self.top);
-                let done = format!("(collectIn 16 {ws} {t})");
+                let done = format!("(collect_in 16 {ws} {t})");
                 self.answered(text, [a.status, a.rule, a.value], a.top, done);
             }
             ("look", &[r]) => {
                 let place = capi::zelmotar_look(&self.words, self.top, r as usize);
-                let s = format!("(lookSpan 16 {ws} {t} {r})");
-                let term = format!("{s} .from ∷ {s} .to ∷ []");
+                let s = format!("(look_span 16 {ws} {t} {r})");
+                let term = format!("{s}.from ∷ {s}.to ∷ []");
                 self.say(text, &[place.from as u32, place.to as u32], term);
             }
             ("nest", &[n]) => {
@@ -246,23 +246,23 @@ impl Lent {
             ("print", &[r, n]) => {
                 let mut space = vec![7; n as usize];
                 let a = capi::zelmotar_print(&self.words, self.top, r as usize, &mut space);
-                let p = format!("(printIn 16 {ws} {t} {r} {n})");
-                let term = format!("{p} .verdict .status ∷ {p} .verdict .value ∷ {p} .size ∷ []");
+                let p = format!("(print_in 16 {ws} {t} {r} {n})");
+                let term = format!("{p}.verdict.status ∷ {p}.verdict.value ∷ {p}.size ∷ []");
                 self.say(text, &[a.status, a.value as u32, a.length as u32], term);
-                self.rule(a.rule, format!("{p} .verdict"));
+                self.rule(a.rule, format!("{p}.verdict"));
                 let space: Vec<u32> = space.iter().map(|&b| b as u32).collect();
-                self.say("space", &space, format!("{p} .space"));
+                self.say("space", &space, format!("{p}.space"));
             }
             // Words of the text that are numbers are among the numbers too.
             ("type", &[r, ..]) => {
                 let (typed, list) = bytes_of(quoted(text));
                 let a = capi::zelmotar_type(&mut self.words, self.top, r as usize, typed);
-                let done = format!("(typeIn 16 {ws} {t} {r} ({list}))");
+                let done = format!("(type_in 16 {ws} {t} {r} ({list}))");
                 self.answered(text, [a.status, a.rule, a.value as u32], a.top, done);
             }
             ("start", []) => {
                 self.state = capi::zelmotar_text_start();
-                self.p = "noPieces".to_string();
+                self.p = "no_pieces".to_string();
             }
             ("state", &[stand, code, offset, depth, terms, own, most]) => {
                 let place = format!("reader {} {offset} {depth} {terms}", standing(stand, code));
@@ -281,9 +281,8 @@ impl Lent {
             ("end", []) => {
                 let a = capi::zelmotar_text_end(self.state);
                 let c = format!("(counted {})", self.p);
-                let term = format!(
-                    "{c} .verdict .status ∷ {c} .verdict .value ∷ {c} .need ∷ {c} .most ∷ []"
-                );
+                let term =
+                    format!("{c}.verdict.status ∷ {c}.verdict.value ∷ {c}.need ∷ {c}.most ∷ []");
                 let numbers = [a.status, a.value as u32, a.terms as u32, a.most as u32];
                 self.say(text, &numbers, term);
             }
@@ -295,7 +294,7 @@ impl Lent {
                 self.words = vec![7; n as usize];
                 let a = capi::zelmotar_load(&mut self.words, &self.file);
                 let file: Vec<u32> = self.file.iter().map(|&b| b as u32).collect();
-                let done = format!("(loadIn ({}) (replicate {n} 7))", list(&file));
+                let done = format!("(load_in ({}) (replicate {n} 7))", list(&file));
                 self.answered(text, [a.status, a.rule, a.value], a.top, done);
             }
             ("bytes", [n, first @ ..]) => program(*n as usize, first),
@@ -307,16 +306,15 @@ impl Lent {
     // The file is what the space has of it, for the steps that load it.
     fn save(&mut self, text: &str, n: usize) {
         let mut space = vec![7; n];
-        let done = format!("(saveIn edition 16 {} {} {n})", self.ws, self.t);
+        let done = format!("(save_in edition 16 {} {} {n})", self.ws, self.t);
         let a = capi::zelmotar_save(&mut self.words, self.top, &mut space);
-        let term = format!(
-            "{done} .verdict .status ∷ {done} .verdict .value ∷ {done} .top ∷ {done} .size ∷ []"
-        );
+        let term =
+            format!("{done}.verdict.status ∷ {done}.verdict.value ∷ {done}.top ∷ {done}.size ∷ []");
         self.say(text, &[a.status, a.value, a.top as u32, a.length as u32], term);
-        self.rule(a.rule, format!("{done} .verdict"));
+        self.rule(a.rule, format!("{done}.verdict"));
         for (i, four) in space.chunks(4).enumerate() {
             let four: Vec<u32> = four.iter().map(|&b| b as u32).collect();
-            let term = format!("take 4 (drop {} ({done} .space))", 4 * i);
+            let term = format!("take 4 (drop {} ({done}.space))", 4 * i);
             self.say(&format!("bytes {}", 4 * i), &four, term);
         }
         space.truncate(a.length);
@@ -326,8 +324,8 @@ impl Lent {
 
     fn word(&self, w: u32, n: usize) {
         let mut out = vec![7; n];
-        let pen = bytes::writing::put_word(&mut out, bytes::writing::start(), w);
-        bytes::writing::zero_from(&mut out, pen.place);
+        let pen = octets::writing::put_word(&mut out, octets::writing::start(), w);
+        octets::writing::zero_from(&mut out, pen.place);
         let out: Vec<u32> = out.iter().map(|&b| b as u32).collect();
         self.say("bytes", &out, String::new());
         self.say("short", &[pen.short as u32], String::new());
@@ -345,14 +343,14 @@ fn program(n: usize, first: &[u32]) {
 fn main() {
     let mut args = std::env::args().skip(1);
     let input = args.next().expect("an input");
-    let (ws, t, p) = ("[]".to_string(), "16".to_string(), "noPieces".to_string());
+    let (ws, t, p) = ("[]".to_string(), "16".to_string(), "no_pieces".to_string());
     let (said, words, batch, file) = (args.next(), vec![], vec![], vec![]);
     let state = capi::zelmotar_text_start();
     let mut lent = Lent { words, top: 16, ws, t, space: None, file, state, p, batch, said };
     input.split(", ").for_each(|step| lent.step(step));
     lent.run();
     for (c, cell) in lent.words.chunks(2).enumerate() {
-        let term = format!("firstWord {0} {c} ∷ secondWord {0} {c} ∷ []", lent.ws);
+        let term = format!("first_word {0} {c} ∷ second_word {0} {c} ∷ []", lent.ws);
         lent.say(&format!("cell {c}"), cell, term);
     }
 }

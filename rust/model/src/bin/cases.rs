@@ -31,41 +31,38 @@ const MAX_TOLD: u32 = 10_000;
 /// Everything before the cases: their type, and the test of each kind.
 const HEAD: &str = "\
 -- Random cases, written by a program from the model. Assumes nothing.
-use mathlib.Core.Bool.{Bool, true, false, _&&_}
-use mathlib.Core.List.{List, [], _∷_}
-use Prim.Native.Nat.{ℕ}
-use lib.Dec.{eqb, T}
-use Rattle·words.specs.Second.{flag, decode}
-use Rattle·bytes.specs.Decimal.{decimal}
-use Rattle·bytes.specs.Space.{filled}
-use Rattle·meaning.specs.Limits.{firstHeapCell, limit, codeTest, depthLimit, termsLimit, callsLimit, programCells}
-use Rattle·meaning.specs.Limits.{programBytes, edition}
-use Rattle·meaning.specs.Sound.{at}
-use Rattle·meaning.specs.Meaning.{meaning}
-use Rattle·meaning.specs.Reach.{reached, live}
-use Rattle·meaning.specs.Collected.{newAddress, collectedOf, collected, collectedTop}
-use Rattle·meaning.specs.Verdicts.{Verdict, Done}
-use Rattle·meaning.specs.Check.{bracketRule, belowRule, brokenRule, cellTest, lengthTest, topTest, verdictAt, check}
-use Rattle·meaning.specs.Check.{collectIn}
-use Rattle·meaning.specs.Fresh.{fresh, freshIn}
-use Rattle·meaning.specs.Look.{Span, spanOf, lookSpan}
-use Rattle·meaning.specs.Operands.{ops, opAt, uses, names, isOperand, wrong11, wrong12, wrong13, fault}
-use Rattle·meaning.specs.Actions.{put, copy, share, head, rest, openTerm, openFirst, codeTerm, codeFirst, newSymbol}
-use Rattle·meaning.specs.Actions.{newBracket, newRunOf, newRun}
-use Rattle·meaning.specs.Call.{keeps, sought, planOf, lacks, roomWords, roomTop, withRoom, carryOut, perform}
-use Rattle·meaning.specs.Call.{stepAfter, step}
-use Rattle·meaning.specs.Batch.{Outcome, ended, callsTest, batchOf, batch}
-use Rattle·meaning.specs.Text.{Printed, leftAfter, tooDeep, printed, printIn}
-use Rattle·meaning.specs.Judge.{Stand, begun, spaced, number, closed, stopped}
-use Rattle·meaning.specs.Judge.{isDigit, withDigit, firstMove, laterMove, moreMove}
-use Rattle·meaning.specs.Reader.{Reader, reader, isFull, atStart, isWhole, stopVerdict, read, blank}
-use Rattle·meaning.specs.Lay.{newCells}
-use Rattle·meaning.specs.Typed.{typedOf, typeIn}
-use Rattle·meaning.specs.Pieces.{Count, Pieces, feed, fits, fed, fedAll, counted}
-use Rattle·meaning.specs.File.{Saved, firstOf, fileWords, fileOf, trailer, cellsIn, image, distanceTest}
-use Rattle·meaning.specs.File.{capacityTest, checkStore, checkAs, checkFile, loadIn, savedAs, saveIn}
-use Rattle·meaning.specs.Program.{written, refusal, output, inputFault, program}
-use Rattle·meaning.specs.Rows.{same, verdictTest}
+use Rattle.std.specs.Prelude.{Bool, true, ◌&&◌, List, [], ◌∷◌, ℕ, eqb, T}
+use Rattle.words.specs.Second.{flag, decode}
+use Rattle.octets.specs.Decimal.{decimal}
+use Rattle.octets.specs.Space.{filled}
+use Rattle.meaning.specs.Limits.{first_heap_cell, limit, code_test, depth_limit, terms_limit, calls_limit}
+use Rattle.meaning.specs.Limits.{program_cells, program_bytes, edition}
+use Rattle.meaning.specs.Sound.{at}
+use Rattle.meaning.specs.Meaning.{meaning}
+use Rattle.meaning.specs.Reach.{reached, live}
+use Rattle.meaning.specs.Collected.{new_address, collected_of, collected}
+use Rattle.meaning.specs.Verdicts.{Verdict, Done}
+use Rattle.meaning.specs.Check.{bracket_rule, below_rule, broken_rule, cell_test, length_test, top_test, verdict_at}
+use Rattle.meaning.specs.Check.{check, collect_in}
+use Rattle.meaning.specs.Fresh.{fresh, fresh_in}
+use Rattle.meaning.specs.Look.{Span, span_of, look_span}
+use Rattle.meaning.specs.Operands.{ops, op_at, uses, names, is_operand, wrong11, wrong12, wrong13, fault}
+use Rattle.meaning.specs.Actions.{put, copy, share, head, rest, open_term, open_first, code_term, code_first}
+use Rattle.meaning.specs.Actions.{new_symbol, new_bracket, new_run_of, new_run}
+use Rattle.meaning.specs.Call.{keeps, sought, plan_of, lacks, room_words, room_top, with_room, carry_out, perform}
+use Rattle.meaning.specs.Call.{step_after, step}
+use Rattle.meaning.specs.Batch.{Outcome, ended, calls_test, batch_of, batch}
+use Rattle.meaning.specs.Text.{Printed, left_after, too_deep, printed, print_in}
+use Rattle.meaning.specs.Judge.{Stand, begun, spaced, number, closed, stopped}
+use Rattle.meaning.specs.Judge.{is_digit, with_digit, first_move, later_move, more_move}
+use Rattle.meaning.specs.Reader.{Reader, reader, is_full, at_start, is_whole, stop_verdict, read, blank}
+use Rattle.meaning.specs.Lay.{new_cells}
+use Rattle.meaning.specs.Typed.{typed_of, type_in}
+use Rattle.meaning.specs.Pieces.{Count, Pieces, feed, fits, fed, fed_all, counted}
+use Rattle.meaning.specs.File.{Saved, first_of, file_words, file_of, trailer, cells_in, image, distance_test}
+use Rattle.meaning.specs.File.{capacity_test, check_store, check_as, check_file, load_in, saved_as, save_in}
+use Rattle.meaning.specs.Program.{written, refusal, output, input_fault, program}
+use Rattle.meaning.specs.Rows.{same, verdict_test}
 
 data Case : Type 0 where
   batches : List ℕ → ℕ → List ℕ → List ℕ → Verdict → List ℕ → ℕ → List ℕ → Case
@@ -85,16 +82,16 @@ told s n q = record { status = s; value = n; rule = q }
 
 outcome : Outcome → Verdict → List ℕ → ℕ → List ℕ → Bool
 outcome r v ws top answers =
-    verdictTest (r .verdict) v && same (r .words) ws && eqb (r .top) top && same (r .answers) answers
+    verdict_test r.verdict v && same r.words ws && eqb r.top top && same r.answers answers
 
 left : Done → Verdict → List ℕ → ℕ → Bool
-left r v ws top = verdictTest (r .verdict) v && same (r .words) ws && eqb (r .top) top
+left r v ws top = verdict_test r.verdict v && same r.words ws && eqb r.top top
 
 span : Span → ℕ → ℕ → Bool
-span s from to = eqb (s .from) from && eqb (s .to) to
+span s from to = eqb s.from from && eqb s.to to
 
 textual : Printed → Verdict → ℕ → List ℕ → Bool
-textual p v n t = verdictTest (p .verdict) v && eqb (p .size) n && same (p .space) t
+textual p v n t = verdict_test p.verdict v && eqb p.size n && same p.space t
 
 -- where the reader stands, the offset, the brackets, the terms, those of the level, the most, and the counts
 pieces : Stand → ℕ → ℕ → ℕ → ℕ → ℕ → List ℕ → Pieces
@@ -109,33 +106,33 @@ stands closed = 3 ∷ []
 stands (stopped s) = 4 ∷ s ∷ []
 
 places : Reader → List ℕ
-places r = r .offset ∷ r .depth ∷ r .total ∷ stands (r .stand)
+places r = r.offset ∷ r.depth ∷ r.total ∷ stands r.stand
 
 parts : Pieces → List ℕ
-parts p = p .own ∷ p .most ∷ places (p .place)
+parts p = p.own ∷ p.most ∷ places p.place
 
 state : Pieces → Pieces → Bool
-state p q = same (parts p) (parts q) && same (p .waiting) (q .waiting)
+state p q = same (parts p) (parts q) && same p.waiting q.waiting
 
 tally : Count → Verdict → ℕ → ℕ → Bool
-tally c v n m = verdictTest (c .verdict) v && eqb (c .need) n && eqb (c .most) m
+tally c v n m = verdict_test c.verdict v && eqb c.need n && eqb c.most m
 
 filed : Saved → Verdict → ℕ → List ℕ → ℕ → List ℕ → Bool
 filed r v n ws top bs =
-    verdictTest (r .verdict) v && eqb (r .size) n && same (r .words) ws && eqb (r .top) top && same (r .space) bs
+    verdict_test r.verdict v && eqb r.size n && same r.words ws && eqb r.top top && same r.space bs
 
 right : Case → Bool
-right (batches ws top calls out v ws′ top′ answers) =
-    outcome (batch firstHeapCell ws top calls out) v ws′ top′ answers
-right (collects ws top v ws′ top′) = left (collectIn firstHeapCell ws top) v ws′ top′
-right (makes ws s ws′ top′) = left (freshIn firstHeapCell ws) (told s 0 0) ws′ top′
-right (looks ws top i from to) = span (lookSpan firstHeapCell ws top i) from to
-right (prints ws top i n v m t) = textual (printIn firstHeapCell ws top i n) v m t
-right (types ws top d bs v ws′ top′) = left (typeIn firstHeapCell ws top d bs) v ws′ top′
-right (feeds p ps q v n m) = state (fedAll p ps) q && tally (counted (fedAll p ps)) v n m
-right (saves ws top n v m ws′ top′ bs) = filed (saveIn edition firstHeapCell ws top n) v m ws′ top′ bs
-right (loads bs ws v ws′ top′) = left (loadIn bs ws) v ws′ top′
-right (writes input said) = same (program firstHeapCell input) said
+right (batches ws top calls out v ws' top' answers) =
+    outcome (batch first_heap_cell ws top calls out) v ws' top' answers
+right (collects ws top v ws' top') = left (collect_in first_heap_cell ws top) v ws' top'
+right (makes ws s ws' top') = left (fresh_in first_heap_cell ws) (told s 0 0) ws' top'
+right (looks ws top i from to) = span (look_span first_heap_cell ws top i) from to
+right (prints ws top i n v m t) = textual (print_in first_heap_cell ws top i n) v m t
+right (types ws top d bs v ws' top') = left (type_in first_heap_cell ws top d bs) v ws' top'
+right (feeds p ps q v n m) = state (fed_all p ps) q && tally (counted (fed_all p ps)) v n m
+right (saves ws top n v m ws' top' bs) = filed (save_in edition first_heap_cell ws top n) v m ws' top' bs
+right (loads bs ws v ws' top') = left (load_in bs ws) v ws' top'
+right (writes input said) = same (program first_heap_cell input) said
 
 every : List Case → Bool
 every [] = true
@@ -144,15 +141,16 @@ every (c ∷ cs) = right c && every cs
 
 /// The definitions that the cases unfold.
 const UNFOLDING: &str = "\
-unfolding limit codeTest termsLimit callsLimit programCells programBytes at reached live newAddress collectedOf collected decode
-    flag bracketRule belowRule brokenRule cellTest lengthTest topTest verdictAt check fresh freshIn collectIn spanOf
-    lookSpan ops opAt uses wrong11 wrong12 wrong13 fault put copy share head rest openTerm openFirst codeTerm
-    codeFirst newSymbol newBracket newRunOf newRun names isOperand keeps sought planOf lacks roomWords roomTop
-    withRoom carryOut perform stepAfter step ended callsTest batchOf batch decimal written refusal output inputFault
-    program depthLimit meaning leftAfter tooDeep filled printed printIn isDigit withDigit firstMove laterMove moreMove
-    isFull atStart isWhole stopVerdict read blank newCells typedOf typeIn feed fits fed counted firstOf fileWords fileOf trailer cellsIn image
-    distanceTest capacityTest checkStore checkAs checkFile loadIn savedAs saveIn verdictTest told outcome left span
-    textual pieces stands places parts state tally filed right every";
+unfolding limit code_test terms_limit calls_limit program_cells program_bytes at reached live new_address collected_of
+    collected decode flag bracket_rule below_rule broken_rule cell_test length_test top_test verdict_at check fresh
+    fresh_in collect_in span_of look_span ops op_at uses wrong11 wrong12 wrong13 fault put copy share head rest
+    open_term open_first code_term code_first new_symbol new_bracket new_run_of new_run names is_operand keeps sought
+    plan_of lacks room_words room_top with_room carry_out perform step_after step ended calls_test batch_of batch
+    decimal written refusal output input_fault program depth_limit meaning left_after too_deep filled printed print_in
+    is_digit with_digit first_move later_move more_move is_full at_start is_whole stop_verdict read blank new_cells
+    typed_of type_in feed fits fed counted first_of file_words file_of trailer cells_in image distance_test
+    capacity_test check_store check_as check_file load_in saved_as save_in verdict_test told outcome left span textual
+    pieces stands places parts state tally filed right every";
 
 /// A list of numbers in antt.
 fn list<T: std::fmt::Display>(numbers: &[T]) -> String {
