@@ -145,7 +145,8 @@ module _ (n : ℕ) (ws : List ℕ) (top d : ℕ) (s : Sound first_heap_cell ws t
           let r : x ≡ v = rw (lt-ltb (top - t) (n - (capacity ws - top)) g, is_sought) at c in
           y ∙ rw (r, k, m) (sought_back false d ws (register_inside ws top s d l) s.allowed.even)
 
-      pub nothing_dead : t ≡ top → (ws ≡ collected first_heap_cell ws top) × (top ≡ collected_top first_heap_cell ws top)
+      pub nothing_dead : t ≡ top
+          → (ws ≡ collected first_heap_cell ws top) × (top ≡ collected_top first_heap_cell ws top)
       nothing_dead y =
           let fewer = sought_live first_heap_cell ws top first_heap_cell_pos s false d (λ _. l) in
           let most = live_le first_heap_cell ws top first_heap_cell_pos s in
@@ -171,7 +172,8 @@ module _ {n : ℕ} {v ws : List ℕ} {top : ℕ} {r : Room} {u : List ℕ} (m : 
   room_refuses e act = m.does act ∙ ap (λ (x : Room). room_then x u act) e
 
   -- a register whose expression v has too has as many terms as before
-  pub room_size : r ≡ Ready t → Sound first_heap_cell ws top → (i : ℕ) → i < first_heap_cell → meaning v i ≡ meaning ws i
+  pub room_size : r ≡ Ready t → Sound first_heap_cell ws top → (i : ℕ) → i < first_heap_cell
+      → meaning v i ≡ meaning ws i
       → size (at u i) ≡ size (at ws i)
   room_size e s i h k =
       size_terms first_heap_cell u t first_heap_cell_pos (room_roomy e).0 i h

@@ -31,7 +31,8 @@ pub fn lay_bracket(ws: &mut [u32], top: usize, d: usize, a: usize) -> usize
 // Register d becomes new cells equal to those of register a, then of register b, of which one at least has some.
 pub fn lay_run(ws: &mut [u32], top: usize, d: usize, a: usize, b: usize) -> usize
     requires roomy { Roomy (size (at ws.old a) + size (at ws.old b)) ws.old top }
-    requires d_lt_first_heap_cell { (d < first_heap_cell) × (a < first_heap_cell) × (b < first_heap_cell) × (0 < size (at ws.old a)) }
+    requires d_lt_first_heap_cell { (d < first_heap_cell) × (a < first_heap_cell) × (b < first_heap_cell)
+        × (0 < size (at ws.old a)) }
     ensures { done ws.new result 0 ≡ new_run d a b ws.old top }
 {
     let p = store::run_at(ws, a);

@@ -26,7 +26,8 @@ ran_of o = ran_by o.verdict.status o.top (unsound_of o.verdict)
 
 refused_back : (t : ℕ) (u : Unsound) → ran_by (refusal_of u).status t (unsound_of (refusal_of u)) ≡ Refused u
 refused_back t u =
-    refusal_by (λ (s : ℕ). ran_by s t (unsound_of (refusal_of u))) (Refused (unsound_of (refusal_of u))) refl refl refl u
+    refusal_by (λ (s : ℕ). ran_by s t (unsound_of (refusal_of u))) (Refused (unsound_of (refusal_of u))) refl refl refl
+    u
     ∙ ap Refused (unsound_of_back u)
 
 back : (ws : List ℕ) (top : ℕ) (out : List ℕ) (r : Ran)

@@ -35,7 +35,8 @@ take_four (x ∷ y ∷ z ∷ u ∷ l) (suc j) h = ap (λ (r : List ℕ). x ∷ r
 
 take_call : (l : List ℕ) (i : ℕ) → 4 * i + 3 < length l
     → take (4 * (i + 1)) l
-    ≡ take (4 * i) l ++ (get_or l (4 * i) 0 ∷ get_or l (4 * i + 1) 0 ∷ get_or l (4 * i + 2) 0 ∷ get_or l (4 * i + 3) 0 ∷ [])
+    ≡ take (4 * i) l
+    ++ (get_or l (4 * i) 0 ∷ get_or l (4 * i + 1) 0 ∷ get_or l (4 * i + 2) 0 ∷ get_or l (4 * i + 3) 0 ∷ [])
 take_call l i h =
     let e : 4 * (i + 1) ≡ suc (suc (suc (suc (4 * i)))) = omega arith in
     let e₁ : 4 * i + 1 ≡ suc (4 * i) = omega arith in
@@ -89,7 +90,8 @@ module _ {ws₀ : List ℕ} {top₀ : ℕ} {calls out₀ : List ℕ} where
         → CallDone (call_at ws t calls i) i out t' ws' out' → Running ws₀ top₀ calls out₀ ws' t' out' (i + 1)
     onward h g c =
         let m =
-        step_meets first_heap_cell ws t first_heap_cell_pos k.sound (get_or calls (4 * i) 0) (get_or calls (4 * i + 1) 0)
+        step_meets first_heap_cell ws t first_heap_cell_pos k.sound (get_or calls (4 * i) 0)
+        (get_or calls (4 * i + 1) 0)
         (get_or calls (4 * i + 2) 0) (get_or calls (4 * i + 3) 0) in
         let st = (call_at ws t calls i).verdict.status in
         let va = (call_at ws t calls i).verdict.value in

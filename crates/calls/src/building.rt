@@ -48,7 +48,8 @@ fn join_full(
     kept: bool,
     n: usize,
 ) -> Stepped
-    requires sound { Sound first_heap_cell ws.old top × (d < first_heap_cell) × (a < first_heap_cell) × (b < first_heap_cell) }
+    requires sound { Sound first_heap_cell ws.old top × (d < first_heap_cell) × (a < first_heap_cell)
+        × (b < first_heap_cell) }
     requires survives { Survives kept d a × Survives kept d b }
     requires n_value { (n ≡ size (at ws.old a) + size (at ws.old b)) × (0 < size (at ws.old a)) }
     ensures { stepped_in result ws.new
@@ -62,7 +63,8 @@ fn join_full(
 
 // JOIN: with a empty it shares b, else with b empty it shares a, else it copies the cells of both.
 pub fn join(ws: &mut [u32], top: usize, d: usize, a: usize, b: usize, kept: bool) -> Stepped
-    requires sound { Sound first_heap_cell ws.old top × (d < first_heap_cell) × (a < first_heap_cell) × (b < first_heap_cell) }
+    requires sound { Sound first_heap_cell ws.old top × (d < first_heap_cell) × (a < first_heap_cell)
+        × (b < first_heap_cell) }
     requires survives { Survives kept d a × Survives kept d b }
     ensures { stepped_in result ws.new
         ≡ carry_out first_heap_cell (join_plan (size (at ws.old a)) (size (at ws.old b))

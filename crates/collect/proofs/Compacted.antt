@@ -180,7 +180,8 @@ module _ (ws : List ℕ) (top : ℕ) (s : S.Sound first_heap_cell ws top) where
     is_compacted : (v : List ℕ) → length v ≡ length ws → ((i : ℕ) → get_or v i 0 < 2 ^ 32)
         → ((c : ℕ) → c < first_heap_cell → cell v c ≡ lowered dead (placed_cell h c))
         → ((c : ℕ) → h.live c ≡ true → cell v (new first_heap_cell ws top c) ≡ lowered dead (placed_cell h c))
-        → ((c : ℕ) → new first_heap_cell ws top top ≤ c → c < length ws / 2 → (first_word v c ≡ 0) × (second_word v c ≡ 0))
+        → ((c : ℕ) → new first_heap_cell ws top top ≤ c → c < length ws / 2
+        → (first_word v c ≡ 0) × (second_word v c ≡ 0))
         → v ≡ collected first_heap_cell ws top
     is_compacted v len fits regs heap free =
         is_collected first_heap_cell ws top p s v len

@@ -137,7 +137,8 @@ module _ (F : ℕ) (ws : List ℕ) (top : ℕ) (packs : Bool) (p : 0 < F) (s : S
   first_small : (c : ℕ) → first_word ws c < 2 ^ 28
   first_small c = go (S.at ws c) refl (cell_fields F ws top p s c)
     where
-      go : (x : S.Cell) → S.at ws c ≡ x → Fields x (first_word ws c) (decode (second_word ws c)) → first_word ws c < 2 ^ 28
+      go : (x : S.Cell) → S.at ws c ≡ x → Fields x (first_word ws c) (decode (second_word ws c))
+          → first_word ws c < 2 ^ 28
       go (S.code a) e f = omega (arith, f.0, f.2)
       go S.empty e f = omega (arith, f.0)
       go (S.ends l r) e f = omega (arith, f.0, ends_in F ws top p s c e, s.high, s.allowed.small, limit_fits)

@@ -19,7 +19,8 @@ module _ (s : List ℕ) (m a b : ℕ) where
 
 module _ (s : List ℕ) (m : ℕ) where
   -- a cell's own words put back
-  pub cell_put_own : 2 * m + 1 < length s → (c : ℕ) → cell (put_cell s m (first_word s m) (second_word s m)) c ≡ cell s c
+  pub cell_put_own : 2 * m + 1 < length s → (c : ℕ)
+      → cell (put_cell s m (first_word s m) (second_word s m)) c ≡ cell s c
   cell_put_own h c = go (ℕ_discrete c m)
     where
       go : Dec (c ≡ m) → cell (put_cell s m (first_word s m) (second_word s m)) c ≡ cell s c

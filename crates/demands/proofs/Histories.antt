@@ -177,7 +177,8 @@ told ws top (collect n t v ∷ hs) h =
     record {
       none = none_next ws top one_call_done two_words t v (0 ∷ n ∷ []) (lents hs) c k.none;
       asks = k.asks;
-      says = ap (λ (q : Served). strike_answers (requests one_call_done ++ requests_of (lents hs)) q.answers) e ∙ k.says;
+      says = ap (λ (q : Served). strike_answers (requests one_call_done ++ requests_of (lents hs)) q.answers) e
+          ∙ k.says;
       words = ap (λ (q : Served). q.words) e ∙ k.words;
       last = ap (λ (q : Served). q.top) e ∙ k.last;
     }

@@ -192,5 +192,6 @@ end_meets s c h = go (fits (state_of s) && is_whole (state_of s).place) refl
 pub pieces_then_type : PiecesThenType
 pieces_then_type s r ps c h k e ws top d q l a v y =
     let t = count_tells first_heap_cell ws top q d l (joined ps) in
-    subst (λ (x : Count). Told first_heap_cell ws top d x (typed_in a top v).verdict) (sym (count_joined s r ps h k c e))
+    subst (λ (x : Count). Told first_heap_cell ws top d x (typed_in a top v).verdict)
+    (sym (count_joined s r ps h k c e))
     (subst (λ (x : Done). Told first_heap_cell ws top d (count_text (joined ps)) x.verdict) (sym y) t)

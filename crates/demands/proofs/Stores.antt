@@ -9,12 +9,14 @@ use Rattle.meaning.specs.Limits.{limit, code_test, depth_limit, terms_limit, cal
 use Rattle.meaning.specs.Sound.{at}
 use Rattle.meaning.specs.Reach.{reached, live}
 use Rattle.meaning.specs.Collected.{new_address, collected_of, collected}
-use Rattle.meaning.specs.Check.{bracket_rule, below_rule, broken_rule, cell_test, length_test, top_test, verdict_at, check}
+use Rattle.meaning.specs.Check.{bracket_rule, below_rule, broken_rule, cell_test, length_test, top_test, verdict_at}
+use Rattle.meaning.specs.Check.{check}
 use Rattle.meaning.specs.Check.{collect_in}
 use Rattle.meaning.specs.Operands.{ops, op_at, uses, names, is_operand, wrong11, wrong12, wrong13, fault}
 use Rattle.meaning.specs.Actions.{put, copy, share, head, rest, open_term, open_first, code_term, code_first}
 use Rattle.meaning.specs.Actions.{new_symbol, new_bracket, new_run_of, new_run}
-use Rattle.meaning.specs.Call.{keeps, sought, plan_of, lacks, room_words, room_top, with_room, carry_out, perform, step_after}
+use Rattle.meaning.specs.Call.{keeps, sought, plan_of, lacks, room_words, room_top, with_room, carry_out, perform}
+use Rattle.meaning.specs.Call.{step_after}
 use Rattle.meaning.specs.Call.{step}
 use Rattle.meaning.specs.Batch.{ended, calls_test, batch_of, batch}
 use Rattle.meaning.specs.Judge.{is_digit, with_digit, first_move, later_move, more_move}
@@ -39,12 +41,12 @@ record Computed : Type 0 where
       (words_after second second_history)
 
 computed : Computed
-unfolding limit code_test depth_limit terms_limit calls_limit at reached live new_address collected_of collected decode flag
-    bracket_rule below_rule broken_rule cell_test length_test top_test verdict_at check collect_in ops op_at uses wrong11
-    wrong12 wrong13 fault put copy share head rest open_term open_first code_term code_first new_symbol new_bracket new_run_of
-    new_run names is_operand keeps sought plan_of lacks room_words room_top with_room carry_out perform step_after step ended
-    calls_test batch_of batch is_digit with_digit first_move later_move more_move is_full at_start is_whole stop_verdict read blank
-    new_cells typed_of type_in
+unfolding limit code_test depth_limit terms_limit calls_limit at reached live new_address collected_of collected decode
+    flag bracket_rule below_rule broken_rule cell_test length_test top_test verdict_at check collect_in ops op_at uses
+    wrong11 wrong12 wrong13 fault put copy share head rest open_term open_first code_term code_first new_symbol
+    new_bracket new_run_of new_run names is_operand keeps sought plan_of lacks room_words room_top with_room carry_out
+    perform step_after step ended calls_test batch_of batch is_digit with_digit first_move later_move more_move is_full
+    at_start is_whole stop_verdict read blank new_cells typed_of type_in
 computed = record {
   sound = refl;
   sound' = refl;

@@ -43,7 +43,8 @@ Typing ws top d bs (typed.Refused u) v = v ≡ ws
 Typing ws top d bs typed.NoRegister v = v ≡ ws
 Typing ws top d bs (typed.BadText f k) v = v ≡ ws
 Typing ws top d bs (typed.NoRoom t) v =
-    Sound first_heap_cell ws top × (t ≡ first_heap_cell + live first_heap_cell ws top) × CollectedFrom first_heap_cell ws top v
+    Sound first_heap_cell ws top × (t ≡ first_heap_cell + live first_heap_cell ws top)
+    × CollectedFrom first_heap_cell ws top v
 
 abbrev pub TypeMeets : Type 0
 TypeMeets =

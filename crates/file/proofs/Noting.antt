@@ -42,7 +42,8 @@ noted_place w (ends l r) far j x h e = go (eqb (l - w) j) refl
         → get_or (set far (l - w) (max (get_or far (l - w) 0) (suc r))) j 0 ≡ max (cond (eqb (l - w) j) (suc r) 0) x
     go true q =
         rw (q, eqb-true (l - w) j q)
-        (get_or-set_same far j (max (get_or far j 0) (suc r)) 0 h ∙ (ap (λ (y : ℕ). max y (suc r)) e ∙ max_comm x (suc r)))
+        (get_or-set_same far j (max (get_or far j 0) (suc r)) 0 h
+        ∙ (ap (λ (y : ℕ). max y (suc r)) e ∙ max_comm x (suc r)))
     go false q =
         rw q (get_or-set_other far (l - w) j (max (get_or far (l - w) 0) (suc r)) 0 (λ d. eqb-false (l - w) j q (sym d))
         ∙ (e ∙ sym (zero-max x)))

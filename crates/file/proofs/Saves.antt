@@ -81,6 +81,7 @@ module _ (xs out out' : List ℕ) (p : Pen) (e : space out' p ≡ write xs (blan
 
 pub save_sound : (e F : ℕ) (ws : List ℕ) (top n : ℕ) → Sound F ws top
     → save_in e F ws top n
-    ≡ saved_as (file_of e F (collected F ws top) (collected_top F ws top)) (collected F ws top) (collected_top F ws top) n
+    ≡ saved_as (file_of e F (collected F ws top) (collected_top F ws top)) (collected F ws top) (collected_top F ws top)
+    n
 unfolding save_in
 save_sound e F ws top n s = rw (sound_check F ws top s) refl

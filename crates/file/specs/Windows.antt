@@ -1,6 +1,7 @@
 -- Which cells lie between the ends of some cell, by how far the runs reach that begin at or before them.
 -- k are the cells of a store, m is how many of them are looked at. Assumes nothing.
-use Rattle.std.specs.Prelude.{◌≡◌, Bool, true, cond, ◌&&◌, List, [], ◌∷◌, ℕ, zero, suc, ◌-◌, ◌<◌, max, eqb, ltb, length, get_or, set}
+use Rattle.std.specs.Prelude.{◌≡◌, Bool, true, cond, ◌&&◌, List, [], ◌∷◌, ℕ, zero, suc, ◌-◌, ◌<◌, max, eqb, ltb, length}
+use Rattle.std.specs.Prelude.{get_or, set}
 use Rattle.meaning.specs.Sound.{Cell, code, empty, ends}
 use Rattle.meaning.specs.Reach.{held_below}
 

@@ -1,6 +1,7 @@
 -- A batch of calls as it is lent: the store, `top`, the call list and the answer space (SCOPE 5.1, 5.6).
 -- Assumes nothing.
-use Rattle.std.specs.Prelude.{◌≡◌, Bool, false, cond, List, [], ◌∷◌, ◌++◌, ℕ, ◌-◌, ◌*◌, ◌/◌, ◌%◌, ◌≤◌, leb, eqb, length, replicate}
+use Rattle.std.specs.Prelude.{◌≡◌, Bool, false, cond, List, [], ◌∷◌, ◌++◌, ℕ, ◌-◌, ◌*◌, ◌/◌, ◌%◌, ◌≤◌, leb, eqb, length}
+use Rattle.std.specs.Prelude.{replicate}
 use Rattle.meaning.specs.Limits.{calls_limit}
 use Rattle.meaning.specs.Verdicts.{Verdict, only, if_sound, Done}
 use Rattle.meaning.specs.Check.{check}

@@ -1,6 +1,7 @@
 -- The store that collecting leaves, word for word (SCOPE 3.1).
 -- Assumes nothing.
-use Rattle.std.specs.Prelude.{Bool, true, false, List, [], ◌∷◌, ◌++◌, ℕ, zero, suc, ◌+◌, ◌-◌, ◌*◌, ltb, length, replicate}
+use Rattle.std.specs.Prelude.{Bool, true, false, List, [], ◌∷◌, ◌++◌, ℕ, zero, suc, ◌+◌, ◌-◌, ◌*◌, ltb, length}
+use Rattle.std.specs.Prelude.{replicate}
 use Rattle.meaning.specs.Sound.{Cell, code, empty, ends, fst, snd, at}
 use Rattle.meaning.specs.Reach.{reached, live}
 

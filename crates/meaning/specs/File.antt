@@ -3,7 +3,8 @@
 -- words: the distance in bytes from the end of the file back to the first heap cell, the number of heap cells, the
 -- capacity and the edition. All words are little-endian. Bytes before the first heap cell are ignored.
 -- bs are the bytes of a file, f is the first heap cell of the store in it, e is an edition. Assumes nothing.
-use Rattle.std.specs.Prelude.{Bool, false, cond, List, [], ◌∷◌, ◌++◌, ℕ, ◌+◌, ◌-◌, ◌*◌, ltb, leb, eqb, length, get_or, take, drop}
+use Rattle.std.specs.Prelude.{Bool, false, cond, List, [], ◌∷◌, ◌++◌, ℕ, ◌+◌, ◌-◌, ◌*◌, ltb, leb, eqb, length, get_or}
+use Rattle.std.specs.Prelude.{take, drop}
 use Rattle.octets.specs.Little.{words_of, bytes_of}
 use Rattle.octets.specs.Space.{filled}
 use Rattle.meaning.specs.Limits.{limit, kinds}

@@ -5,7 +5,8 @@
 --   fits, fed, fed_all      the states that go on;  a piece, and pieces, fed to any state
 --   no_pieces, counted      before the first piece;  the end
 -- Assumes nothing.
-use Rattle.std.specs.Prelude.{Bool, true, false, cond, ◌&&◌, List, [], ◌∷◌, ℕ, suc, ◌+◌, ◌-◌, ◌*◌, ◌^◌, max, ltb, leb, get_or, set, take, replicate}
+use Rattle.std.specs.Prelude.{Bool, true, false, cond, ◌&&◌, List, [], ◌∷◌, ℕ, suc, ◌+◌, ◌-◌, ◌*◌, ◌^◌, max, ltb, leb}
+use Rattle.std.specs.Prelude.{get_or, set, take, replicate}
 use Rattle.meaning.specs.Limits.{depth_limit, terms_limit}
 use Rattle.meaning.specs.Expr.{Expr, nothing, symbol, parens, terms}
 use Rattle.meaning.specs.Verdicts.{Verdict, only}

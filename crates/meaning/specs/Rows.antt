@@ -129,7 +129,8 @@ rows F =
     -- P10: SYMBOL 0 65, SYMBOL 1 66, JOIN 0 0 1, JOIN 1 0 1: d counts as the one operand and as the other
     runs_to (fresh F (3 + F)) F (2 ∷ 0 ∷ 65 ∷ 0 ∷ 2 ∷ 1 ∷ 66 ∷ 0 ∷ 4 ∷ 0 ∷ 0 ∷ 1 ∷ 4 ∷ 1 ∷ 0 ∷ 1 ∷ [])
     (0 ∷ 0 ∷ 0 ∷ 0 ∷ 16 ∷ 0 ∷ 16 ∷ 0 ∷ [])
-    (F ∷ bracket_to F ∷ (1 + F) ∷ bracket_to (1 + F) ∷ empty_registers (F - 2) ++ (65 ∷ 0 ∷ 66 ∷ 0 ∷ 0 ∷ 0 ∷ [])) (2 + F) ∷
+    (F ∷ bracket_to F ∷ (1 + F) ∷ bracket_to (1 + F) ∷ empty_registers (F - 2) ++ (65 ∷ 0 ∷ 66 ∷ 0 ∷ 0 ∷ 0 ∷ []))
+    (2 + F) ∷
     -- P11: JOIN 2 1 0 is refused while register 3 holds d's cell, and keeps d; CLEAR 3, and it is done in that place
     runs_to (fresh F (4 + F)) F p11 (0 ∷ 0 ∷ 0 ∷ 0 ∷ 0 ∷ 0 ∷ 0 ∷ 0 ∷ 16 ∷ 0 ∷ []) (p11_store F) (3 + F) ∷
     runs_to (p11_store F) (3 + F) (0 ∷ 3 ∷ 0 ∷ 0 ∷ 4 ∷ 2 ∷ 1 ∷ 0 ∷ []) (0 ∷ 0 ∷ 0 ∷ 0 ∷ [])

@@ -15,7 +15,8 @@ use native.Mathlib.Omega.{arith}
 use lib.Dec.{ltb}
 use lib.ListN.{length, get_or, set, take, replicate, length-set, length-append, length-replicate, length-take}
 use lib.ListN.{get_or-eq_default, get_or-append}
-use lib.Seq.{length-take-le, get_or-take, ext_get_or, get_or-set_same, get_or-set_other, get_or-append-add, take-append-le}
+use lib.Seq.{length-take-le, get_or-take, ext_get_or, get_or-set_same, get_or-set_other, get_or-append-add}
+use lib.Seq.{take-append-le}
 use borrow.Author.Tests.{ltb-true, ltb-false}
 use Rattle.octets.specs.Space.{filled}
 use Rattle.octets.specs.Claims.{PaddedAt, FilledFits}

@@ -1,6 +1,7 @@
 -- What the definitions come to, for those who cite them: what is written is read back, and bytes that fit stand at the
 -- start of their space. Assumes nothing.
-use Rattle.std.specs.Prelude.{◌≡◌, true, List, [], ◌∷◌, ◌++◌, ℕ, ◌+◌, ◌-◌, ◌*◌, ◌%◌, ◌≤◌, ◌<◌, length, get_or, drop, replicate}
+use Rattle.std.specs.Prelude.{◌≡◌, true, List, [], ◌∷◌, ◌++◌, ℕ, ◌+◌, ◌-◌, ◌*◌, ◌%◌, ◌≤◌, ◌<◌, length, get_or, drop}
+use Rattle.std.specs.Prelude.{replicate}
 use Rattle.octets.specs.Little.{words_of, bytes_of}
 use Rattle.octets.specs.Decimal.{decimal}
 use Rattle.octets.specs.Space.{Space, up_to, blank, write, filled}

@@ -86,7 +86,8 @@ begin bs s w k = record { most = omega arith; left = refl; can = k }
 
 module _ (bs : List ℕ) (p : Pieces) (t : State) (w : List ℕ) (i : ℕ) (k : Fed bs p t w i) where
   -- what is left behind the next byte
-  behind : {q : Pieces} → i < length bs → q ≡ feed (get_or bs i 0) (state_is t w) → feeds q (drop (i + 1) bs) ≡ feeds p bs
+  behind : {q : Pieces} → i < length bs → q ≡ feed (get_or bs i 0) (state_is t w)
+      → feeds q (drop (i + 1) bs) ≡ feeds p bs
   behind h e = rw (e, add-one i) (sym (ap (feeds (state_is t w)) (drop-cons bs i 0 h)) ∙ k.left)
 
   -- a byte that is not refused

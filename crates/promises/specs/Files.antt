@@ -13,7 +13,8 @@ use Rattle.meaning.specs.Limits.{first_heap_cell, limit}
 use Rattle.meaning.specs.Sound.{at, capacity, CellRule, Sound}
 use Rattle.meaning.specs.Reach.{Reached, live}
 use Rattle.meaning.specs.Verdicts.{Verdict, only, damaged_at, Done, done, refused}
-use Rattle.meaning.specs.File.{first_of, file_of, file_distance, file_cells, file_capacity, file_edition, body, load_in, Saved}
+use Rattle.meaning.specs.File.{first_of, file_of, file_distance, file_cells, file_capacity, file_edition, body, load_in}
+use Rattle.meaning.specs.File.{Saved}
 use Rattle.meaning.specs.File.{save_in}
 use Rattle.promises.specs.Table.{OneOf, Not, rules, FirstOf, Judged}
 use Rattle.promises.specs.Collecting.{CollectedFrom}
@@ -23,7 +24,8 @@ use Rattle.promises.specs.Collecting.{CollectedFrom}
 -- word j of bytes, the lowest byte first
 abbrev pub word_at : List ℕ → ℕ → ℕ
 word_at bs j =
-    get_or bs (4 * j) 0 + 256 * get_or bs (4 * j + 1) 0 + 65536 * get_or bs (4 * j + 2) 0 + 16777216 * get_or bs (4 * j + 3) 0
+    get_or bs (4 * j) 0 + 256 * get_or bs (4 * j + 1) 0 + 65536 * get_or bs (4 * j + 2) 0 + 16777216 * get_or bs
+    (4 * j + 3) 0
 
 -- the file of a store: its heap cells from the first on, its registers, and the trailer of four words
 pub record FileIs (e F : ℕ) (ws : List ℕ) (top : ℕ) (bs : List ℕ) : Type 0 where

@@ -7,7 +7,8 @@
 --   ProgramReads              how much of an input counts
 -- That the running program reads and writes these bytes no statement of Rattle says: docs/GAPS.md.
 -- Assumes nothing.
-use Rattle.std.specs.Prelude.{◌≡◌, List, [], ◌∷◌, ◌++◌, ℕ, ◌+◌, ◌-◌, ◌*◌, ◌/◌, ◌%◌, ◌≤◌, length, get_or, take, drop, replicate}
+use Rattle.std.specs.Prelude.{◌≡◌, List, [], ◌∷◌, ◌++◌, ℕ, ◌+◌, ◌-◌, ◌*◌, ◌/◌, ◌%◌, ◌≤◌, length, get_or, take, drop}
+use Rattle.std.specs.Prelude.{replicate}
 use Rattle.octets.specs.Little.{words_of}
 use Rattle.octets.specs.Decimal.{decimal}
 use Rattle.meaning.specs.Limits.{program_cells, program_bytes}

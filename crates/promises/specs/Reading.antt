@@ -11,7 +11,8 @@
 --   StopsWith, RefusedText     the status at a byte;  the verdict on a text that is refused
 --   StopsLeftmost              every refusal is such;  OneRefusal  no text has two
 -- Assumes nothing.
-use Rattle.std.specs.Prelude.{◌≡◌, ◌⊎◌, true, false, cond, not, ◌&&◌, ◌||◌, List, [], ◌∷◌, ◌++◌, ℕ, suc, ◌+◌, ◌-◌, ◌*◌, ◌≤◌, ◌<◌, eqb, length, get_or, take}
+use Rattle.std.specs.Prelude.{◌≡◌, ◌⊎◌, true, false, cond, not, ◌&&◌, ◌||◌, List, [], ◌∷◌, ◌++◌, ℕ, suc, ◌+◌, ◌-◌, ◌*◌}
+use Rattle.std.specs.Prelude.{◌≤◌, ◌<◌, eqb, length, get_or, take}
 use Rattle.octets.specs.Decimal.{decimal}
 use Rattle.meaning.specs.Limits.{depth_limit, terms_limit}
 use Rattle.meaning.specs.Expr.{Expr}

@@ -1,7 +1,8 @@
 -- Demand 1: whatever words are handed in, each public function answers with a number from its table (SCOPE 4.5, 5),
 -- in the table's order, and a refusal leaves everything as it was lent.
 -- Assumes nothing.
-use Rattle.std.specs.Prelude.{◌≡◌, ◌⊎◌, ◌≢◌, ◌↔◌, true, List, [], ◌∷◌, ℕ, zero, suc, ◌+◌, ◌-◌, ◌*◌, ◌/◌, ◌≤◌, ◌<◌, length, get_or}
+use Rattle.std.specs.Prelude.{◌≡◌, ◌⊎◌, ◌≢◌, ◌↔◌, true, List, [], ◌∷◌, ℕ, zero, suc, ◌+◌, ◌-◌, ◌*◌, ◌/◌, ◌≤◌, ◌<◌}
+use Rattle.std.specs.Prelude.{length, get_or}
 use Rattle.words.specs.Cell.{first_word, second_word}
 use Rattle.words.specs.Second.{decode, bracket_to}
 use Rattle.meaning.specs.Limits.{limit}

@@ -44,7 +44,8 @@ pub lines_next : (answers : List ℕ) (i : ℕ) (s s' x : Space) → i + 1 < len
     → s' ≡ write (lines_of (get_or answers i 0 ∷ get_or answers (i + 1) 0 ∷ [])) s
     → write (lines_of (drop i answers)) s ≡ x → write (lines_of (drop (i + 2) answers)) s' ≡ x
 lines_next answers i s s' x h e f =
-    write_step (lines_of (get_or answers i 0 ∷ get_or answers (i + 1) 0 ∷ [])) (lines_of (drop (i + 2) answers)) s s' x e
+    write_step (lines_of (get_or answers i 0 ∷ get_or answers (i + 1) 0 ∷ [])) (lines_of (drop (i + 2) answers)) s s' x
+    e
     (rw (lines_drop answers i h) at f)
 
 lines_few : (answers : List ℕ) → length answers ≤ 1 → lines_of answers ≡ []

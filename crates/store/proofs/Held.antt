@@ -17,7 +17,8 @@ use Rattle.words.specs.Cell.{first_word, second_word}
 use Rattle.words.specs.Second.{Second, decode}
 use Rattle.words.proofs.Plain.{decode_zero, decode_bracket}
 use Rattle.meaning.specs.Limits.{limit}
-use Rattle.meaning.specs.Sound.{Cell, code, empty, ends, at, IsBracket, is_empty, is_full, IsTerm, is_symbol, is_bracket}
+use Rattle.meaning.specs.Sound.{Cell, code, empty, ends, at, IsBracket, is_empty, is_full, IsTerm, is_symbol}
+use Rattle.meaning.specs.Sound.{is_bracket}
 use Rattle.meaning.specs.Sound.{start, size}
 use Rattle.meaning.proofs.sound.Cells.{limit_fits, read, read_ends}
 use Rattle.store.specs.Holds.{RunIs, is_code, TermIs}

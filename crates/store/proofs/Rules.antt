@@ -37,7 +37,8 @@ pub bracket_test : (F lim a b : ℕ) → b < 2 ^ 32 → lim < 2 ^ 31 → (bracke
 bracket_test F lim a b w fits = (λ e. go (or_cases _ _ e), λ k. back w k)
   where
     go : ((eqb b (bracket_to 0) && eqb a 0) ≡ true)
-        ⊎ ((leb F a && leb a (bit_xor b (bracket_to 0)) && ltb (bit_xor b (bracket_to 0)) lim) ≡ true) → IsBracket F lim a b
+        ⊎ ((leb F a && leb a (bit_xor b (bracket_to 0)) && ltb (bit_xor b (bracket_to 0)) lim) ≡ true)
+        → IsBracket F lim a b
     go (inl e) =
         let y = both_true (eqb b (bracket_to 0)) (eqb a 0) e in
         rw (eqb-true b (bracket_to 0) y.0, eqb-true a 0 y.1) is_empty

@@ -39,7 +39,7 @@ span_in e = record { from = e.from; to = e.to }
 abbrev pub Placed : ℕ → List ℕ → ℕ → ℕ → span.Span → Type 0
 Placed F ws top i e = (span_in e ≡ look_span F ws top i) × (e.from ≤ e.to) × (e.to ≤ length ws)
 
--- r refers to the place s of what ws refers to: `ref_ptr` is a block of memory and a byte of it, and a word has four bytes
+-- r refers to the place s of what ws refers to: `ref_ptr` is a block of memory and a byte of it; a word has four bytes
 abbrev pub PartAt : Bor (List ℕ) → Span → Bor (List ℕ) → Type 0
 PartAt ws s r = (r.ref_ptr.0 ≡ ws.ref_ptr.0) × (r.ref_ptr.1 ≡ ws.ref_ptr.1 + 4 * s.from)
 

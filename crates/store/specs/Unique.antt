@@ -25,7 +25,8 @@ OneFresh =
 
 abbrev pub OneSpan : Type 0
 OneSpan =
-    (ws : List ℕ) (top i : ℕ) (r r' : span.Span) → Placed first_heap_cell ws top i r → Placed first_heap_cell ws top i r'
+    (ws : List ℕ) (top i : ℕ) (r r' : span.Span) → Placed first_heap_cell ws top i r
+    → Placed first_heap_cell ws top i r'
     → r ≡ r'
 
 -- the words and the place of the part that is handed back; that is all of a reference to a slice

@@ -157,7 +157,8 @@ module _ (t out : List ℕ) where
 
   ended_printed : ended (writes depth_limit t (blank out)) ≡ printed t n
   ended_printed =
-      go (trouble depth_limit (n - 0) t) (writes depth_limit t (blank out)) refl (writes_length depth_limit t (blank out))
+      go (trouble depth_limit (n - 0) t) (writes depth_limit t (blank out)) refl
+      (writes_length depth_limit t (blank out))
       (fate depth_limit t (space.blank out) refl (omega arith))
     where
       z : n - 0 ≡ n

@@ -2,8 +2,8 @@
 --   next_plain, next_open, next_deep      one byte, by whether it opens a bracket
 --   left_plain, left_close, left_open     how many more brackets may be open after it
 --   writes_stopped, stopped_short         nothing more is written
---   writes_plain, -space, -digits         bytes that are no brackets
---   writes_close, -open, -deep            brackets
+--   writes_plain, _space, _digits         bytes that are no brackets
+--   writes_close, _open, _deep            brackets
 --   Apart                                 what is written behind a text has as many brackets to open as the text had
 --   writes_bracket, writes_text           a bracket around such a text;  the text of an expression is such
 -- Assumes nothing.

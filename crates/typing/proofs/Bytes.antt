@@ -1,7 +1,7 @@
 -- The bytes of a text from some place on. In order:
 --   drop_in, drop_past, drop_inside                a byte at a place, or none;  where something is left, there is one
 --   code_at_le                                      a code only grows
---   Numbering, digit_inside, number_onward .. -end   a number, a digit a turn
+--   Numbering, digit_inside, number_onward .. _end   a number, a digit a turn
 --   NoDigit, decimal_code, decimal_left            the digits of a code, read where no digit follows
 --   decimal_first, decimal_goes_on                 its first byte is a digit, so a term stands there
 --   goes_inside                                    where a term stands, there is a byte

@@ -126,7 +126,8 @@ module _ {ws bs : List ℕ} {at low high left : ℕ} where
             omega (arith, m.end, c.2.fits, c.2.small),
           )
 
-    pub inside_next : (e : Expr) (rest : List ℕ) → Ready ws bs at low high left e rest → 0 < terms e → get_or bs at 0 ≡ 40
+    pub inside_next : (e : Expr) (rest : List ℕ) → Ready ws bs at low high left e rest → 0 < terms e
+        → get_or bs at 0 ≡ 40
         → l.next < length bs
     inside_next nothing rest r f h = absurd (omega arith)
     inside_next (symbol a e) rest r f h = absurd (no_symbol a e rest r h)
@@ -216,7 +217,8 @@ module _ {ws bs : List ℕ} {at low high left : ℕ} where
               (kept_wide (kept_put ws (high - 1) x) (omega (arith, r.fits)) (omega (arith, r.fits)));
         }
 
-    pub symbol_laid : (e : Expr) (rest : List ℕ) → Ready ws bs at low high left e rest → 0 < terms e → get_or bs at 0 ≢ 40
+    pub symbol_laid : (e : Expr) (rest : List ℕ) → Ready ws bs at low high left e rest → 0 < terms e
+        → get_or bs at 0 ≢ 40
         → TermLaidAs ws bs low high e rest (record { next = n; end = low }) us
     symbol_laid nothing rest r f h = absurd (omega arith)
     symbol_laid (symbol a e) rest r f h = laid_symbol a e rest r

@@ -6,16 +6,17 @@ use Rattle.store.proofs.Sounds.{found_sound}
 use Rattle.meaning.proofs.batch.Cases.{batch_sound}
 use Rattle.calls.proofs.Batching.{batch_refused}
 use Rattle.calls.proofs.run.Goals as goal
+use Rattle.calls.proofs.run.Goals.{In-Sound}
+
+sound : (c : In-Sound) → Sound first_heap_cell c.args.ws.now c.args.top
+sound c = found_sound first_heap_cell _ _ c.check.result c.check.ensures c.in-Sound.is
 
 pub run_sound-requires : goal.run_sound-requires
-run_sound-requires c =
-    let sound : Sound first_heap_cell c.args.ws.now c.args.top = let check = c.check in found_sound first_heap_cell _ _ check.result check.ensures c.in-Sound.is in
-    sound
+run_sound-requires c = sound (goal.at.run_sound-requires c).In-Sound
 
 pub returns-in-Sound : goal.returns-in-Sound
 returns-in-Sound c =
-    let sound : Sound first_heap_cell c.args.ws.now c.args.top = let check = c.check in found_sound first_heap_cell _ _ check.result check.ensures c.in-Sound.is in
-    c.run_sound.ensures ∙ sym (batch_sound _ _ _ _ _ (sound))
+    c.run_sound.ensures ∙ sym (batch_sound _ _ _ _ _ (sound (goal.at.returns-in-Sound c).In-Sound))
 
 pub returns-in-Refused : goal.returns-in-Refused
 returns-in-Refused c =

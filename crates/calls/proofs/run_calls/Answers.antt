@@ -6,7 +6,8 @@ pub loop-i-init : goal.loop-i-init
 loop-i-init c = begin c.requires.0
 
 pub run_call-at-requires : goal.run_call-at-requires
-run_call-at-requires c = let k = c.loop-i.invariant in (k.sound, omega (arith, c.requires.1), omega (arith, k.long, c.requires.2))
+run_call-at-requires c =
+    let k = c.loop-i.invariant in (k.sound, omega (arith, c.requires.1), omega (arith, k.long, c.requires.2))
 
 pub loop-i-preserved : goal.loop-i-preserved
 loop-i-preserved c = onward c.loop-i.invariant c.loop-i-test.true c.requires.2 c.run_call-at.ensures

@@ -74,7 +74,8 @@ module _ (s : List ℕ) (m a b to u b' : ℕ) (m_in : 2 * m + 1 < length s) (k_i
     where
       gone : chained s₁ a ≡ false
       gone =
-          ap (λ (x : ℕ). (decode x).rc) (second_word_same s a (to - first_word s a) u k_in) ∙ ap (λ (x : Second). x.rc) eu
+          ap (λ (x : ℕ). (decode x).rc) (second_word_same s a (to - first_word s a) u k_in)
+          ∙ ap (λ (x : Second). x.rc) eu
 
       else : (c : ℕ) → c ≢ a → chained s₁ c ≡ chained s c
       else c q = ap (λ (x : ℕ). (decode x).rc) (second_word_other s a (to - first_word s a) u c q)

@@ -7,6 +7,12 @@ use Rattle.meaning.specs.Collected.{collected_top}
 use Rattle.meaning.proofs.sound.Cells.{limit_fits}
 use Rattle.collect.proofs.Wanted.{low_top, too_few, enough, at_once}
 use Rattle.collect.proofs.collect_for.Goals as goal
+use Rattle.collect.proofs.collect_for.Goals.{After-live-low}
+
+-- the count and the first heap cell are the collected store's `top`
+low_is : (c : After-live-low) →
+    first_heap_cell + c.live-low.result ≡ collected_top first_heap_cell c.args.ws.now c.args.top
+low_is c = ap (λ (x : ℕ). first_heap_cell + x) c.live-low.ensures.1
 
 pub returns-then-wanted-le1 : goal.returns-then-wanted-le1
 returns-then-wanted-le1 c =
@@ -15,11 +21,10 @@ returns-then-wanted-le1 c =
 
 pub overflow_add-low : goal.overflow_add-low
 overflow_add-low c =
-    let low_is : first_heap_cell + c.live-low.result ≡ collected_top first_heap_cell c.args.ws.now c.args.top = ap (λ (x : ℕ). first_heap_cell + x) c.live-low.ensures.1 in
     omega (
       arith,
       limit_fits,
-      low_is,
+      low_is (goal.at.overflow_add-low c).After-live-low,
       low_top c.args.ws.now c.args.top c.args.wanted c.requires,
       c.requires.high,
       c.requires.allowed.small,
@@ -27,25 +32,23 @@ overflow_add-low c =
 
 pub overflow_sub-top : goal.overflow_sub-top
 overflow_sub-top c =
-    let low_is : first_heap_cell + c.live-low.result ≡ collected_top first_heap_cell c.args.ws.now c.args.top = ap (λ (x : ℕ). first_heap_cell + x) c.live-low.ensures.1 in
-    omega (arith, low_is, low_top c.args.ws.now c.args.top c.args.wanted c.requires)
+    let l = low_is (goal.at.overflow_sub-top c).After-live-low in
+    omega (arith, l, low_top c.args.ws.now c.args.top c.args.wanted c.requires)
 
 pub returns-then-top-low : goal.returns-then-top-low
-returns-then-top-low c =
-    let low_is : first_heap_cell + c.live-low.result ≡ collected_top first_heap_cell c.args.ws.now c.args.top = ap (λ (x : ℕ). first_heap_cell + x) c.live-low.ensures.1 in (
-      too_few c.args.ws.now c.args.top c.args.wanted c.requires _ c.if-top-low.true
-          c.live-low.ensures.0,
-      low_is,
-    )
+returns-then-top-low c = (
+  too_few c.args.ws.now c.args.top c.args.wanted c.requires _ c.if-top-low.true
+      c.live-low.ensures.0,
+  low_is (goal.at.returns-then-top-low c).After-live-low,
+)
 
 pub collect_sound-requires-2 : goal.collect_sound-requires-2
 collect_sound-requires-2 c = rw c.live-low.ensures.0 c.requires
 
 pub returns : goal.returns
 returns c =
-    let low_is : first_heap_cell + c.live-low.result ≡ collected_top first_heap_cell c.args.ws.now c.args.top = ap (λ (x : ℕ). first_heap_cell + x) c.live-low.ensures.1 in
     let g = rw c.live-low.ensures.0 at c.collect_sound-2.ensures in (
       enough c.args.ws.now c.args.top c.args.wanted c.requires _
-          (omega (arith, g.1, low_is, c.if-top-low.false)) g.0,
+          (omega (arith, g.1, low_is (goal.at.returns c).After-live-low, c.if-top-low.false)) g.0,
       g.1,
     )

@@ -23,7 +23,8 @@ pub lower_heap-requires : goal.lower_heap-requires
 lower_heap-requires c = lowerable _ _ c.requires _ _ c.sweep-dead.ensures
 
 pub overflow_cast-dead : goal.overflow_cast-dead
-overflow_cast-dead c = omega (arith, gone _ _ c.requires _ _ c.sweep-dead.ensures, c.requires.high, c.requires.allowed.small, limit_fits)
+overflow_cast-dead c =
+    omega (arith, gone _ _ c.requires _ _ c.sweep-dead.ensures, c.requires.high, c.requires.allowed.small, limit_fits)
 
 pub lower_registers-requires : goal.lower_registers-requires
 lower_registers-requires c =

@@ -72,7 +72,8 @@ module _ (F : ℕ) (ws : List ℕ) (top : ℕ) (calls out : List ℕ) where
   unfolding batch batch_of
   cases = one (check F ws top).status refl
     where
-      two : Sound F ws top → (t u : Bool) → calls_test (length calls) ≡ t → leb (2 * (length calls / 4)) (length out) ≡ u
+      two : Sound F ws top → (t u : Bool) → calls_test (length calls) ≡ t
+          → leb (2 * (length calls / 4)) (length out) ≡ u
           → Cases (cond t (cond u (ended (runs F ws top calls) out) (as_lent (only 5) ws top out))
           (as_lent (only 4) ws top out))
       two s false u e f = bad_calls s e

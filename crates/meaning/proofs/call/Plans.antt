@@ -116,7 +116,8 @@ module _ (F : ℕ) (n : ℕ) (v : List ℕ) (top : ℕ) (p : 0 < F) (s : Sound F
 
   pub once_collected : ltb (capacity v) (top + n) ≡ true
       → with_room F n v act ws top ≡ cond (ltb (capacity v) (collected_top F v top + n))
-      (refused (collected F ws top) (collected_top F ws top) (only 16)) (act (collected F v top) (collected_top F v top))
+      (refused (collected F ws top) (collected_top F ws top) (only 16))
+      (act (collected F v top) (collected_top F v top))
   unfolding with_room lacks room_words room_top
   once_collected e = rw e refl
 

@@ -1,5 +1,5 @@
--- The store in which room is sought, by laws. Nothing else unfolds it, but for `sought_twin` (twins/Twins) and rows that
--- compute. In order:
+-- The store in which room is sought, by laws. Nothing else unfolds it, but for `sought_twin` (twins/Twins) and rows
+-- that compute. In order:
 --   sought_length, sought_kept   it is as long as the store, and where d is kept the store itself
 --   sought_empty, sought_other   where d is not kept it is empty;  no cell but d differs
 --   sought_back                  the store again, once d's words are put back

@@ -48,7 +48,8 @@ module _ (F top c a b : ℕ) where
       -- the bracket bit is set
       of_bracket : bracket_to 0 ≤ b → RuleCases (bracket_rule F (ends_below F top c) a (b - bracket_to 0))
       unfolding bracket_rule
-      of_bracket k = go (eqb right 0) (eqb a 0) (leb F a && leb a right && ltb right (ends_below F top c)) refl refl refl
+      of_bracket k = go (eqb right 0) (eqb a 0) (leb F a && leb a right && ltb right (ends_below F top c)) refl refl
+          refl
         where
           word : bracket_to right ≡ b
           word = omega arith

@@ -92,7 +92,8 @@ module _ (F : ℕ) (ws : List ℕ) (top : ℕ) (p : 0 < F) (s : Sound F ws top) 
       (omega (arith, kept_length F rs))
       ∙ ap (λ (c : ℕ). snd (map_ends (new F ws top) (at ws c))) (kept_low F rs i h)
 
-  pub heap_one : (j : ℕ) → j < length rs → get_or ws' (2 * (F + j)) 0 ≡ fst (map_ends (new F ws top) (at ws (get_or rs j 0)))
+  pub heap_one : (j : ℕ) → j < length rs
+      → get_or ws' (2 * (F + j)) 0 ≡ fst (map_ends (new F ws top) (at ws (get_or rs j 0)))
   unfolding new_address collected collected_of
   heap_one j h =
       lay_fst (λ c. map_ends (new F ws top) (at ws c)) (up_from 0 F ++ rs)

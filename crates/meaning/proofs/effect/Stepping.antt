@@ -129,7 +129,8 @@ module _ (F : ℕ) (p : 0 < F) (e : ℕ → Expr) (fs : Facts) (ws : List ℕ) (
   head_at a b h (ends l r) t q =
       let f = front_at a l r t q in
       let one : suc l - l ≡ 1 = omega arith in
-      set (on_empty (e a)) (rw (f, empty_front (T F ws top p s) (at ws l) (run (T F ws top p s) (suc l) (r - l))) refl) h
+      set (on_empty (e a)) (rw (f, empty_front (T F ws top p s) (at ws l) (run (T F ws top p s) (suc l) (r - l))) refl)
+      h
       (ends l l) (t.0, le_refl l, omega (arith, t.1, t.2)) (first_term (e a))
       (rw (one, f, first_front (T F ws top p s) (at ws l) (run (T F ws top p s) (suc l) (r - l)))
       (append_nothing (T F ws top p s l) ∙ term_law F ws top p s l t.0 (omega (arith, t.1, t.2))))
@@ -153,7 +154,8 @@ module _ (F : ℕ) (p : 0 < F) (e : ℕ → Expr) (fs : Facts) (ws : List ℕ) (
   rest_at a b h (ends l r) t q =
       let f = front_at a l r t q in
       let c = rest_cell l r t in
-      set (on_empty (e a)) (rw (f, empty_front (T F ws top p s) (at ws l) (run (T F ws top p s) (suc l) (r - l))) refl) h
+      set (on_empty (e a)) (rw (f, empty_front (T F ws top p s) (at ws l) (run (T F ws top p s) (suc l) (r - l))) refl)
+      h
       (cond (ltb l r) (ends (suc l) r) empty) c.0 (less_first (e a))
       (c.1 ∙ rw (f, less_front (T F ws top p s) (at ws l) (run (T F ws top p s) (suc l) (r - l))) refl)
 

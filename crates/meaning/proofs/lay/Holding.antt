@@ -80,7 +80,8 @@ module _ (c : ℕ) (i r : Expr) (x : ℕ) where
         k.2 ∙ sym (holder_behind c i r x z k.0),
       )
 
-  holds_here : Holds c (parens i r) x x (last_below (c + all_terms i) (terms i)) (last_below (c + all_terms i) (terms i))
+  holds_here : Holds c (parens i r) x x (last_below (c + all_terms i) (terms i))
+      (last_below (c + all_terms i) (terms i))
   holds_here z h =
       let k = last_holds c i z h in (
         omega (arith, k.0),

@@ -1,15 +1,15 @@
 -- How a call uses its words, by operation; a call whose own words are right; its operand registers. In order:
---   all_below, all_at       a test of all numbers below n, by computation, and what it says of each
---   index_op_at             operation o has the number o
---   three                  a test over the three words of a call
---   Faults, faults         what is wrong with a call's own words, by cases, and that it is one of them
---   WordsRight, right      own words that are right, and that they are where nothing is wrong
---   op_small               the operation is then one of the twelve
---   is-register, is_code_lem   a word that is right as a register or as a code is one
---   keeps_operand          where a call sets d, d is kept exactly if it is an operand register
---   keeps_a, keeps_b       an operand register that is d is kept
---   unkept_register        where d is not kept, it is a register
---   fault_small            the status of what is wrong with a call's own words is at most 13
+--   all_below, all_at              a test of all numbers below n, by computation, and what it says of each
+--   index_op_at                    operation o has the number o
+--   three                          a test over the three words of a call
+--   Faults, faults                 what is wrong with a call's own words, by cases, and that it is one of them
+--   WordsRight, right              own words that are right, and that they are where nothing is wrong
+--   op_small                       the operation is then one of the twelve
+--   is_register_lem, is_code_lem   a word that is right as a register or as a code is one
+--   keeps_operand                  where a call sets d, d is kept exactly if it is an operand register
+--   keeps_a, keeps_b               an operand register that is d is kept
+--   unkept_register                where d is not kept, it is a register
+--   fault_small                    the status of what is wrong with a call's own words is at most 13
 -- Assumes nothing.
 use mathlib.Core.Path.{◌≡◌, refl, sym}
 use mathlib.Core.Logic.{◌⊎◌, inl, inr}

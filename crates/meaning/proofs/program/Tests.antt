@@ -68,7 +68,8 @@ module _ (F : ℕ) (input : List ℕ) where
   pub fault_few : input_fault F input ≤ 4
   unfolding input_fault
   fault_few =
-      go (ltb (length input) 4 || ltb (get_or (words_of input) 0 0) F || ltb program_cells (get_or (words_of input) 0 0))
+      go (ltb (length input) 4 || ltb (get_or (words_of input) 0 0) F || ltb program_cells
+      (get_or (words_of input) 0 0))
       (ltb program_bytes (length input) || ltb 0 ((length input - 4) % 16))
     where
       go : (t u : Bool) → cond t 1 (cond u 4 0) ≤ 4
@@ -117,7 +118,8 @@ module _ (F : ℕ) (input : List ℕ) where
   program_output e = rw e refl
 
 -- the first word is in the first four bytes
-first_word_lem : (k : ℕ) (bs : List ℕ) → get_or (words_of (take (suc (suc (suc (suc k)))) bs)) 0 0 ≡ get_or (words_of bs) 0 0
+first_word_lem : (k : ℕ) (bs : List ℕ)
+    → get_or (words_of (take (suc (suc (suc (suc k)))) bs)) 0 0 ≡ get_or (words_of bs) 0 0
 first_word_lem k [] = refl
 first_word_lem k (a ∷ []) = refl
 first_word_lem k (a ∷ b ∷ []) = refl

@@ -180,7 +180,8 @@ module _ (F : ℕ) (k : ℕ → Cell) (top : ℕ) where
         go : (top - suc n ≡ c) ⊎ (top - suc n < c)
             → ((b : ℕ) → Reached F k b → top - n ≤ b → In b (reached_of F k top n)) → In c (reached_of F k top (suc n))
         go (inl e) i =
-            cons_if_here (held_below k F (top - suc n) || held_in k (reached_of F k top n) (top - suc n)) c (top - suc n)
+            cons_if_here (held_below k F (top - suc n) || held_in k (reached_of F k top n) (top - suc n)) c
+            (top - suc n)
             (reached_of F k top n)
             (here n (top - suc n) refl l (rw e r) i) (sym e)
         go (inr m) i = in_cons_if (held_below k F (top - suc n) || held_in k (reached_of F k top n) (top - suc n)) c

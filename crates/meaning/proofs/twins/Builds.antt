@@ -155,7 +155,8 @@ module _ (F : ℕ) (ws : List ℕ) (top : ℕ) (p : 0 < F) (s : Sound F ws top) 
   run_agree : (d : ℕ) → d < F → (x y : Cell) → BracketIn F top x → BracketIn F top y → Along P (new F ws top) x
       → Along P (new F ws top) y
       → 0 < size x → 0 < size y → 2 * (top + (size x + size y)) ≤ length ws
-      → Agree F (new_run_of d x y ws top) (new_run_of d (map_ends (new F ws top) x) (map_ends (new F ws top) y) ws' top')
+      → Agree F (new_run_of d x y ws top) (new_run_of d (map_ends (new F ws top) x) (map_ends (new F ws top) y)
+      ws' top')
   run_agree d l (code c) y t u a b z w r = absurd t
   run_agree d l empty y t u a b z w r = absurd (not-suc-le-zero z)
   run_agree d l (ends x₁ x₂) (code c) t u a b z w r = absurd u

@@ -60,7 +60,8 @@ module _ (F : ℕ) (ws : List ℕ) (top : ℕ) (ws' : List ℕ) (top' : ℕ) (p 
   lays o q act h = makes o q 1 act (λ x u s e r. h x u s r) (λ x u s e r. h x u s r)
 
   join_twin : WordsRight F JOIN d a b → d < F → a < F → b < F → (n m : ℕ) → size (at ws a) ≡ n → size (at ws b) ≡ m
-      → Agree F (carry_out F (join_plan n m (v JOIN) d a b) ws top) (carry_out F (join_plan n m (v' JOIN) d a b) ws' top')
+      → Agree F (carry_out F (join_plan n m (v JOIN) d a b) ws top)
+      (carry_out F (join_plan n m (v' JOIN) d a b) ws' top')
   unfolding carry_out
   join_twin q hd ha hb zero m za zb = plains (share d b) (λ x u s. share_same F x u p s d b hd hb)
   join_twin q hd ha hb (suc n) zero za zb = plains (share d a) (λ x u s. share_same F x u p s d a hd ha)

@@ -127,7 +127,8 @@ first_words ws top (ends l r) = code_words ws top (at ws l)
 
 -- the actions that lay cells from `top` on
 module _ (d : ℕ) (ws : List ℕ) (top : ℕ) where
-  one_only : (x : List ℕ) → ((c : ℕ) → c ≢ top → (first_word x c ≡ first_word ws c) × (second_word x c ≡ second_word ws c))
+  one_only : (x : List ℕ)
+      → ((c : ℕ) → c ≢ top → (first_word x c ≡ first_word ws c) × (second_word x c ≡ second_word ws c))
       → (b : Cell) → OnlyThere d top 1 ws (put x d b)
   one_only x h b = only_trans d top 1 ws x (put x d b) (λ c g l. h c (away c l)) (only_put d top 1 x b)
     where

@@ -224,7 +224,8 @@ module _ (bs ws : List ℕ) where
 
   loaded_once : (r : Done) → LoadedAs f bs ws r → load_in bs ws ≡ r
   loaded_once r (short_file h) = load_refused (only 30) (checked_short bs (length ws) h) (λ q. omega arith)
-  loaded_once r (bad_edition l e) = load_refused (only 31) (checked l (as_edition f bs (length ws) e)) (λ q. omega arith)
+  loaded_once r (bad_edition l e) = load_refused (only 31) (checked l (as_edition f bs (length ws) e))
+      (λ q. omega arith)
   loaded_once r (bad_distance l p n) =
       let d = no (distance_test f bs) (λ y. n (distance_yes f bs y)) in
       load_refused (only 32) (checked l (as_distance f bs (length ws) p d)) (λ q. omega arith)

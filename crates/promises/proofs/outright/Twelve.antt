@@ -165,7 +165,8 @@ calls_outright F p ws top s = record {
       ((room_in_words ws d a b).joins n m) h;
   join_own = λ d a b h k l x y q. in_room F p ws top s 4 d a b (fault_dab F d a b h k l)
       (terms (meaning ws a) + terms (meaning ws b)) (append (meaning ws a) (meaning ws b))
-      (rw (join_some (terms (meaning ws a)) (terms (meaning ws b)) x y) refl) ws ((room_in_words ws d a b).joins_own q) h;
+      (rw (join_some (terms (meaning ws a)) (terms (meaning ws b)) x y) refl) ws ((room_in_words ws d a b).joins_own q)
+      h;
   head_none = λ d a h k z. refuses F p ws top s 5 d a 0 (fault_da F d a h k).2 13 (rw z refl) (omega arith);
   head_symbol = λ d a c e h k z.
       sets_now F p ws top s 5 d a 0 (fault_da F d a h k).2 (symbol c nothing) (rw z refl) h;

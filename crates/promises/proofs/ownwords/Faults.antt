@@ -57,7 +57,8 @@ module _ (P : Use → ℕ → Type 0) (wrong : ℕ → ℕ → Bool) (says : (u 
       t = tables o h
 
       go : (wrong (get_or uses (3 * o) 0) d ≡ true)
-          ⊎ ((wrong (get_or uses (3 * o + 1) 0) a ≡ true) ⊎ (wrong (get_or uses (3 * o + 2) 0) b ≡ true)) → Some P o d a b
+          ⊎ ((wrong (get_or uses (3 * o + 1) 0) a ≡ true) ⊎ (wrong (get_or uses (3 * o + 2) 0) b ≡ true))
+          → Some P o d a b
       go (inl x) = inl (says (row_of o).d d (rw t.0 at x))
       go (inr (inl x)) = inr (inl (says (row_of o).a a (rw t.1 at x)))
       go (inr (inr x)) = inr (inr (says (row_of o).b b (rw t.2 at x)))

@@ -15,7 +15,8 @@ use Rattle.meaning.specs.Reach.{reached, live}
 use Rattle.meaning.specs.Fresh.{fresh}
 use Rattle.meaning.specs.Operands.{ops, op_at, uses, names, is_operand, wrong11, wrong12, wrong13, fault}
 use Rattle.meaning.specs.Actions.{put, code_term, code_first, new_symbol}
-use Rattle.meaning.specs.Call.{keeps, sought, plan_of, lacks, room_words, room_top, with_room, carry_out, perform, step_after}
+use Rattle.meaning.specs.Call.{keeps, sought, plan_of, lacks, room_words, room_top, with_room, carry_out, perform}
+use Rattle.meaning.specs.Call.{step_after}
 use Rattle.meaning.specs.Call.{step}
 use Rattle.meaning.specs.Batch.{Outcome, runs as calling, ended, AllowedCalls}
 use Rattle.meaning.specs.Program.{lines_of, written, refusal, output, input_fault, program}
@@ -91,7 +92,8 @@ module _ (F : ℕ) (input : List ℕ) where
   refused_four_lem : CapacityRule F input → Not (BytesRule input) → program F input ≡ refused_four
   unfolding refusal decimal
   refused_four_lem (a, b, c) n =
-      program_refused F input 4 (sym (go (lt_or_ge program_bytes (length input)) (lt_or_ge 0 ((length input - 4) % 16))))
+      program_refused F input 4 (sym (go (lt_or_ge program_bytes (length input))
+      (lt_or_ge 0 ((length input - 4) % 16))))
       (omega arith)
     where
       go : (program_bytes < length input) ⊎ (length input ≤ program_bytes)
@@ -174,8 +176,8 @@ program_reads = program_take
 
 pub program_rows_lem : ProgramRows
 unfolding limit code_test program_cells program_bytes at reached live fresh ops op_at uses wrong11 wrong12 wrong13 fault
-    put code_term code_first new_symbol names is_operand keeps sought plan_of lacks room_words room_top with_room carry_out
-    perform step_after step decimal written refusal output input_fault program row_test
+    put code_term code_first new_symbol names is_operand keeps sought plan_of lacks room_words room_top with_room
+    carry_out perform step_after step decimal written refusal output input_fault program row_test
 program_rows_lem = tt
 
 pub one_program : OneProgram

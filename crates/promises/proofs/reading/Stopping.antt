@@ -28,7 +28,8 @@ use Rattle.meaning.proofs.reader.Completing.{Going}
 use Rattle.meaning.proofs.reader.Freely.{advances_append, going_before, freely, advances_free, free_append, free_before}
 use Rattle.meaning.proofs.reader.Freely.{going_free, full_terms, terms_full, few_terms}
 use Rattle.meaning.proofs.reader.Standing.{EndsReady, ready_after, code_after, ready_ends, code_ends}
-use Rattle.meaning.proofs.reader.Leftmost.{StopsAt, Opening, Why, over_depth, over_terms, zero_first, over_code, no_move}
+use Rattle.meaning.proofs.reader.Leftmost.{StopsAt, Opening, Why, over_depth, over_terms, zero_first, over_code}
+use Rattle.meaning.proofs.reader.Leftmost.{no_move}
 use Rattle.meaning.proofs.reader.Leftmost.{why, zero_stops, large_stops, deep_stops, many_stops}
 use Rattle.promises.specs.Printing.{count}
 use Rattle.promises.specs.Reading.{begun_at, terms_begun, MayBegin, TermMayBegin, BracketTooDeep, TermTooMany}

@@ -37,7 +37,8 @@ returns-then-input-ne0 c =
     let word = c.word-cells in
     let args = c.args in
     sym (broken first_heap_cell args.input.now c.if-input-lt4.false word.result word.ensures
-    c.if-cells-lt-FIRST_HEAP_CELL.false c.if-cells-gt-PROGRAM_CELLS.false c.if-input-gt-PROGRAM_BYTES.false (omega (arith, c.if-input-ne0.true)))
+    c.if-cells-lt-FIRST_HEAP_CELL.false c.if-cells-gt-PROGRAM_CELLS.false c.if-input-gt-PROGRAM_BYTES.false
+    (omega (arith, c.if-input-ne0.true)))
 
 pub returns : goal.returns
 unfolding program_cells program_bytes
@@ -45,4 +46,5 @@ returns c =
     let word = c.word-cells in
     let args = c.args in
     sym (right first_heap_cell args.input.now c.if-input-lt4.false word.result word.ensures
-    c.if-cells-lt-FIRST_HEAP_CELL.false c.if-cells-gt-PROGRAM_CELLS.false c.if-input-gt-PROGRAM_BYTES.false (omega (arith, c.if-input-ne0.false)))
+    c.if-cells-lt-FIRST_HEAP_CELL.false c.if-cells-gt-PROGRAM_CELLS.false c.if-input-gt-PROGRAM_BYTES.false
+    (omega (arith, c.if-input-ne0.false)))

@@ -8,7 +8,8 @@ use Rattle.store.proofs.check.Given as goal
 
 abbrev pub invariant-loop-c : goal.invariant-loop-c
 invariant-loop-c l =
-    (l.c ≤ l.cells) × (damaged first_heap_cell l.ws l.top l.c (l.cells - l.c) ≡ damaged first_heap_cell l.ws l.top 0 l.cells)
+    (l.c ≤ l.cells) × (damaged first_heap_cell l.ws l.top l.c (l.cells - l.c)
+    ≡ damaged first_heap_cell l.ws l.top 0 l.cells)
 
 abbrev pub decreases-loop-c : goal.decreases-loop-c
 decreases-loop-c l = l.cells - l.c

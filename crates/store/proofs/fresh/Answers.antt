@@ -9,23 +9,25 @@ use Rattle.meaning.specs.Check.{length_test}
 use Rattle.meaning.proofs.check.Checking.{length_yes}
 use Rattle.meaning.proofs.fresh.Making.{fresh_refused, fresh_done}
 use Rattle.store.proofs.fresh.Goals as goal
+use Rattle.store.proofs.fresh.Goals.{Else-not-length_ok}
+
+long : (c : Else-not-length_ok) → length_test first_heap_cell (length c.args.ws.now) ≡ true
+long c = sym c.length_ok.ensures ∙ c.if-not-length_ok.false
 
 pub returns-then-not-length_ok : goal.returns-then-not-length_ok
-returns-then-not-length_ok c = sym (fresh_refused first_heap_cell _ (sym c.length_ok.ensures ∙ c.if-not-length_ok.true))
+returns-then-not-length_ok c =
+    sym (fresh_refused first_heap_cell _ (sym c.length_ok.ensures ∙ c.if-not-length_ok.true))
 
 pub empty_registers-requires : goal.empty_registers-requires
 empty_registers-requires c =
-    let long : length_test first_heap_cell (length c.args.ws.now) ≡ true = sym c.length_ok.ensures ∙ c.if-not-length_ok.false in
-    (length_yes first_heap_cell _ (long)).large
+    (length_yes first_heap_cell _ (long (goal.at.empty_registers-requires c).Else-not-length_ok)).large
 
 pub zero_from-requires : goal.zero_from-requires
 zero_from-requires c =
-    let long : length_test first_heap_cell (length c.args.ws.now) ≡ true = sym c.length_ok.ensures ∙ c.if-not-length_ok.false in
-    omega (arith, (length_yes first_heap_cell _ (long)).large)
+    omega (arith, (length_yes first_heap_cell _ (long (goal.at.zero_from-requires c).Else-not-length_ok)).large)
 
 pub returns : goal.returns
 returns c =
-    let long : length_test first_heap_cell (length c.args.ws.now) ≡ true = sym c.length_ok.ensures ∙ c.if-not-length_ok.false in
-    sym (fresh_done first_heap_cell c.args.ws.now (long)
+    sym (fresh_done first_heap_cell c.args.ws.now (long (goal.at.returns c).Else-not-length_ok)
     c.empty_registers.new.ws (search rules) c.empty_registers.ensures
     c.zero_from.ensures)

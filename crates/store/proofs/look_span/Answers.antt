@@ -9,47 +9,57 @@ use Rattle.store.proofs.Sounds.{first_heap_cell_pos, sound_iff, register_bracket
 use Rattle.store.proofs.Looked.{span_unsound, span_none, span_run, run_inside}
 use borrow.Author.Rules.{rules}
 use Rattle.store.proofs.look_span.Goals as goal
+use Rattle.store.proofs.look_span.Goals.{Else-not-is_sound, After-run_at-held}
+
+sound : (c : Else-not-is_sound) → Sound first_heap_cell c.args.ws.now c.args.top
+sound c =
+    (sound_iff first_heap_cell _ _ c.check.result c.check.ensures).0 (sym c.is_sound.ensures ∙ c.if-not-is_sound.false)
+
+-- the register's run, of a sound store, lies in its words
+inside : (c : After-run_at-held) → Sound first_heap_cell c.args.ws.now c.args.top
+    → 2 * c.run_at-held.result.start + 2 * c.run_at-held.result.size ≤ length c.args.ws.now
+inside c s =
+    run_inside first_heap_cell _ _ _ first_heap_cell_pos s c.if-register-ge-FIRST_HEAP_CELL.false
+    c.run_at-held.ensures.0 c.run_at-held.ensures.1
 
 pub returns-then-not-is_sound : goal.returns-then-not-is_sound
 returns-then-not-is_sound c =
-    let checked = c.check in
     let e = sym c.is_sound.ensures ∙ c.if-not-is_sound.true in
-    (sym (span_unsound first_heap_cell _ _ _ checked.result checked.ensures e), search rules, search rules)
+    (sym (span_unsound first_heap_cell _ _ _ c.check.result c.check.ensures e), search rules, search rules)
 
 pub returns-then-register-ge-FIRST_HEAP_CELL : goal.returns-then-register-ge-FIRST_HEAP_CELL
 returns-then-register-ge-FIRST_HEAP_CELL c =
-    let sound : let a = c.args in Sound first_heap_cell a.ws.now a.top = let checked = c.check in let e = sym c.is_sound.ensures ∙ c.if-not-is_sound.false in (sound_iff first_heap_cell _ _ checked.result checked.ensures).0 e in
-    (sym (span_none first_heap_cell _ _ _ (sound) (omega arith)), search rules, search rules)
+    let s = sound (goal.at.returns-then-register-ge-FIRST_HEAP_CELL c).Else-not-is_sound in
+    (sym (span_none first_heap_cell _ _ _ s (omega arith)), search rules, search rules)
 
 pub run_at-held-requires : goal.run_at-held-requires
 run_at-held-requires c =
-    let sound : let a = c.args in Sound first_heap_cell a.ws.now a.top = let checked = c.check in let e = sym c.is_sound.ensures ∙ c.if-not-is_sound.false in (sound_iff first_heap_cell _ _ checked.result checked.ensures).0 e in
-    let s = sound in
-    record { c_in_bounds = register_inside _ _ s _ c.if-register-ge-FIRST_HEAP_CELL.false; bracketed = register_bracketed _ _ s _ c.if-register-ge-FIRST_HEAP_CELL.false }
+    let s = sound (goal.at.run_at-held-requires c).Else-not-is_sound in
+    record {
+      c_in_bounds = register_inside _ _ s _ c.if-register-ge-FIRST_HEAP_CELL.false;
+      bracketed = register_bracketed _ _ s _ c.if-register-ge-FIRST_HEAP_CELL.false;
+    }
 
 pub overflow_mul-from : goal.overflow_mul-from
 overflow_mul-from c =
-    let sound : let a = c.args in Sound first_heap_cell a.ws.now a.top = let checked = c.check in let e = sym c.is_sound.ensures ∙ c.if-not-is_sound.false in (sound_iff first_heap_cell _ _ checked.result checked.ensures).0 e in
-    let inside : let a = c.args in 2 * c.run_at-held.result.start + 2 * c.run_at-held.result.size ≤ length a.ws.now = let s = sound in run_inside first_heap_cell _ _ _ first_heap_cell_pos s c.if-register-ge-FIRST_HEAP_CELL.false c.run_at-held.ensures.0 c.run_at-held.ensures.1 in
-    omega (arith, inside)
+    let at = goal.at.overflow_mul-from c in
+    omega (arith, inside at.After-run_at-held (sound at.Else-not-is_sound))
 
 pub overflow_mul-to : goal.overflow_mul-to
 overflow_mul-to c =
-    let sound : let a = c.args in Sound first_heap_cell a.ws.now a.top = let checked = c.check in let e = sym c.is_sound.ensures ∙ c.if-not-is_sound.false in (sound_iff first_heap_cell _ _ checked.result checked.ensures).0 e in
-    let inside : let a = c.args in 2 * c.run_at-held.result.start + 2 * c.run_at-held.result.size ≤ length a.ws.now = let s = sound in run_inside first_heap_cell _ _ _ first_heap_cell_pos s c.if-register-ge-FIRST_HEAP_CELL.false c.run_at-held.ensures.0 c.run_at-held.ensures.1 in
-    omega (arith, inside)
+    let at = goal.at.overflow_mul-to c in
+    omega (arith, inside at.After-run_at-held (sound at.Else-not-is_sound))
 
 pub overflow_add-to : goal.overflow_add-to
 overflow_add-to c =
-    let sound : let a = c.args in Sound first_heap_cell a.ws.now a.top = let checked = c.check in let e = sym c.is_sound.ensures ∙ c.if-not-is_sound.false in (sound_iff first_heap_cell _ _ checked.result checked.ensures).0 e in
-    let inside : let a = c.args in 2 * c.run_at-held.result.start + 2 * c.run_at-held.result.size ≤ length a.ws.now = let s = sound in run_inside first_heap_cell _ _ _ first_heap_cell_pos s c.if-register-ge-FIRST_HEAP_CELL.false c.run_at-held.ensures.0 c.run_at-held.ensures.1 in
-    omega (arith, inside)
+    let at = goal.at.overflow_add-to c in
+    omega (arith, inside at.After-run_at-held (sound at.Else-not-is_sound))
 
 pub returns : goal.returns
 returns c =
-    let sound : let a = c.args in Sound first_heap_cell a.ws.now a.top = let checked = c.check in let e = sym c.is_sound.ensures ∙ c.if-not-is_sound.false in (sound_iff first_heap_cell _ _ checked.result checked.ensures).0 e in
-    let inside : let a = c.args in 2 * c.run_at-held.result.start + 2 * c.run_at-held.result.size ≤ length a.ws.now = let s = sound in run_inside first_heap_cell _ _ _ first_heap_cell_pos s c.if-register-ge-FIRST_HEAP_CELL.false c.run_at-held.ensures.0 c.run_at-held.ensures.1 in
-    let s = sound in
+    let at = goal.at.returns c in
+    let s = sound at.Else-not-is_sound in
+    let i = inside at.After-run_at-held s in
     let r = c.run_at-held.ensures in
     let e = span_run first_heap_cell _ _ _ s c.if-register-ge-FIRST_HEAP_CELL.false r.0 r.1 in
-    (e, omega (arith, inside), omega (arith, inside))
+    (e, omega (arith, i), omega (arith, i))

@@ -17,7 +17,8 @@ returns-then-register-ge-FIRST_HEAP_CELL c =
     let found = c.check in
     let s = found_sound first_heap_cell _ _ found.result found.ensures c.in-Sound.is in
     rw refuse.ensures.0
-    (zeroed (only 20) _ refuse.ensures.1 ∙ sym (print_none first_heap_cell _ _ _ _ s c.if-register-ge-FIRST_HEAP_CELL.true))
+    (zeroed (only 20) _ refuse.ensures.1
+    ∙ sym (print_none first_heap_cell _ _ _ _ s c.if-register-ge-FIRST_HEAP_CELL.true))
 
 pub print_register-requires : goal.print_register-requires
 print_register-requires c =

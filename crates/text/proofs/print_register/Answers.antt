@@ -12,7 +12,8 @@ run_at-held-requires c =
     record { c_in_bounds = r.0; bracketed = r.1 }
 
 pub write_run-end-requires : goal.write_run-end-requires
-write_run-end-requires c = (c.requires.0, register_within _ _ c.requires.0 _ c.requires.1 c.run_at-held.result c.run_at-held.ensures)
+write_run-end-requires c =
+    (c.requires.0, register_within _ _ c.requires.0 _ c.requires.1 c.run_at-held.result c.run_at-held.ensures)
 
 pub returns : goal.returns
 unfolding depth_limit

@@ -13,7 +13,11 @@ unfolding depth_limit
 put_last-requires c =
     let k = c.lay-laid.ensures in
     let l = text_long c.requires.0 c.requires.2 k in
-    record { c_in_bounds = omega (arith, l, c.requires.0.0.allowed.large); n_le_end = text_small c.requires.0 c.requires.2 k }
+    record {
+      c_in_bounds = omega (arith, l, c.requires.0.0.allowed.large);
+      n_le_end = text_small c.requires.0
+          c.requires.2 k;
+    }
 
 pub returns : goal.returns
 unfolding depth_limit

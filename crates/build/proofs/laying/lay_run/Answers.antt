@@ -15,10 +15,12 @@ run_at-q-requires c =
     record { c_in_bounds = r.0; bracketed = r.1 }
 
 pub copy_cells-requires : goal.copy_cells-requires
-copy_cells-requires c = (omega arith, omega (arith, run_below c.args.a c.requires.roomy.0 c.requires.d_lt_first_heap_cell.1))
+copy_cells-requires c =
+    (omega arith, omega (arith, run_below c.args.a c.requires.roomy.0 c.requires.d_lt_first_heap_cell.1))
 
 pub copy_cells-requires-2 : goal.copy_cells-requires-2
-copy_cells-requires-2 c = (omega arith, omega (arith, run_below c.args.b c.requires.roomy.0 c.requires.d_lt_first_heap_cell.2))
+copy_cells-requires-2 c =
+    (omega arith, omega (arith, run_below c.args.b c.requires.roomy.0 c.requires.d_lt_first_heap_cell.2))
 
 pub returns : goal.returns
 returns c =

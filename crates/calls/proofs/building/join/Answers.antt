@@ -20,16 +20,16 @@ run_at-q-requires c =
 
 pub returns-then-p-eq0 : goal.returns-then-p-eq0
 returns-then-p-eq0 c =
-    c.share.ensures ∙ sym (join_first_empty first_heap_cell (sought c.args.kept c.args.d c.args.ws.now) c.args.ws.now c.args.top
-    c.args.d c.args.a c.args.b _ _ (sym c.run_at-p.ensures.1 ∙ c.if-p-eq0.true))
+    c.share.ensures ∙ sym (join_first_empty first_heap_cell (sought c.args.kept c.args.d c.args.ws.now) c.args.ws.now
+    c.args.top c.args.d c.args.a c.args.b _ _ (sym c.run_at-p.ensures.1 ∙ c.if-p-eq0.true))
 
 pub returns-then-q-eq0 : goal.returns-then-q-eq0
 returns-then-q-eq0 c =
     let p = c.run_at-p.ensures.1 in
     let q = c.run_at-q.ensures.1 in
     c.share-then-q-eq0.ensures
-    ∙ sym (join_second_empty first_heap_cell (sought c.args.kept c.args.d c.args.ws.now) c.args.ws.now c.args.top c.args.d c.args.a
-    c.args.b
+    ∙ sym (join_second_empty first_heap_cell (sought c.args.kept c.args.d c.args.ws.now) c.args.ws.now c.args.top
+    c.args.d c.args.a c.args.b
     _ _ (λ e. c.if-p-eq0.false (p ∙ e)) (sym q ∙ c.if-q-eq0.true))
 
 pub overflow_add-p : goal.overflow_add-p
@@ -40,11 +40,15 @@ overflow_add-p c =
 pub join_full-requires : goal.join_full-requires
 join_full-requires c =
     let p = c.run_at-p.ensures.1 in
-    record { sound = c.requires.sound; survives = c.requires.survives; n_value = (ap₂ ◌+◌ p c.run_at-q.ensures.1, omega (arith, p, c.if-p-eq0.false)) }
+    record {
+      sound = c.requires.sound;
+      survives = c.requires.survives;
+      n_value = (ap₂ ◌+◌ p c.run_at-q.ensures.1, omega (arith, p, c.if-p-eq0.false));
+    }
 
 pub returns : goal.returns
 returns c =
     c.join_full.ensures
-    ∙ sym (join_neither_empty first_heap_cell (sought c.args.kept c.args.d c.args.ws.now) c.args.ws.now c.args.top c.args.d c.args.a
-    c.args.b
+    ∙ sym (join_neither_empty first_heap_cell (sought c.args.kept c.args.d c.args.ws.now) c.args.ws.now c.args.top
+    c.args.d c.args.a c.args.b
     c.run_at-p.ensures.1 c.run_at-q.ensures.1 c.if-p-eq0.false c.if-q-eq0.false)

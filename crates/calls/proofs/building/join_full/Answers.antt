@@ -22,7 +22,12 @@ lay_run-requires c =
     let za = room_size m e c.requires.sound.0 c.args.a c.requires.sound.2
     (stays c.args.a c.requires.sound.2 c.requires.survives.0) in
     let zb = room_size m e c.requires.sound.0 c.args.b c.requires.sound.3
-    (stays c.args.b c.requires.sound.3 c.requires.survives.1) in record { roomy = (y.0, omega (arith, y.1, c.requires.n_value.0)); d_lt_first_heap_cell = (c.requires.sound.1, c.requires.sound.2, c.requires.sound.3, omega (arith, c.requires.n_value.1)) }
+    (stays c.args.b c.requires.sound.3 c.requires.survives.1) in
+    record {
+      roomy = (y.0, omega (arith, y.1, c.requires.n_value.0));
+      d_lt_first_heap_cell =
+          (c.requires.sound.1, c.requires.sound.2, c.requires.sound.3, omega (arith, c.requires.n_value.1));
+    }
 
 pub returns-in-Ready : goal.returns-in-Ready
 returns-in-Ready c =

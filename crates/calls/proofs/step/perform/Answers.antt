@@ -68,7 +68,8 @@ rest-requires c = takes c.args.ws.now c.args.top c.args.o c.args.d c.args.a c.ar
 
 pub open_first-requires : goal.open_first-requires
 unfolding uses op_at ops
-open_first-requires c = takes c.args.ws.now c.args.top c.args.o c.args.d c.args.a c.args.b c.requires c.in-7.is refl refl
+open_first-requires c =
+    takes c.args.ws.now c.args.top c.args.o c.args.d c.args.a c.args.b c.requires c.in-7.is refl refl
 
 pub length-requires : goal.length-requires
 unfolding uses op_at ops

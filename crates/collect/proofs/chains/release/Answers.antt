@@ -3,6 +3,11 @@ use native.Mathlib.Omega.{arith}
 use Rattle.collect.proofs.chains.Releasing.{Taken, release_room, release_start, release_next}
 use Rattle.collect.proofs.chains.Releasing.{release_again, release_less, release_end}
 use Rattle.collect.proofs.chains.release.Goals as goal
+use Rattle.collect.proofs.chains.release.Goals.{In-loop-k}
+
+-- what is known of the holder that the chain leads to
+took : (c : In-loop-k) → Taken c.loop-k.invariant (sym c.has_left_chain.ensures ∙ c.loop-k-test.true)
+took c = release_next c.loop-k.invariant (sym c.has_left_chain.ensures ∙ c.loop-k-test.true) c.requires
 
 pub first_word-first-requires : goal.first_word-first-requires
 first_word-first-requires c = release_room c.requires
@@ -12,38 +17,31 @@ loop-k-init c = rw c.first_word-first.ensures release_start
 
 pub overflow_cast-k : goal.overflow_cast-k
 overflow_cast-k c =
-    let took : Taken c.loop-k.invariant (sym c.has_left_chain.ensures ∙ c.loop-k-test.true) = release_next c.loop-k.invariant (sym c.has_left_chain.ensures ∙ c.loop-k-test.true) c.requires in
-    omega (arith, (took).k_small)
+    omega (arith, (took (goal.at.overflow_cast-k c).In-loop-k).k_small)
 
 pub first_word-n-requires : goal.first_word-n-requires
 first_word-n-requires c =
-    let took : Taken c.loop-k.invariant (sym c.has_left_chain.ensures ∙ c.loop-k-test.true) = release_next c.loop-k.invariant (sym c.has_left_chain.ensures ∙ c.loop-k-test.true) c.requires in
-    (took).k_in
+    (took (goal.at.first_word-n-requires c).In-loop-k).k_in
 
 pub second_word-b-requires : goal.second_word-b-requires
 second_word-b-requires c =
-    let took : Taken c.loop-k.invariant (sym c.has_left_chain.ensures ∙ c.loop-k-test.true) = release_next c.loop-k.invariant (sym c.has_left_chain.ensures ∙ c.loop-k-test.true) c.requires in
-    (took).k_in
+    (took (goal.at.second_word-b-requires c).In-loop-k).k_in
 
 pub overflow_sub-to : goal.overflow_sub-to
 overflow_sub-to c =
-    let took : Taken c.loop-k.invariant (sym c.has_left_chain.ensures ∙ c.loop-k-test.true) = release_next c.loop-k.invariant (sym c.has_left_chain.ensures ∙ c.loop-k-test.true) c.requires in
-    omega (arith, (took).short, c.first_word-n.ensures)
+    omega (arith, (took (goal.at.overflow_sub-to c).In-loop-k).short, c.first_word-n.ensures)
 
 pub with_right_end-requires : goal.with_right_end-requires
 with_right_end-requires c =
-    let took : Taken c.loop-k.invariant (sym c.has_left_chain.ensures ∙ c.loop-k-test.true) = release_next c.loop-k.invariant (sym c.has_left_chain.ensures ∙ c.loop-k-test.true) c.requires in
-    (took).small
+    (took (goal.at.with_right_end-requires c).In-loop-k).small
 
 pub put_cell-requires : goal.put_cell-requires
 put_cell-requires c =
-    let took : Taken c.loop-k.invariant (sym c.has_left_chain.ensures ∙ c.loop-k-test.true) = release_next c.loop-k.invariant (sym c.has_left_chain.ensures ∙ c.loop-k-test.true) c.requires in
-    (took).k_in
+    (took (goal.at.put_cell-requires c).In-loop-k).k_in
 
 pub overflow_sub-c : goal.overflow_sub-c
 overflow_sub-c c =
-    let took : Taken c.loop-k.invariant (sym c.has_left_chain.ensures ∙ c.loop-k-test.true) = release_next c.loop-k.invariant (sym c.has_left_chain.ensures ∙ c.loop-k-test.true) c.requires in
-    omega (arith, (took).within, c.first_word-n.ensures)
+    omega (arith, (took (goal.at.overflow_sub-c c).In-loop-k).within, c.first_word-n.ensures)
 
 pub loop-k-smaller : goal.loop-k-smaller
 loop-k-smaller c =

@@ -20,4 +20,5 @@ returns-then-is_full c =
     (lays_full c.requires (sym c.is_full.ensures ∙ c.if-is_full.true))
 
 pub returns-else-is_full : goal.returns-else-is_full
-returns-else-is_full c = rw c.put_cell-else-is_full.ensures (lays_other c.requires (sym c.is_full.ensures ∙ c.if-is_full.false))
+returns-else-is_full c =
+    rw c.put_cell-else-is_full.ensures (lays_other c.requires (sym c.is_full.ensures ∙ c.if-is_full.false))

@@ -9,7 +9,8 @@ pub second_word-w-requires : goal.second_word-w-requires
 second_word-w-requires c = registers_room c.loop-r.invariant c.loop-r-test.true c.requires
 
 pub stand-requires : goal.stand-requires
-stand-requires c = registers_stand c.loop-r.invariant c.loop-r-test.true c.first_word-a.ensures c.second_word-w.ensures c.requires
+stand-requires c =
+    registers_stand c.loop-r.invariant c.loop-r-test.true c.first_word-a.ensures c.second_word-w.ensures c.requires
 
 pub loop-r-preserved : goal.loop-r-preserved
 loop-r-preserved c =

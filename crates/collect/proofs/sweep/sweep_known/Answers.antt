@@ -14,17 +14,21 @@ pub turn-low-requires : goal.turn-low-requires
 turn-low-requires c = run_turn c.requires
 
 pub second_word-w-requires : goal.second_word-w-requires
-second_word-w-requires c = (run_room (run_pred c.loop-low-test.true c.loop-low.invariant) (omega arith) (run_within c.turn-low.ensures c.requires)).0
+second_word-w-requires c =
+    (run_room (run_pred c.loop-low-test.true c.loop-low.invariant) (omega arith)
+    (run_within c.turn-low.ensures c.requires)).0
 
 pub overflow_add-c-in-loop-low : goal.overflow_add-c-in-loop-low
 overflow_add-c-in-loop-low c =
     let k =
-    run_room (run_pred c.loop-low-test.true c.loop-low.invariant) (omega arith) (run_within c.turn-low.ensures c.requires) in
+    run_room (run_pred c.loop-low-test.true c.loop-low.invariant) (omega arith)
+    (run_within c.turn-low.ensures c.requires) in
     omega (arith, k.1)
 
 pub turn-low-requires-in-loop-low : goal.turn-low-requires-in-loop-low
 turn-low-requires-in-loop-low c =
-    run_next (run_pred c.loop-low-test.true c.loop-low.invariant) (omega arith) (run_within c.turn-low.ensures c.requires)
+    run_next (run_pred c.loop-low-test.true c.loop-low.invariant) (omega arith)
+    (run_within c.turn-low.ensures c.requires)
     c.second_word-w.ensures
 
 pub loop-low-preserved : goal.loop-low-preserved

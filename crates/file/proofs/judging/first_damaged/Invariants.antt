@@ -7,7 +7,8 @@ use Rattle.file.proofs.judging.first_damaged.Given as goal
 
 abbrev pub invariant-loop-c : goal.invariant-loop-c
 invariant-loop-c l =
-    (l.c ≤ l.top) × (damaged l.first (store_in l.first l.n l.body) l.top l.c (l.top - l.c) ≡ damaged l.first (store_in l.first l.n l.body) l.top 0 l.top)
+    (l.c ≤ l.top) × (damaged l.first (store_in l.first l.n l.body) l.top l.c (l.top - l.c)
+    ≡ damaged l.first (store_in l.first l.n l.body) l.top 0 l.top)
 
 abbrev pub decreases-loop-c : goal.decreases-loop-c
 decreases-loop-c l = l.top - l.c

@@ -7,4 +7,5 @@ pub returns-then-number-fault_number : goal.returns-then-number-fault_number
 returns-then-number-fault_number c = rw (eq-eqb _ _ (c.if-number-fault_number.true ∙ c.fault_number.ensures)) refl
 
 pub returns-else-number-fault_number : goal.returns-else-number-fault_number
-returns-else-number-fault_number c = rw (ne_eqb _ _ (λ e. c.if-number-fault_number.false (e ∙ sym c.fault_number.ensures))) refl
+returns-else-number-fault_number c =
+    rw (ne_eqb _ _ (λ e. c.if-number-fault_number.false (e ∙ sym c.fault_number.ensures))) refl

@@ -8,7 +8,8 @@ pub returns-then-number-eq-BEGUN : goal.returns-then-number-eq-BEGUN
 returns-then-number-eq-BEGUN c a = rw (eq-eqb _ _ c.if-number-eq-BEGUN.true) refl
 
 pub returns-then-number-eq-SPACED : goal.returns-then-number-eq-SPACED
-returns-then-number-eq-SPACED c a = rw (ne_eqb _ _ c.if-number-eq-BEGUN.false, eq-eqb _ _ c.if-number-eq-SPACED.true) refl
+returns-then-number-eq-SPACED c a =
+    rw (ne_eqb _ _ c.if-number-eq-BEGUN.false, eq-eqb _ _ c.if-number-eq-SPACED.true) refl
 
 pub returns-then-number-eq-NUMBER : goal.returns-then-number-eq-NUMBER
 returns-then-number-eq-NUMBER c a =

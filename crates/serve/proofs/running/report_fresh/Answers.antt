@@ -6,12 +6,12 @@ use Rattle.serve.proofs.running.report_fresh.Goals as goal
 
 pub report-requires : goal.report-requires
 report-requires c =
-    let run-fresh = c.run_fresh-top in
-    report_fits run-fresh.new.answers run-fresh.result _ (search rules)
+    let ran = c.run_fresh-top in
+    report_fits ran.new.answers ran.result _ (search rules)
     (omega arith) (omega arith)
 
 pub returns : goal.returns
 returns c =
-    let run-fresh = c.run_fresh-top in
+    let ran = c.run_fresh-top in
     let report = c.report in
-    rw run-fresh.ensures at report.ensures
+    rw ran.ensures at report.ensures

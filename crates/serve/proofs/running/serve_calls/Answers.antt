@@ -27,10 +27,10 @@ unfolding program_bytes
 serve_words-requires c =
     let args = c.args in
     let pre = c.requires in
-    let fill-words = c.fill_words in
+    let words = c.fill_words in
     subst
     (λ (l : List ℕ). CallsFit args.cells l (length args.out.now))
-    (sym (calls_part args.input.now _ program_words (omega (arith, pre.most)) fill-words.ensures pre.some))
+    (sym (calls_part args.input.now _ program_words (omega (arith, pre.most)) words.ensures pre.some))
     (calls_lent args.cells args.input.now _ pre)
 
 pub returns : goal.returns
@@ -38,10 +38,10 @@ unfolding program_bytes
 returns c =
     let args = c.args in
     let pre = c.requires in
-    let fill-words = c.fill_words in
-    let serve-words = c.serve_words in
+    let words = c.fill_words in
+    let served = c.serve_words in
     subst
-    (λ (l : List ℕ). Front args.out.now (output first_heap_cell args.cells l) serve-words.new.out
-    serve-words.result)
-    (calls_part args.input.now _ program_words (omega (arith, pre.most)) fill-words.ensures pre.some)
-    serve-words.ensures
+    (λ (l : List ℕ). Front args.out.now (output first_heap_cell args.cells l) served.new.out
+    served.result)
+    (calls_part args.input.now _ program_words (omega (arith, pre.most)) words.ensures pre.some)
+    served.ensures

@@ -53,9 +53,9 @@ unfolding program_cells program_bytes
 returns c =
     let args = c.args in
     let pre = c.requires in
-    let report-fresh = c.report_fresh in
+    let reported = c.report_fresh in
     subst
-    (λ (n : ℕ). Front args.out.now (output first_heap_cell n args.calls.now) report-fresh.new.out
-    report-fresh.result)
+    (λ (n : ℕ). Front args.out.now (output first_heap_cell n args.calls.now) reported.new.out
+    reported.result)
     (part_capacity args.cells (2 * program_cells) (cells_fit args.cells pre.high))
-    report-fresh.ensures
+    reported.ensures

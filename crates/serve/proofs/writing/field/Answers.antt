@@ -7,5 +7,5 @@ use Rattle.serve.proofs.writing.field.Goals as goal
 pub returns : goal.returns
 returns c =
     let args = c.args in
-    let put-decimal = c.put_decimal-last in
-    write_then (decimal args.n) (args.end ∷ []) _ _ _ put-decimal.ensures c.put.ensures
+    let number = c.put_decimal-last in
+    write_then (decimal args.n) (args.end ∷ []) _ _ _ number.ensures c.put.ensures

@@ -9,7 +9,7 @@ pub returns : goal.returns
 unfolding written
 returns c =
     let args = c.args in
-    let put-bytes = c.put_bytes-name in
+    let name_put = c.put_bytes-name in
     let field = c.field in
-    write_then (116 ∷ 111 ∷ 112 ∷ 32 ∷ []) (decimal args.top ++ (10 ∷ [])) _ _ _ put-bytes.ensures
+    write_then (116 ∷ 111 ∷ 112 ∷ 32 ∷ []) (decimal args.top ++ (10 ∷ [])) _ _ _ name_put.ensures
     field.ensures

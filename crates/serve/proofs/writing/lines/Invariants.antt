@@ -10,7 +10,8 @@ use Rattle.serve.proofs.writing.lines.Given as goal
 abbrev pub invariant-loop-i : goal.invariant-loop-i
 invariant-loop-i l =
     (l.i ≤ length l.answers)
-    × (write (lines_of (drop l.i l.answers)) (space l.out l.next) ≡ write (lines_of l.answers) (space l.initial.out l.initial.next))
+    × (write (lines_of (drop l.i l.answers)) (space l.out l.next)
+    ≡ write (lines_of l.answers) (space l.initial.out l.initial.next))
 
 abbrev pub decreases-loop-i : goal.decreases-loop-i
 decreases-loop-i l = length l.answers - l.i

@@ -18,8 +18,8 @@ returns c =
     let args = c.args in
     let pre = c.requires in
     let start = c.start in
-    let put-bytes = c.put_bytes-name in
+    let name_put = c.put_bytes-name in
     let line = c.line-pen in
     front (refusal args.s 0) args.out.now line.new.out line.result pre
-    (write_then name (lines_of (args.s ∷ 0 ∷ [])) _ _ _ (put-bytes.ensures ∙ ap (write name) (start.ensures _))
+    (write_then name (lines_of (args.s ∷ 0 ∷ [])) _ _ _ (name_put.ensures ∙ ap (write name) (start.ensures _))
     line.ensures)

@@ -1,6 +1,6 @@
--- `typing::laying::lay` and `lay_term`, which call each other. The measure is twice the brackets that may still be open,
--- and one more for `lay`: it falls from an expression to its terms, and from a bracket to what is in it. So no more than
--- `left` brackets are laid within one another. Assumes nothing.
+-- `typing::laying::lay` and `lay_term`, which call each other. The measure is twice the brackets that may still be
+-- open, and one more for `lay`: it falls from an expression to its terms, and from a bracket to what is in it. So no
+-- more than `left` brackets are laid within one another. Assumes nothing.
 use Rattle.std.proofs.Common.{◌+◌, ◌*◌, List, ℕ}
 use Rattle.meaning.specs.Expr.{Expr}
 use Rattle.typing.specs.Laying.{Ready}
