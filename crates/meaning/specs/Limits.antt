@@ -6,7 +6,8 @@ use Rattle.std.specs.Prelude.{Bool, ◌&&◌, List, [], ◌∷◌, ℕ, leb}
 abbrev pub first_heap_cell : ℕ
 first_heap_cell = 16
 
--- The greatest capacity of a store, in cells. `limit_fits` bounds it; length_ok, program_cells_lem and Worked unfold it.
+-- The greatest capacity of a store, in cells. `limit_fits` bounds it; length_ok, program_cells_lem and Worked unfold
+-- it.
 unfoldable pub limit : ℕ
 limit = 4096
 
