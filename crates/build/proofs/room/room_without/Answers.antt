@@ -2,9 +2,7 @@
 -- collected; or there is none, and d's words are put back before the store is collected, if that frees any cell.
 -- Assumes nothing.
 use mathlib.Core.Path.{◌≡◌, ◌∙◌}
-use Prim.Native.Nat.{◌-◌, ◌<◌}
 use native.Mathlib.Omega.{arith}
-use Rattle.meaning.specs.Sound.{capacity}
 use Rattle.build.proofs.Rooms.{vacated_sound, vacated, no_higher, freed, put_back, nothing_dead, given_up}
 use Rattle.build.proofs.room.room_without.Goals as goal
 use Rattle.build.proofs.room.room_without.Goals.{After-put_cell}

@@ -15,7 +15,7 @@ pub loop-c-preserved : goal.loop-c-preserved
 loop-c-preserved c =
     let h : c.loop-c.c < c.args.first + c.args.n = omega arith in
     let e = unbroken _ _ _ c.first_word.ensures c.second_word.ensures
-    c.cell_ok.ensures (c.if-not-cell_ok.false) in
+    c.cell_ok.ensures c.if-not-cell_ok.false in
     (omega arith, turn _ _ _ _ _ h e ∙ c.loop-c.invariant.1)
 
 pub returns-then-top-c : goal.returns-then-top-c
@@ -25,7 +25,7 @@ pub returns-then-not-cell_ok : goal.returns-then-not-cell_ok
 returns-then-not-cell_ok c =
     let h : c.loop-c.c < c.args.first + c.args.n = omega arith in
     let e = broken _ _ _ c.first_word.ensures c.second_word.ensures
-    c.cell_ok.ensures (c.if-not-cell_ok.true) in
+    c.cell_ok.ensures c.if-not-cell_ok.true in
     sym (stop _ _ _ _ _ h e) ∙ c.loop-c.invariant.1
 
 pub overflow_add-top : goal.overflow_add-top

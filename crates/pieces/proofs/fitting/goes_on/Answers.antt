@@ -14,7 +14,7 @@ use Rattle.pieces.proofs.fitting.goes_on.Goals as goal
 pub returns-then-not-stand_fits : goal.returns-then-not-stand_fits
 returns-then-not-stand_fits c =
     sym (not_fits _ (λ k. false≢true
-    (sym (c.if-not-stand_fits.true)
+    (sym c.if-not-stand_fits.true
     ∙ (c.stand_fits.ensures ∙ (ap stand_fits (c.stand_of-stand.ensures _) ∙ k.stand)))))
 
 pub returns-then-depth-gt-DEPTH_LIMIT : goal.returns-then-depth-gt-DEPTH_LIMIT

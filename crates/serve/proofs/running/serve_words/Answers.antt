@@ -45,7 +45,7 @@ unfolding program_cells program_bytes
 report_fresh-requires c =
     let r = let args = c.args in
     let pre = c.requires in
-    lent_parts args.cells args.calls.now _ (pre) in
+    lent_parts args.cells args.calls.now _ pre in
     record { batch_fits = r.0; answers_in_bounds = r.1 }
 
 pub returns : goal.returns

@@ -13,5 +13,5 @@ returns-then-not-heap_ok c e = absurd (false≢true e)
 pub returns : goal.returns
 returns c =
     let a = c.args in
-    all_keep first_heap_cell a.ws.now a.top (c.if-not-registers_ok.false) (c.if-not-heap_ok.false)
+    all_keep first_heap_cell a.ws.now a.top c.if-not-registers_ok.false c.if-not-heap_ok.false
     c.registers_ok.ensures c.heap_ok.ensures c.free_ok.ensures
