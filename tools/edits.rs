@@ -50,6 +50,19 @@ mod text;
 mod typing;
 mod words;
 
+// A slice cut into arrays, which Rust has of its own since 1.88.
+pub trait AsChunks<T> {
+    fn as_chunks<const N: usize>(&self) -> (&[[T; N]], &[T]);
+}
+
+impl<T> AsChunks<T> for [T] {
+    fn as_chunks<const N: usize>(&self) -> (&[[T; N]], &[T]) {
+        let (whole, rest) = self.split_at(self.len() / N * N);
+        // SAFETY: `whole` has so many times N elements, and an array lies in memory as its elements do.
+        (unsafe { std::slice::from_raw_parts(whole.as_ptr().cast(), whole.len() / N) }, rest)
+    }
+}
+
 // Each call, by its number, with the places of its operands. CALL has any words.
 const CALLS: [(&str, &[usize]); 12] = [
     ("CLEAR", &[1]),
@@ -324,11 +337,11 @@ impl Lent {
 
     fn word(&self, w: u32, n: usize) {
         let mut out = vec![7; n];
-        let pen = octets::writing::put_word(&mut out, octets::writing::start(), w);
-        octets::writing::zero_from(&mut out, pen.place);
+        let written = octets::writing::put_word(&mut out, 0, w);
+        octets::writing::zero_from(&mut out, written.unwrap_or_else(|full| full.place));
         let out: Vec<u32> = out.iter().map(|&b| b as u32).collect();
         self.say("bytes", &out, String::new());
-        self.say("short", &[pen.short as u32], String::new());
+        self.say("short", &[written.is_err() as u32], String::new());
     }
 }
 

@@ -34,8 +34,8 @@ use Rattle.meaning.proofs.call.Plans.{as_it_is}
 use Rattle.meaning.proofs.call.Plans.{once_collected}
 use Rattle.store.proofs.Sounds.{first_heap_cell_pos, register_inside}
 use Rattle.build.specs.Room.{RoomMade, Sought, Roomy, room_then}
-use Rattle.build.specs.declared.room.Room.{Room}
-use Rattle.build.specs.declared.room.Room.TheVariants.{Ready, Lacking}
+use Rattle.std.specs.Prelude.{Result, Ok, Err}
+use Rattle.build.specs.declared.room.NoRoom.{NoRoom}
 
 -- what is live, and `top` once collected
 module _ (ws : List ℕ) (top : ℕ) (s : Sound first_heap_cell ws top) where
@@ -48,7 +48,7 @@ module _ (ws : List ℕ) (top : ℕ) (s : Sound first_heap_cell ws top) where
 -- ---- room for n cells, sought in v: above `top`, or once v is collected, or nowhere
 
 module _ (n : ℕ) {v : List ℕ} {top : ℕ} (ws : List ℕ) (s : Sound first_heap_cell v top) where
-  room_above : top + n ≤ capacity v → RoomMade n v ws top (Ready top) v
+  room_above : top + n ≤ capacity v → RoomMade n v ws top (Ok top) v
   room_above h = record {
     does = λ act. as_it_is first_heap_cell n v top first_heap_cell_pos s act ws (le-ltb (capacity v) (top + n) h);
     ready = (s, omega arith);
@@ -64,7 +64,7 @@ module _ (n : ℕ) {v : List ℕ} {top : ℕ} (ws : List ℕ) (s : Sound first_h
       once_collected first_heap_cell n v top first_heap_cell_pos s act ws (lt-ltb (capacity v) (top + n) h) ∙ rw e refl
 
   room_collected : {u : List ℕ} {t : ℕ} → capacity v < top + n → u ≡ collected first_heap_cell v top
-      → t ≡ collected_top first_heap_cell v top → t + n ≤ capacity v → RoomMade n v ws top (Ready t) u
+      → t ≡ collected_top first_heap_cell v top → t + n ≤ capacity v → RoomMade n v ws top (Ok t) u
   room_collected h e f g =
       let low = collected_top first_heap_cell v top in
       let long = length_collected first_heap_cell v top first_heap_cell_pos s in
@@ -76,7 +76,7 @@ module _ (n : ℕ) {v : List ℕ} {top : ℕ} (ws : List ℕ) (s : Sound first_h
 
   room_nowhere : Sound first_heap_cell ws top → {u : List ℕ} {t : ℕ} → capacity v < top + n
       → capacity v < collected_top first_heap_cell v top + n → u ≡ collected first_heap_cell ws top
-      → t ≡ collected_top first_heap_cell ws top → RoomMade n v ws top (Lacking t) u
+      → t ≡ collected_top first_heap_cell ws top → RoomMade n v ws top (Err (record { top = t })) u
   room_nowhere w h g e f =
       rw (e, f) (record {
         does = once h true (lt-ltb (capacity v) (collected_top first_heap_cell v top + n) g);
@@ -114,7 +114,7 @@ module _ (n : ℕ) (ws : List ℕ) (top d : ℕ) (s : Sound first_heap_cell ws t
   pub vacated_sound : Sound first_heap_cell u top
   vacated_sound = rw is_sought sound_v
 
-  pub vacated : n ≤ capacity ws - top → RoomMade n v ws top (Ready top) u
+  pub vacated : n ≤ capacity ws - top → RoomMade n v ws top (Ok top) u
   vacated h =
       rw is_sought (room_above n ws sound_v (omega (arith, s.high, sought_length false d ws)))
 
@@ -131,7 +131,7 @@ module _ (n : ℕ) (ws : List ℕ) (top d : ℕ) (s : Sound first_heap_cell ws t
     pub no_higher : t ≤ top
     no_higher = omega (arith, at_v, low_live v top sound_v, live_le first_heap_cell v top first_heap_cell_pos sound_v)
 
-    pub freed : n - (capacity ws - top) ≤ top - t → RoomMade n v ws top (Ready t) x
+    pub freed : n - (capacity ws - top) ≤ top - t → RoomMade n v ws top (Ok t) x
     freed h =
         let r : x ≡ collected first_heap_cell v top =
         rw (le-ltb (top - t) (n - (capacity ws - top)) h, is_sought) at c in
@@ -154,27 +154,27 @@ module _ (n : ℕ) (ws : List ℕ) (top d : ℕ) (s : Sound first_heap_cell ws t
           (sym (collected_whole first_heap_cell ws top first_heap_cell_pos s e), sym e)
 
       pub given_up : {w : List ℕ} {q : ℕ} → w ≡ collected first_heap_cell ws top
-          → q ≡ collected_top first_heap_cell ws top → RoomMade n v ws top (Lacking q) w
+          → q ≡ collected_top first_heap_cell ws top → RoomMade n v ws top (Err (record { top = q })) w
       given_up y z =
           room_nowhere n ws sound_v s missing (omega (arith, s.high, at_v, no_higher, sought_length false d ws)) y z
 
 -- ---- what a call learns of the room made
 
-module _ {n : ℕ} {v ws : List ℕ} {top : ℕ} {r : Room} {u : List ℕ} (m : RoomMade n v ws top r u) {t : ℕ} where
-  pub room_roomy : r ≡ Ready t → Roomy n u t
+module _ {n : ℕ} {v ws : List ℕ} {top : ℕ} {r : Result ℕ NoRoom} {u : List ℕ} (m : RoomMade n v ws top r u) where
+  pub room_roomy : {t : ℕ} → r ≡ Ok t → Roomy n u t
   room_roomy e = rw e at m.ready
 
-  pub room_does : r ≡ Ready t → (act : List ℕ → ℕ → Done) → with_room first_heap_cell n v act ws top ≡ act u t
-  room_does e act = m.does act ∙ ap (λ (x : Room). room_then x u act) e
+  pub room_does : {t : ℕ} → r ≡ Ok t → (act : List ℕ → ℕ → Done) → with_room first_heap_cell n v act ws top ≡ act u t
+  room_does e act = m.does act ∙ ap (λ (x : Result ℕ NoRoom). room_then x u act) e
 
-  pub room_refuses : r ≡ Lacking t → (act : List ℕ → ℕ → Done)
-      → with_room first_heap_cell n v act ws top ≡ refused u t (only 16)
-  room_refuses e act = m.does act ∙ ap (λ (x : Room). room_then x u act) e
+  pub room_refuses : {e : NoRoom} → r ≡ Err e → (act : List ℕ → ℕ → Done)
+      → with_room first_heap_cell n v act ws top ≡ refused u e.top (only 16)
+  room_refuses e act = m.does act ∙ ap (λ (x : Result ℕ NoRoom). room_then x u act) e
 
   -- a register whose expression v has too has as many terms as before
-  pub room_size : r ≡ Ready t → Sound first_heap_cell ws top → (i : ℕ) → i < first_heap_cell
+  pub room_size : {t : ℕ} → r ≡ Ok t → Sound first_heap_cell ws top → (i : ℕ) → i < first_heap_cell
       → meaning v i ≡ meaning ws i
       → size (at u i) ≡ size (at ws i)
-  room_size e s i h k =
+  room_size {t} e s i h k =
       size_terms first_heap_cell u t first_heap_cell_pos (room_roomy e).0 i h
       ∙ (ap terms ((rw e at (m.denote i h)) ∙ k) ∙ sym (size_terms first_heap_cell ws top first_heap_cell_pos s i h))

@@ -4,4 +4,5 @@
 
 pub mod cells;
 pub mod laying;
+pub mod registers;
 pub mod room;

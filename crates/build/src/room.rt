@@ -10,12 +10,12 @@ ghost use Rattle.meaning.specs.Call.{sought};
 ghost use Rattle.build.specs.Room.{Sought, RoomMade};
 
 use crate::cells::put_empty;
+use store::register::Register;
 
-// Where the new cells go, or `top` of the collected store that has no room for them.
-#[derive(Clone, Copy)]
-pub enum Room {
-    Ready(usize),
-    Lacking(usize),
+// No room for the new cells, even in the collected store, whose `top` this has.
+#[derive(Clone, Copy, PartialEq, Eq)]
+pub struct NoRoom {
+    pub top: usize,
 }
 
 // Whether room is sought in the store as it is: d is kept, or it is empty already.
@@ -23,10 +23,7 @@ fn stays(ws: &[u32], d: usize, kept: bool) -> bool
     requires { 2 * d + 1 < length ws.now }
     ensures { result ≡ cond kept true (eqb (second_word ws.now d) (bracket_to 0)) }
 {
-    if kept {
-        return true;
-    }
-    words::second_word(ws, d) == words::EMPTY
+    kept || words::second_word(ws, d) == words::EMPTY
 }
 
 // `top` of the store in which n new cells are to be laid: of the store as it is where they fit above `top`, else of the
@@ -43,20 +40,20 @@ fn seek_room(ws: &mut [u32], top: usize, n: usize) -> usize
 }
 
 // Room sought in the store as it is. A collection that gives no room is the one that 16 leaves, so none is tried first.
-fn room_beside(ws: &mut [u32], top: usize, n: usize) -> Room
+fn room_beside(ws: &mut [u32], top: usize, n: usize) -> Result<usize, NoRoom>
     requires { Sound first_heap_cell ws.old top }
     ensures { RoomMade n ws.old ws.old top result ws.new }
 {
     let cells = ws.len() / 2;
     let low = seek_room(ws, top, n);
     if n <= cells - low {
-        return Room::Ready(low);
+        return Ok(low);
     }
-    Room::Lacking(low)
+    Err(NoRoom { top: low })
 }
 
 // Room sought without d's old expression. Where there is none, d has its words again before the store is collected.
-fn room_without(ws: &mut [u32], top: usize, n: usize, d: usize) -> Room
+fn room_without(ws: &mut [u32], top: usize, n: usize, d: usize) -> Result<usize, NoRoom>
     requires { Sound first_heap_cell ws.old top × (d < first_heap_cell) }
     ensures { RoomMade n (sought false d ws.old) ws.old top result ws.new }
 {
@@ -65,27 +62,37 @@ fn room_without(ws: &mut [u32], top: usize, n: usize, d: usize) -> Room
     let second = words::second_word(ws, d);
     put_empty(ws, d);
     if n <= free {
-        return Room::Ready(top);
+        return Ok(top);
     }
     let low = collect::collect_for(ws, top, n - free);
     if n - free <= top - low {
-        return Room::Ready(low);
+        return Ok(low);
     }
     words::put_cell(ws, d, first, second);
     // Where no cell is dead even without d, the store is collected as it is.
     if low == top {
-        return Room::Lacking(top);
+        return Err(NoRoom { top });
     }
-    Room::Lacking(collect::collect_sound(ws, top))
+    Err(NoRoom {
+        top: collect::collect_sound(ws, top),
+    })
 }
 
-// Room for n new cells, for a call that sets register d; `kept` says whether it reads d too.
-pub fn make_room(ws: &mut [u32], top: usize, n: usize, d: usize, kept: bool) -> Room
-    requires { Sound first_heap_cell ws.old top × (d < first_heap_cell) }
-    ensures { RoomMade n (sought kept d ws.old) ws.old top result ws.new }
+// Room for n new cells, for a call that sets register d: the `top` from which they are laid. `kept` says whether the
+// call reads d too.
+pub fn make_room(
+    ws: &mut [u32],
+    top: usize,
+    n: usize,
+    d: Register,
+    kept: bool,
+) -> Result<usize, NoRoom>
+    requires { Sound first_heap_cell ws.old top }
+    ensures { RoomMade n (sought kept d.cell ws.old) ws.old top result ws.new }
 {
-    if stays(ws, d, kept) {
+    let cell = d.cell();
+    if stays(ws, cell, kept) {
         return room_beside(ws, top, n);
     }
-    room_without(ws, top, n, d)
+    room_without(ws, top, n, cell)
 }

@@ -7,15 +7,9 @@ use native.Mathlib.Omega.{arith}
 use lib.ListN.{length, take, replicate}
 use lib.Seq.{length-take-le}
 use Rattle.meaning.specs.Limits.{first_heap_cell}
-use Rattle.meaning.specs.Verdicts.{Verdict, only}
-use Rattle.meaning.specs.Check.{check}
-use Rattle.meaning.specs.Batch.{runs, as_lent, ended, calls_test, batch_of, batch}
+use Rattle.meaning.specs.Verdicts.{only}
+use Rattle.meaning.specs.Batch.{runs, ended, calls_test, batch_of}
 use Rattle.meaning.proofs.batch.Cases.{all_run}
-use Rattle.store.specs.Answers.{refusal_of, verdict_of}
-use Rattle.store.specs.declared.Unsound.{Unsound}
-use Rattle.store.specs.declared.Checked.{Checked}
-use Rattle.store.specs.declared.Checked.TheVariants as checked
-use Rattle.store.proofs.Sounds.{found_refused}
 use Rattle.calls.specs.Calling.{ran_to}
 
 module _ (ws : List ℕ) (top : ℕ) (calls out : List ℕ) where
@@ -29,9 +23,3 @@ module _ (ws : List ℕ) (top : ℕ) (calls out : List ℕ) where
   filled out' e h r l z =
       let m = length-take-le (2 * (length calls / 4)) out' (omega arith) in
       all_run first_heap_cell ws top calls out e h ∙ rw (r, m, z, l) refl
-
-  pub batch_refused : (found : Checked) {u : Unsound} → verdict_of found ≡ check first_heap_cell ws top
-      → found ≡ checked.Refused u → as_lent (refusal_of u) ws top out ≡ batch first_heap_cell ws top calls out
-  unfolding batch
-  batch_refused found q e =
-      found_refused first_heap_cell ws top found q _ (λ (v : Verdict). as_lent v ws top out) e

@@ -1,6 +1,5 @@
 -- The calls of a batch one after the other: after i of them the store, `top` and the answers are those of i calls.
 -- In order:
---   called    what one call leaves, from what was returned
 --   Running   i of the calls are done
 --   begin     none is;  onward  one more is;  finish  all are
 -- Assumes nothing.
@@ -12,14 +11,11 @@ use lib.ListN.{length, take, set, get_or, length-set}
 use lib.Seq.{take-suc-set, take_all, length-take-le}
 use Rattle.meaning.specs.Limits.{first_heap_cell}
 use Rattle.meaning.specs.Sound.{Sound}
-use Rattle.meaning.specs.Verdicts.{Done}
 use Rattle.meaning.specs.Batch.{Ran, runs}
 use Rattle.meaning.proofs.effect.Steps.{step_meets}
 use Rattle.meaning.proofs.batch.Batches.{fours, runs_cut}
 use Rattle.store.proofs.Sounds.{first_heap_cell_pos}
-use Rattle.calls.specs.Answers.{stepped_in}
 use Rattle.calls.specs.Calling.{call_at, CallDone, ran_to}
-use Rattle.calls.specs.declared.answer.Stepped.{Stepped}
 
 -- ---- four more words of a list, and two
 
@@ -51,12 +47,6 @@ take_answer l i x y h =
     let f : 2 * i + 1 ≡ suc (2 * i) = omega arith in
     rw (e, take-suc-set (set l (2 * i) x) (2 * i + 1) y (rw length-set h), f, take-suc-set l (2 * i) x (omega arith))
     (append_assoc (take (2 * i) l) (x ∷ []) (y ∷ []))
-
--- ---- one call
-
-pub called : (r : Stepped) (ws : List ℕ) {c : Done} → stepped_in r ws ≡ c → (i : ℕ) (out : List ℕ)
-    → CallDone c i out r.top ws (set (set out (2 * i) r.status) (2 * i + 1) r.value)
-called r ws e i out = rw (← e) (record { words = refl; top = refl; answers = refl })
 
 -- ---- i of the calls are done
 

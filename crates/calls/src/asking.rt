@@ -1,44 +1,43 @@
 // The calls that answer with a value and leave every word as it is: LENGTH, FIRST and LIVE.
-ghost use Rattle.std.specs.Prelude.{◌≡◌, ◌<◌};
+ghost use Rattle.std.specs.Prelude.{◌≡◌};
 ghost use Rattle.meaning.specs.Limits.{first_heap_cell};
 ghost use Rattle.meaning.specs.Sound.{Sound, at, size};
 ghost use Rattle.meaning.specs.Reach.{live};
-ghost use Rattle.meaning.specs.Verdicts.{done};
 ghost use Rattle.meaning.specs.Actions.{code_first};
-ghost use Rattle.calls.specs.Answers.{stepped_in};
+ghost use Rattle.build.specs.Room.{SoundWords};
+ghost use Rattle.calls.specs.Answers.{AtAnyTop};
 
-use crate::answer::{Stepped, done, refused};
+use crate::answer::Refusal;
+use crate::terms::terms_of;
+use build::registers::run_of;
+use store::Term;
+use store::register::Register;
 
 // The number of top-level terms of register a.
-pub fn length(ws: &[u32], top: usize, a: usize) -> Stepped
-    requires { Sound first_heap_cell ws.now top × (a < first_heap_cell) }
-    ensures { stepped_in result ws.now ≡ done ws.now top (size (at ws.now a)) }
+pub fn length(ws: &[u32], a: Register) -> u32
+    requires { SoundWords ws.now }
+    ensures { result ≡ size (at ws.now a.cell) }
 {
-    let run = store::run_at(ws, a);
-    done(run.size as u32, top)
+    run_of(ws, a).size as u32
 }
 
 // The code of the first term of register a.
-pub fn first(ws: &[u32], top: usize, a: usize) -> Stepped
-    requires { Sound first_heap_cell ws.now top × (a < first_heap_cell) }
-    ensures { stepped_in result ws.now ≡ code_first ws.now top (at ws.now a) }
+pub fn first(ws: &[u32], a: Register) -> Result<u32, Refusal>
+    requires { SoundWords ws.now }
+    ensures { AtAnyTop result ws.now (λ top. code_first ws.now top (at ws.now a.cell)) }
 {
-    let run = store::run_at(ws, a);
-    if run.size == 0 {
-        return refused(14, top);
-    }
-    match store::term_at(ws, run.start) {
-        store::Term::Symbol(code) => done(code, top),
-        store::Term::Bracket(_) => refused(15, top),
+    let terms = terms_of(ws, a)?;
+    match store::term_at(ws, terms.start) {
+        Term::Symbol(code) => Ok(code),
+        Term::Bracket(_) => Err(Refusal::WrongKind),
     }
 }
 
 // The number of reached heap cells.
-pub fn live(ws: &mut [u32], top: usize) -> Stepped
+#[tactic(auto, using(build::proofs::Rooms::live_small, meaning::proofs::sound::Cells::limit_fits))]
+pub fn live(ws: &mut [u32], top: usize) -> u32
     requires { Sound first_heap_cell ws.old top }
-    ensures { stepped_in result ws.new
-        ≡ done ws.old top (live first_heap_cell ws.old top) }
+    ensures { (ws.new ≡ ws.old) × (result ≡ live first_heap_cell ws.old top) }
 {
-    let reached = collect::live(ws, top);
-    done(reached as u32, top)
+    collect::live(ws, top) as u32
 }

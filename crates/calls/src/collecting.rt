@@ -5,17 +5,15 @@ ghost use Rattle.meaning.specs.Sound.{Sound};
 ghost use Rattle.meaning.specs.Reach.{live};
 ghost use Rattle.meaning.specs.Collected.{collected, collected_top};
 ghost use Rattle.meaning.specs.Verdicts.{done};
-ghost use Rattle.calls.specs.Answers.{stepped_in};
-
-use crate::answer::{Stepped, done};
 
 // Its value is live: the heap cells that are left.
-pub fn collect_store(ws: &mut [u32], top: usize) -> Stepped
-    requires { Sound first_heap_cell ws.old top }
-    ensures { stepped_in result ws.new
-        ≡ done (collected first_heap_cell ws.old top) (collected_top first_heap_cell ws.old top)
-        (live first_heap_cell ws.old top) }
+#[tactic(auto, using(build::proofs::Rooms::live_small, meaning::proofs::sound::Cells::limit_fits))]
+pub fn collect_store(ws: &mut [u32], top: &mut usize) -> u32
+    requires { Sound first_heap_cell ws.old top.old }
+    ensures { done ws.new top.new result
+        ≡ done (collected first_heap_cell ws.old top.old) (collected_top first_heap_cell ws.old top.old)
+        (live first_heap_cell ws.old top.old) }
 {
-    let low = collect::collect_sound(ws, top);
-    done((low - meaning::FIRST_HEAP_CELL) as u32, low)
+    *top = collect::collect_sound(ws, *top);
+    (*top - meaning::FIRST_HEAP_CELL) as u32
 }

@@ -1,128 +1,118 @@
-// The words of a call: how each of the twelve operations uses d, a and b, and the statuses 10 to 13.
-ghost use Rattle.std.specs.Prelude.{◌≡◌, ◌||◌, ◌<◌};
+// The words of a call: how each operation uses d, a and b, and what is wrong with them.
+ghost use Rattle.std.specs.Prelude.{◌≡◌};
 ghost use Rattle.meaning.specs.Limits.{first_heap_cell};
-ghost use Rattle.meaning.specs.Operands.{op_at, names, is_operand, wrong11, wrong12, wrong13, fault};
+ghost use Rattle.meaning.specs.Operands.{names, is_operand, wrong11, wrong12, wrong13};
+ghost use Rattle.calls.specs.Operations.{op_of, use_of, Row, AnyWord, Judged};
 
-// How each operation uses d, a and b: 0 not at all, 1 as a register, 2 as a code.
-const USES: [[u8; 3]; 12] = [
-    [1, 0, 0], // CLEAR d
-    [1, 1, 0], // COPY d a
-    [1, 2, 0], // SYMBOL d a
-    [1, 1, 0], // WRAP d a
-    [1, 1, 1], // JOIN d a b
-    [1, 1, 0], // HEAD d a
-    [1, 1, 0], // REST d a
-    [1, 1, 0], // OPEN d a
-    [0, 1, 0], // LENGTH a
-    [0, 1, 0], // FIRST a
-    [0, 0, 0], // LIVE
-    [0, 0, 0], // COLLECT
+use crate::answer::Refusal;
+use crate::operations::Operation;
+
+// The four words of a call: the number of its operation, and d, a and b.
+#[derive(Clone, Copy)]
+pub struct Call {
+    pub operation: u32,
+    pub d: u32,
+    pub a: u32,
+    pub b: u32,
+}
+
+// How a call uses a word: not at all, as a register, or as a code.
+#[derive(Clone, Copy, PartialEq, Eq)]
+enum Use {
+    Unused,
+    Register,
+    Code,
+}
+
+use Use::{Code, Register, Unused};
+
+// How each operation uses d, a and b, in the order of their numbers.
+const USES: [[Use; 3]; 12] = [
+    [Register, Unused, Unused], // CLEAR d
+    [Register, Register, Unused], // COPY d a
+    [Register, Code, Unused], // SYMBOL d a
+    [Register, Register, Unused], // WRAP d a
+    [Register, Register, Register], // JOIN d a b
+    [Register, Register, Unused], // HEAD d a
+    [Register, Register, Unused], // REST d a
+    [Register, Register, Unused], // OPEN d a
+    [Unused, Register, Unused], // LENGTH a
+    [Unused, Register, Unused], // FIRST a
+    [Unused, Unused, Unused], // LIVE
+    [Unused, Unused, Unused], // COLLECT
 ];
 
-// A register word that names no register: status 11.
-fn is_no_register(u: u8, w: u32) -> bool
-    ensures { result ≡ wrong11 first_heap_cell u w }
+fn uses_of(operation: Operation) -> [Use; 3]
+    ensures { Row (op_of operation) result }
 {
-    if u == 1 {
-        meaning::FIRST_HEAP_CELL <= w as usize
-    } else {
-        false
-    }
+    USES[operation as usize]
 }
 
-// A word that the call does not use and that is not 0: status 12.
-fn is_stray(u: u8, w: u32) -> bool
-    ensures { result ≡ wrong12 u w }
+// A register word that names no register.
+#[tactic(auto, using(crate::proofs::Uses::same_use), unfolding(meaning::specs::Operands::wrong11))]
+fn is_no_register(u: Use, w: u32) -> bool
+    ensures { result ≡ wrong11 first_heap_cell (use_of u) w }
 {
-    if u == 0 { 0 < w } else { false }
+    u == Register && meaning::FIRST_HEAP_CELL <= w as usize
 }
 
-// A code word that is no code: status 13.
-fn is_no_code(u: u8, w: u32) -> bool
-    ensures { result ≡ wrong13 u w }
+// A word that the call does not use and that is not 0.
+#[tactic(auto, using(crate::proofs::Uses::same_use), unfolding(meaning::specs::Operands::wrong12))]
+fn is_stray(u: Use, w: u32) -> bool
+    ensures { result ≡ wrong12 (use_of u) w }
 {
-    if u == 2 {
-        !store::cells::is_code(w)
-    } else {
-        false
-    }
+    u == Unused && 0 < w
 }
 
-// The same test over the three words of a call.
-fn any(x: bool, y: bool, z: bool) -> bool
-    ensures { result ≡ (x || y || z) }
+// A code word that is no code.
+#[tactic(auto, using(crate::proofs::Uses::same_use), unfolding(meaning::specs::Operands::wrong13))]
+fn is_no_code(u: Use, w: u32) -> bool
+    ensures { result ≡ wrong13 (use_of u) w }
 {
-    if x {
-        return true;
-    }
-    if y {
-        return true;
-    }
-    z
+    u == Code && !store::cells::is_code(w)
 }
 
-// Whether one of the words d, a and b, used as u, v and w say, gives the call status 11, 12 or 13.
-fn no_register(u: u8, v: u8, w: u8, d: u32, a: u32, b: u32) -> bool
-    ensures { result ≡ (wrong11 first_heap_cell u d || wrong11 first_heap_cell v a || wrong11 first_heap_cell w b) }
+// Whether one of a call's three words is wrong.
+fn any_word<F: Fn(Use, u32) -> bool>(uses: [Use; 3], words: [u32; 3], is_wrong: F) -> bool
+    requires { F.IsAlwaysCallable is_wrong }
+    ensures { AnyWord F.Fn is_wrong uses words result }
 {
-    any(
-        is_no_register(u, d),
-        is_no_register(v, a),
-        is_no_register(w, b),
-    )
-}
-
-fn stray(u: u8, v: u8, w: u8, d: u32, a: u32, b: u32) -> bool
-    ensures { result ≡ (wrong12 u d || wrong12 v a || wrong12 w b) }
-{
-    any(is_stray(u, d), is_stray(v, a), is_stray(w, b))
-}
-
-fn no_code(u: u8, v: u8, w: u8, d: u32, a: u32, b: u32) -> bool
-    ensures { result ≡ (wrong13 u d || wrong13 v a || wrong13 w b) }
-{
-    any(is_no_code(u, d), is_no_code(v, a), is_no_code(w, b))
+    is_wrong(uses[0], words[0]) || is_wrong(uses[1], words[1]) || is_wrong(uses[2], words[2])
 }
 
 // A register word that names register r.
-fn names(u: u8, w: u32, r: u32) -> bool
-    ensures { result ≡ names u w r }
+#[tactic(auto, using(crate::proofs::Uses::same_use), unfolding(meaning::specs::Operands::names))]
+fn names(u: Use, w: u32, r: u32) -> bool
+    ensures { result ≡ names (use_of u) w r }
 {
-    if u == 1 { w == r } else { false }
+    u == Register && w == r
 }
 
-// Whether register r is one of the call's operand registers.
-pub fn is_operand(o: usize, r: u32, a: u32, b: u32) -> bool
-    requires { o < 12 }
-    ensures { result ≡ is_operand (op_at o) r a b }
+// Whether register d is one of the call's operand registers.
+#[tactic(auto, unfolding(meaning::specs::Operands::is_operand))]
+pub fn is_operand(operation: Operation, call: Call) -> bool
+    ensures { result ≡ is_operand (op_of operation) call.d call.a call.b }
 {
-    let row = USES[o];
-    if names(row[1], a, r) {
-        return true;
-    }
-    names(row[2], b, r)
+    let uses = uses_of(operation);
+    names(uses[1], call.a, call.d) || names(uses[2], call.b, call.d)
 }
 
-// What is wrong with a call's own words: 10 to 13, or 0.
-pub fn fault(o: u32, d: u32, a: u32, b: u32) -> u32
-    ensures { result ≡ fault first_heap_cell o d a b }
+// The operation of a call whose own words are right; else what is wrong with them.
+pub fn judge(call: Call) -> Result<Operation, Refusal>
+    ensures { Judged call result }
 {
-    if 11 < o {
-        return 10;
-    }
+    let operation = Operation::try_from(call.operation)?;
     // The row is read once: the table is built on the stack for each reading of it.
-    let row = USES[o as usize];
-    let u = row[0];
-    let v = row[1];
-    let w = row[2];
-    if no_register(u, v, w, d, a, b) {
-        return 11;
+    let uses = uses_of(operation);
+    let words = [call.d, call.a, call.b];
+    if any_word(uses, words, is_no_register) {
+        return Err(Refusal::BadRegister);
     }
-    if stray(u, v, w, d, a, b) {
-        return 12;
+    if any_word(uses, words, is_stray) {
+        return Err(Refusal::StrayWord);
     }
-    if no_code(u, v, w, d, a, b) {
-        return 13;
+    if any_word(uses, words, is_no_code) {
+        return Err(Refusal::BadCode);
     }
-    0
+    Ok(operation)
 }

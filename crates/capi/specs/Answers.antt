@@ -13,13 +13,13 @@ use Rattle.store.specs.Answers.{Placed}
 use Rattle.store.specs.declared.Span as span
 use Rattle.capi.specs.declared.Entry.{Entry}
 use Rattle.capi.specs.declared.Filed.{Filed}
-use Rattle.capi.specs.declared.Numbers.{Numbers}
+use Rattle.capi.specs.declared.numbers.Numbers.{Numbers}
 use Rattle.capi.specs.declared.Reply.{Reply}
 use Rattle.capi.specs.declared.Text.{Text}
 
--- a refusal's numbers
-abbrev pub refusal_is : Numbers → Verdict
-refusal_is r = record { status = r.status; value = r.value; rule = r.rule }
+-- the numbers of an answer
+abbrev pub numbers_are : Numbers → Verdict
+numbers_are n = record { status = n.status; value = n.value; rule = n.rule }
 
 -- a verdict and `top`
 abbrev pub reply : Verdict → ℕ → Reply

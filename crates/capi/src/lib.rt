@@ -6,20 +6,17 @@
 
 ghost use Rattle.std.specs.Prelude.{◌≡◌, ◌≤◌};
 ghost use Rattle.meaning.specs.Limits.{limit};
-ghost use Rattle.meaning.specs.Verdicts.{valued};
-ghost use Rattle.store.specs.Answers.{refusal_of};
-ghost use Rattle.capi.specs.Answers.{refusal_is, reply, Checks, Makes, Collects, Runs, Places, Prints, Types};
+ghost use Rattle.capi.specs.Answers.{numbers_are, reply, Checks, Makes, Collects, Runs, Places, Prints, Types};
 ghost use Rattle.capi.specs.Answers.{Saves, Loads};
 ghost use Rattle.pieces.specs.States.{Starts, Feeds, Ends};
 
-use calls::Ran;
-use collect::Collected;
-use file::{Loaded, Saved};
+use crate::numbers::{DONE, Numbers};
+use file::NotSaved;
 use pieces::{Counted, Pieces};
-use reader::judging::fault_number;
-use store::{Checked, Made, Span, Unsound};
-use text::Printed;
-use typing::Typed;
+use store::Span;
+use typing::NotTyped;
+
+mod numbers;
 
 // A status, the rule of a damaged cell or 0, the value that goes with the status, and `top` afterwards.
 #[repr(C)]
@@ -31,61 +28,19 @@ pub struct Reply {
     pub top: usize,
 }
 
-// Nothing is damaged. A value is a cell or a number of cells, so it fits a word.
-fn reply_with(status: u32, value: usize, top: usize) -> Reply
-    requires { value ≤ limit }
-    ensures { result ≡ reply (valued status value) top }
-{
-    Reply {
-        status,
-        rule: 0,
-        value: value as u32,
-        top,
-    }
-}
-
-// The numbers of a refusal.
-#[derive(Clone, Copy)]
-pub struct Numbers {
-    pub status: u32,
-    pub rule: u32,
-    pub value: usize,
-}
-
-// Why a store is refused, in numbers.
-fn refusal(why: Unsound) -> Numbers
-    ensures { refusal_is result ≡ refusal_of why }
-{
-    match why {
-        Unsound::BadLength => Numbers {
-            status: 1,
-            rule: 0,
-            value: 0,
-        },
-        Unsound::BadTop => Numbers {
-            status: 2,
-            rule: 0,
-            value: 0,
-        },
-        Unsound::Damaged(cell, rule) => Numbers {
-            status: 3,
-            rule,
-            value: cell,
-        },
-    }
-}
-
-// A store is refused. `top` comes back as it came.
-fn refuse(why: Unsound, top: usize) -> Reply
-    requires { (refusal_of why).value ≤ limit }
-    ensures { result ≡ reply (refusal_of why) top }
-{
-    let n = refusal(why);
-    Reply {
-        status: n.status,
-        rule: n.rule,
-        value: n.value as u32,
-        top,
+impl Reply {
+    // A value is a cell or a number of cells, so it fits a word.
+    #[tactic(auto, using(meaning::proofs::sound::Cells::limit_fits))]
+    fn new(n: Numbers, top: usize) -> Reply
+        requires { n.value ≤ limit }
+        ensures { result ≡ reply (numbers_are n) top }
+    {
+        Reply {
+            status: n.status,
+            rule: n.rule,
+            value: n.value as u32,
+            top,
+        }
     }
 }
 
@@ -95,8 +50,8 @@ pub extern "C" fn zelmotar_check(words: &[u32], top: usize) -> Reply
     ensures { Checks words.now top result }
 {
     match store::check(words, top) {
-        Checked::Sound => reply_with(0, 0, top),
-        Checked::Refused(why) => refuse(why, top),
+        Ok(()) => Reply::new(DONE, top),
+        Err(unsound) => Reply::new(unsound.into(), top),
     }
 }
 
@@ -106,8 +61,8 @@ pub extern "C" fn zelmotar_fresh(words: &mut [u32]) -> Reply
     ensures { Makes words.old result words.new }
 {
     match store::fresh(words) {
-        Made::Ready(top) => reply_with(0, 0, top),
-        Made::BadLength => reply_with(1, 0, 0),
+        Ok(new) => Reply::new(DONE, new),
+        Err(bad_length) => Reply::new(bad_length.into(), 0),
     }
 }
 
@@ -117,8 +72,8 @@ pub extern "C" fn zelmotar_collect(words: &mut [u32], top: usize) -> Reply
     ensures { Collects words.old top result words.new }
 {
     match collect::collect(words, top) {
-        Collected::Done(live, low) => reply_with(0, live, low),
-        Collected::Refused(why) => refuse(why, top),
+        Ok(done) => Reply::new(Numbers::new(0, done.live), done.top),
+        Err(why) => Reply::new(why.into(), top),
     }
 }
 
@@ -134,10 +89,8 @@ pub extern "C" fn zelmotar_run(
         answers.new }
 {
     match calls::run(words, top, calls, answers) {
-        Ran::Ended(end) => reply_with(0, 0, end),
-        Ran::Refused(why) => refuse(why, top),
-        Ran::BadCalls => reply_with(4, 0, top),
-        Ran::ShortAnswers => reply_with(5, 0, top),
+        Ok(end) => Reply::new(DONE, end),
+        Err(not_run) => Reply::new(not_run.into(), top),
     }
 }
 
@@ -151,37 +104,20 @@ pub struct Text {
     pub length: usize,
 }
 
-// Printing is refused: there is no text.
-fn no_text(status: u32, rule: u32, value: usize) -> Text
-    ensures { result ≡ record { status = status; rule = rule; value = value; length = 0 } }
-{
-    Text {
-        status,
-        rule,
-        value,
-        length: 0,
-    }
-}
-
 // A register printed. Every byte of the space lent for it is written.
 #[unsafe(no_mangle)]
 pub extern "C" fn zelmotar_print(words: &[u32], top: usize, reg: usize, space: &mut [u8]) -> Text
     ensures { Prints words.now top reg space.old result space.new }
 {
-    match text::print(words, top, reg, space) {
-        Printed::Done(length) => Text {
-            status: 0,
-            rule: 0,
-            value: 0,
-            length,
-        },
-        Printed::Refused(why) => {
-            let n = refusal(why);
-            no_text(n.status, n.rule, n.value)
-        }
-        Printed::NoRegister => no_text(20, 0, 0),
-        Printed::TooDeep => no_text(21, 0, 0),
-        Printed::ShortSpace => no_text(22, 0, 0),
+    let (n, length) = match text::print(words, top, reg, space) {
+        Ok(length) => (DONE, length),
+        Err(no_text) => (no_text.into(), 0),
+    };
+    Text {
+        status: n.status,
+        rule: n.rule,
+        value: n.value,
+        length,
     }
 }
 
@@ -196,37 +132,21 @@ pub struct Entry {
     pub top: usize,
 }
 
-// Nothing is damaged.
-fn entry_with(status: u32, value: usize, top: usize) -> Entry
-    ensures { result ≡ record { status = status; rule = 0; value = value; top = top } }
-{
-    Entry {
-        status,
-        rule: 0,
-        value,
-        top,
-    }
-}
-
 // A text typed into a register. The text is only read.
 #[unsafe(no_mangle)]
 pub extern "C" fn zelmotar_type(words: &mut [u32], top: usize, reg: usize, text: &[u8]) -> Entry
     ensures { Types words.old top reg text.now result words.new }
 {
-    match typing::type_in(words, top, reg, text) {
-        Typed::Done(end) => entry_with(0, 0, end),
-        Typed::Refused(why) => {
-            let n = refusal(why);
-            Entry {
-                status: n.status,
-                rule: n.rule,
-                value: n.value,
-                top,
-            }
-        }
-        Typed::NoRegister => entry_with(20, 0, top),
-        Typed::BadText(fault, at) => entry_with(fault_number(fault), at, top),
-        Typed::NoRoom(low) => entry_with(16, 0, low),
+    let (n, end) = match typing::type_in(words, top, reg, text) {
+        Ok(end) => (DONE, end),
+        Err(why @ NotTyped::NoRoom(low)) => (why.into(), low),
+        Err(why) => (why.into(), top),
+    };
+    Entry {
+        status: n.status,
+        rule: n.rule,
+        value: n.value,
+        top: end,
     }
 }
 
@@ -278,31 +198,17 @@ pub struct Filed {
 pub extern "C" fn zelmotar_save(words: &mut [u32], top: usize, space: &mut [u8]) -> Filed
     ensures { Saves words.old top space.old result words.new space.new }
 {
-    match file::save(words, top, space) {
-        Saved::Done(low, length) => Filed {
-            status: 0,
-            rule: 0,
-            value: 0,
-            top: low,
-            length,
-        },
-        Saved::ShortSpace(low) => Filed {
-            status: 22,
-            rule: 0,
-            value: 0,
-            top: low,
-            length: 0,
-        },
-        Saved::Refused(why) => {
-            let r = refuse(why, top);
-            Filed {
-                status: r.status,
-                rule: r.rule,
-                value: r.value,
-                top: r.top,
-                length: 0,
-            }
-        }
+    let (r, length) = match file::save(words, top, space) {
+        Ok(saved) => (Reply::new(DONE, saved.top), saved.length),
+        Err(why @ NotSaved::ShortSpace(low)) => (Reply::new(why.into(), low), 0),
+        Err(why) => (Reply::new(why.into(), top), 0),
+    };
+    Filed {
+        status: r.status,
+        rule: r.rule,
+        value: r.value,
+        top: r.top,
+        length,
     }
 }
 
@@ -312,13 +218,7 @@ pub extern "C" fn zelmotar_load(words: &mut [u32], file: &[u8]) -> Reply
     ensures { Loads file.now words.old result words.new }
 {
     match file::load(words, file) {
-        Loaded::Ready(top) => reply_with(0, 0, top),
-        Loaded::ShortFile => reply_with(30, 0, 0),
-        Loaded::BadEdition => reply_with(31, 0, 0),
-        Loaded::BadDistance => reply_with(32, 0, 0),
-        Loaded::BadCapacity => reply_with(33, 0, 0),
-        Loaded::WrongSlice => reply_with(35, 0, 0),
-        Loaded::Damaged(cell, rule) => refuse(Unsound::Damaged(cell, rule), 0),
-        Loaded::NotCollected => reply_with(34, 0, 0),
+        Ok(top) => Reply::new(DONE, top),
+        Err(not_loaded) => Reply::new(not_loaded.into(), 0),
     }
 }

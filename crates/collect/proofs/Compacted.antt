@@ -1,5 +1,6 @@
 -- The sweep and the pass up, one after the other: what they leave of a sound store is the collected store, word for
 -- word. In order:
+--   Packed, packed  what the sweep leaves, where it packs
 --   gone, top_is  the number of unreached cells, and the new `top`
 --   lowerable, settleable  what the pass up asks for
 --   compacted     the collected store;  not_lowered  where no cell is unreached
@@ -8,6 +9,7 @@ use mathlib.Core.Path.{◌≡◌, refl, sym, ◌∙◌, ap, subst}
 use mathlib.Core.Bool.{Bool, true, false, not, ◌||◌, false≢true}
 use mathlib.Core.List.{List}
 use Prim.Native.Nat.{ℕ, ◌+◌, ◌-◌, ◌*◌, ◌/◌, ◌^◌, ◌≤◌, ◌<◌}
+use native.Mathlib.Nat.{sub-zero}
 use native.Mathlib.Omega.{arith}
 use native.Mathlib.Decide.{dec_lt}
 use lib.Dec.{ltb}
@@ -27,7 +29,7 @@ use Rattle.collect.specs.Chain.{placed_cell}
 use Rattle.collect.specs.Step.{lowered}
 use Rattle.collect.specs.Phases.{Sweeping}
 use Rattle.collect.specs.Passes.{Sweeps}
-use Rattle.collect.specs.Lowering.{Layable, Lowerable, Lowers, Settleable, Settles, Cleared}
+use Rattle.collect.specs.Lowering.{Layable, Lowerable, Lowers, Cleared}
 use Rattle.meaning.proofs.sound.Fields.{Fields, cell_fields, ends_in}
 use Rattle.collect.proofs.heap.Order.{holder_full}
 use Rattle.collect.proofs.heap.Places.{new_bound, place_own, place_packed, place_up}
@@ -62,12 +64,23 @@ module _ (ws : List ℕ) (top : ℕ) (s : S.Sound first_heap_cell ws top) where
   kept_live : (c : ℕ) → h.live c ≡ true → Kept c
   kept_live c l = rw (le-ltb c first_heap_cell (P.heap c l).0) l
 
-  module _ (s₁ : List ℕ) (dead : ℕ) (w : Sweeps ws s₁ top true dead) where
-    swept : Sweeping h s₁ top
-    swept = (w h (begun first_heap_cell ws top true p s refl)).0
-
+  -- what the sweep leaves: every reached cell went up by the number of unreached ones above it
+  pub record Packed (s₁ : List ℕ) (dead : ℕ) : Type 0 where
+    pub swept : Sweeping h s₁ top
     pub gone : dead + new first_heap_cell ws top top ≡ top
-    gone = (w h (begun first_heap_cell ws top true p s refl)).1
+
+  pub packed : {lifts : ℕ → ℕ → Type 0} {s₁ : List ℕ} (dead : ℕ) → Sweeps ws s₁ top lifts dead
+      → ((n d : ℕ) → lifts n d → d ≡ n) → Packed s₁ dead
+  packed dead w up =
+      let k = w h (begun first_heap_cell ws top true p s refl up) in
+      record { swept = k.0; gone = k.1 }
+
+  module _ {s₁ : List ℕ} {dead : ℕ} (w : Packed s₁ dead) where
+    swept : Sweeping h s₁ top
+    swept = w.swept
+
+    gone : dead + new first_heap_cell ws top top ≡ top
+    gone = w.gone
 
     pub top_is : top - dead ≡ collected_top first_heap_cell ws top
     top_is = omega (arith, gone, new_last first_heap_cell ws top p s)
@@ -110,11 +123,11 @@ module _ (ws : List ℕ) (top : ℕ) (s : S.Sound first_heap_cell ws top) where
             absurd (false≢true (sym (sym (holder_full h c k) ∙ q)
             ∙ sym (ap (λ (x : ChainCell). full x.br x.r.num) e ∙ rw q refl) ∙ f))
 
-    pub lowerable : Lowerable s₁ top dead
+    pub lowerable : Lowerable s₁ (first_heap_cell + dead) top dead dead
     lowerable = record {
+      apart = omega arith;
       some = omega (arith, gone, new_bound h P top s.low (omega arith));
       room = swept.frame.room;
-      len = swept.frame.len;
       cells = λ i a b.
           let o = place_onto h P refl dead gone i a b in
           layable s₁ i (i - dead) o.0 (kept_live o.0 o.1)
@@ -122,12 +135,18 @@ module _ (ws : List ℕ) (top : ℕ) (s : S.Sound first_heap_cell ws top) where
           (omega (arith, swept.frame.room));
     }
 
-    pub settleable : (s₂ : List ℕ) → length s₂ ≡ length s₁ → Lowers s₁ s₂ top dead → Settleable s₂ dead
-    settleable s₂ len t r lt =
-        layable s₂ r r r (kept_reg r lt) (register s₂ t r lt) (omega (arith, swept.frame.room, s.low))
+    pub settleable : {s₂ : List ℕ} → length s₂ ≡ length s₁ → Lowers s₁ s₂ (first_heap_cell + dead) top dead dead
+        → Lowerable s₂ 0 first_heap_cell 0 dead
+    settleable {s₂} len t = record {
+      apart = omega arith;
+      some = omega arith;
+      room = omega (arith, swept.frame.room, s.low);
+      cells = λ r z lt.
+          layable s₂ r (r - 0) r (kept_reg r lt) (register r lt) (omega (arith, swept.frame.room, s.low));
+    }
       where
-        register : (s₂ : List ℕ) → Lowers s₁ s₂ top dead → (r : ℕ) → r < first_heap_cell → cell s₂ r ≡ placed_cell h r
-        register s₂ t r lt =
+        register : (r : ℕ) → r < first_heap_cell → cell s₂ r ≡ placed_cell h r
+        register r lt =
             t.rest r (λ q. absurd (omega arith))
             ∙ subst (λ (x : ℕ). cell s₁ x ≡ placed_cell h r) (place_own h P r lt) (at_place r (kept_reg r lt))
 
@@ -194,20 +213,27 @@ module _ (ws : List ℕ) (top : ℕ) (s : S.Sound first_heap_cell ws top) where
         words_of_cells (λ j. get_or v j 0 ≡ 0) (new first_heap_cell ws top top) (length ws / 2) free i
         (omega (arith, new_last first_heap_cell ws top p s)) (omega (arith, s.allowed.even)))
 
-    pub compacted : (s₂ s₃ s₄ : List ℕ) → Lowers s₁ s₂ top dead → Settles s₂ s₃ dead → Cleared s₃ s₄ (top - dead) top
+    pub compacted : {s₂ s₃ s₄ : List ℕ} → Lowers s₁ s₂ (first_heap_cell + dead) top dead dead
+        → Lowers s₂ s₃ 0 first_heap_cell 0 dead → Cleared s₃ s₄ (top - dead) top
         → length s₄ ≡ length ws → ((i : ℕ) → get_or s₄ i 0 < 2 ^ 32) → s₄ ≡ collected first_heap_cell ws top
-    compacted s₂ s₃ s₄ t₂ t₃ t₄ len fits = is_compacted s₄ len fits regs heap free
+    compacted {s₂} {s₃} {s₄} t₂ t₃ t₄ len fits = is_compacted s₄ len fits regs heap free
       where
         stays : (c : ℕ) → (new first_heap_cell ws top top ≤ c → top ≤ c) → cell s₄ c ≡ cell s₃ c
         stays c q = let e = t₄.kept c (λ z. q (omega (arith, gone))) in rw (e.0, e.1)
 
+        settled : (c : ℕ) → c < first_heap_cell → cell s₃ c ≡ lowered dead (cell s₂ c)
+        settled c lt = rw sub-zero at (t₃.down c (omega arith) lt)
+
+        above : (c : ℕ) → first_heap_cell ≤ c → cell s₃ c ≡ cell s₂ c
+        above c le = t₃.rest c (λ q. omega arith)
+
         regs : (c : ℕ) → c < first_heap_cell → cell s₄ c ≡ lowered dead (placed_cell h c)
         regs c lt =
             stays c (λ q. omega (arith, new_bound h P top s.low (omega arith)))
-            ∙ t₃ c ∙ rw (lt-ltb c first_heap_cell lt) (ap (lowered dead) (
+            ∙ settled c lt ∙ ap (lowered dead) (
             t₂.rest c (λ q. absurd (omega arith))
             ∙ subst (λ (x : ℕ). cell s₁ x ≡ placed_cell h c) (place_own h P c lt) (at_place c (kept_reg c lt))
-            ))
+            )
 
         heap : (c : ℕ) → h.live c ≡ true → cell s₄ (new first_heap_cell ws top c) ≡ lowered dead (placed_cell h c)
         heap c l =
@@ -217,9 +243,9 @@ module _ (ws : List ℕ) (top : ℕ) (s : S.Sound first_heap_cell ws top) where
             let f = new_bound h P c z.0 (omega (arith, z)) in
             let q : place h c - dead ≡ new first_heap_cell ws top c = omega (arith, e) in
             stays (new first_heap_cell ws top c) (λ y. omega (arith, e, u, gone))
-            ∙ t₃ (new first_heap_cell ws top c) ∙ rw (le-ltb (new first_heap_cell ws top c) first_heap_cell f.0)
-            (subst (λ (x : ℕ). cell s₂ x ≡ lowered dead (cell s₁ (place h c))) q
-            (t₂.down (place h c) (omega (arith, e, f.0)) u.1) ∙ ap (lowered dead) (at_place c (kept_live c l)))
+            ∙ above (new first_heap_cell ws top c) f.0
+            ∙ subst (λ (x : ℕ). cell s₂ x ≡ lowered dead (cell s₁ (place h c))) q
+            (t₂.down (place h c) (omega (arith, e, f.0)) u.1) ∙ ap (lowered dead) (at_place c (kept_live c l))
 
         free : (c : ℕ) → new first_heap_cell ws top top ≤ c → c < length ws / 2 → (first_word s₄ c ≡ 0)
             × (second_word s₄ c ≡ 0)
@@ -231,8 +257,7 @@ module _ (ws : List ℕ) (top : ℕ) (s : S.Sound first_heap_cell ws top) where
                 let z : top ≤ c = omega arith in
                 let f : first_heap_cell ≤ c = omega (arith, s.low) in
                 code_is s₄ c 0 0 (fits (2 * c + 1))
-                (stays c (λ y. z) ∙ t₃ c ∙ rw (le-ltb c first_heap_cell f)
-                (t₂.rest c (λ y. omega arith) ∙ free_cell c z lt))
+                (stays c (λ y. z) ∙ above c f ∙ t₂.rest c (λ y. omega arith) ∙ free_cell c z lt)
 
     -- where no cell is unreached, the sweep has done it all
     pub not_lowered : dead ≡ 0 → length s₁ ≡ length ws → ((i : ℕ) → get_or s₁ i 0 < 2 ^ 32)

@@ -2,24 +2,24 @@
 use mathlib.Core.Path.{◌≡◌, refl, sym, ap, ◌∙◌}
 use mathlib.Core.List.{List}
 use Prim.Native.Nat.{ℕ}
+use Rattle.std.specs.Prelude.{Result, Ok, Err}
 use Rattle.meaning.specs.Verdicts.{Done, if_sound}
+use Rattle.store.specs.declared.Unsound.{Unsound}
 use Rattle.store.proofs.Refusals.{unsound_of, unsound_of_back, if_sound_refusal}
 use Rattle.collect.specs.Answers.{collected_in}
 use Rattle.collect.specs.Unique.{OneCollect}
 use Rattle.collect.specs.declared.Collected.{Collected}
-use Rattle.collect.specs.declared.Collected.TheVariants as collected
 
-abbrev answer_of : Done → Collected
-answer_of d =
-    if_sound d.verdict (collected.Done d.verdict.value d.top) (collected.Refused (unsound_of d.verdict))
+abbrev answer_of : Done → Result Collected Unsound
+answer_of d = if_sound d.verdict (Ok (record { live = d.verdict.value; top = d.top })) (Err (unsound_of d.verdict))
 
-answer_back : (r : Collected) (vs : List ℕ) (top : ℕ) → answer_of (collected_in r vs top) ≡ r
-answer_back (collected.Done n t) vs top = refl
-answer_back (collected.Refused u) vs top = if_sound_refusal u _ _ ∙ ap collected.Refused (unsound_of_back u)
+answer_back : (r : Result Collected Unsound) (vs : List ℕ) (top : ℕ) → answer_of (collected_in r vs top) ≡ r
+answer_back (Ok n) vs top = refl
+answer_back (Err u) vs top = if_sound_refusal u _ _ ∙ ap Err (unsound_of_back u)
 
-words_back : (r : Collected) (vs : List ℕ) (top : ℕ) → (collected_in r vs top).words ≡ vs
-words_back (collected.Done n t) vs top = refl
-words_back (collected.Refused u) vs top = refl
+words_back : (r : Result Collected Unsound) (vs : List ℕ) (top : ℕ) → (collected_in r vs top).words ≡ vs
+words_back (Ok n) vs top = refl
+words_back (Err u) vs top = refl
 
 pub one_collect : OneCollect
 one_collect ws top r r' vs vs' p q =

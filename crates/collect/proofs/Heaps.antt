@@ -5,7 +5,7 @@
 -- Assumes nothing.
 use mathlib.Core.Path.{◌≡◌, refl, sym, ◌∙◌, ap, subst}
 use mathlib.Core.Logic.{◌⊎◌, inl, inr}
-use mathlib.Core.Bool.{Bool, true, false, ◌||◌, true≢false, false≢true}
+use mathlib.Core.Bool.{Bool, true, false, cond, ◌||◌, true≢false, false≢true}
 use mathlib.Core.List.{List, [], ◌∷◌}
 use Prim.Native.Nat.{ℕ, ◌^◌, ◌≤◌, ◌<◌}
 use native.Mathlib.Omega.{arith}
@@ -158,8 +158,9 @@ module _ (F : ℕ) (ws : List ℕ) (top : ℕ) (packs : Bool) (p : 0 < F) (s : S
     dead = λ c f l h. old_cell_lem c;
   }
 
-  pub begun : F ≡ first_heap_cell → Begun g ws top packs
-  begun first = record {
+  pub begun : {lifts : ℕ → ℕ → Type 0} → F ≡ first_heap_cell
+      → ((dead d : ℕ) → lifts dead d → d ≡ cond packs dead 0) → Begun g ws top lifts
+  begun first up = record {
     phase = record {
       frame = record {
         proper = proper;
@@ -171,5 +172,5 @@ module _ (F : ℕ) (ws : List ℕ) (top : ℕ) (packs : Bool) (p : 0 < F) (s : S
       at = before;
     };
     ends = refl;
-    mode = refl;
+    up = up;
   }

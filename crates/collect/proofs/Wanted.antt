@@ -1,15 +1,14 @@
 -- A collection that is wanted only where it frees enough cells, as the code goes about it. In order:
 --   low_top            the collected store's `top` is no greater than `top`
---   too_few, enough    what is left where it frees too few, and where it frees enough
 --   at_once            where one cell is enough the store may be collected untried: with none to free it stays as it is
 -- Assumes nothing.
 use mathlib.Core.Path.{◌≡◌, refl, ◌∙◌}
 use mathlib.Core.Bool.{Bool, true, false, cond}
 use mathlib.Core.List.{List}
-use Prim.Native.Nat.{ℕ, ◌-◌, ◌≤◌, ◌<◌}
+use Prim.Native.Nat.{ℕ, ◌-◌, ◌≤◌}
 use native.Mathlib.Omega.{arith}
 use lib.Dec.{ltb}
-use borrow.Author.Tests.{ltb-true, lt-ltb, le-ltb}
+use borrow.Author.Tests.{ltb-true}
 use Rattle.meaning.specs.Limits.{first_heap_cell}
 use Rattle.meaning.specs.Sound.{Sound}
 use Rattle.meaning.specs.Collected.{collected, collected_top}
@@ -23,12 +22,6 @@ module _ (ws : List ℕ) (top wanted : ℕ) (s : Sound first_heap_cell ws top) w
   -- the words that are left where the collected store's `top` is r
   abbrev left : ℕ → List ℕ
   left r = cond (ltb (top - r) wanted) ws (collected first_heap_cell ws top)
-
-  pub too_few : {v : List ℕ} (r : ℕ) → top - r < wanted → v ≡ ws → v ≡ left r
-  too_few r h e = rw (lt-ltb (top - r) wanted h) e
-
-  pub enough : {v : List ℕ} (r : ℕ) → wanted ≤ top - r → v ≡ collected first_heap_cell ws top → v ≡ left r
-  enough r h e = rw (le-ltb (top - r) wanted h) e
 
   pub at_once : {v : List ℕ} (r : ℕ) → r ≡ collected_top first_heap_cell ws top → wanted ≤ 1
       → v ≡ collected first_heap_cell ws top → v ≡ left r

@@ -1,3 +1,2 @@
 -- What the functions on chains make of the words. Assumes nothing.
-pub mod Linking
 pub mod Releasing

@@ -1,9 +1,8 @@
 -- What the functions of the pass up, which lowers what the sweep has packed, ask for and leave, on words.
 -- Assumes nothing.
-use Rattle.std.specs.Prelude.{◌≡◌, true, cond, List, ℕ, ◌+◌, ◌-◌, ◌*◌, ◌≤◌, ◌<◌, ltb, length}
+use Rattle.std.specs.Prelude.{◌≡◌, true, List, ℕ, ◌+◌, ◌-◌, ◌*◌, ◌≤◌, ◌<◌, length}
 use Rattle.words.specs.Cell.{first_word, second_word}
 use Rattle.words.specs.Second.{decode, full_word}
-use Rattle.meaning.specs.Limits.{first_heap_cell, limit}
 use Rattle.collect.specs.Cells.{linked, cell}
 use Rattle.collect.specs.Step.{Laid, lowered}
 use Rattle.collect.specs.Passes.{PlainWord}
@@ -17,23 +16,17 @@ pub record Layable (s : List ℕ) (to a w d : ℕ) : Type 0 where
 abbrev pub Lays : List ℕ → List ℕ → ℕ → ℕ → ℕ → ℕ → Type 0
 Lays s s' to a w d = Laid (cell s) (cell s') to (lowered d (linked a (decode w)))
 
--- the heap cells from d past the first one up to `top` move down by d, and so do their ends
-pub record Lowerable (s : List ℕ) (top d : ℕ) : Type 0 where
-  pub some : first_heap_cell + d ≤ top
-  pub room : 2 * top ≤ length s
-  pub len : length s ≤ 2 * limit
-  pub cells : (i : ℕ) → first_heap_cell + d ≤ i → i < top → Layable s (i - d) (first_word s i) (second_word s i) d
+-- The cells from `low` up to `high` move down by `by`, and their ends by d. In the heap `by` is d; the registers stay
+-- where they are.
+pub record Lowerable (s : List ℕ) (low high by d : ℕ) : Type 0 where
+  pub apart : by ≤ low
+  pub some : low ≤ high
+  pub room : 2 * high ≤ length s
+  pub cells : (i : ℕ) → low ≤ i → i < high → Layable s (i - by) (first_word s i) (second_word s i) d
 
-pub record Lowers (s s' : List ℕ) (top d : ℕ) : Type 0 where
-  pub down : (i : ℕ) → first_heap_cell + d ≤ i → i < top → cell s' (i - d) ≡ lowered d (cell s i)
-  pub rest : (c : ℕ) → (first_heap_cell ≤ c → top ≤ c + d) → cell s' c ≡ cell s c
-
--- the registers stay where they are
-abbrev pub Settleable : List ℕ → ℕ → Type 0
-Settleable s d = (r : ℕ) → r < first_heap_cell → Layable s r (first_word s r) (second_word s r) d
-
-abbrev pub Settles : List ℕ → List ℕ → ℕ → Type 0
-Settles s s' d = (c : ℕ) → cell s' c ≡ cond (ltb c first_heap_cell) (lowered d (cell s c)) (cell s c)
+pub record Lowers (s s' : List ℕ) (low high by d : ℕ) : Type 0 where
+  pub down : (i : ℕ) → low ≤ i → i < high → cell s' (i - by) ≡ lowered d (cell s i)
+  pub rest : (c : ℕ) → (low ≤ c + by → high ≤ c + by) → cell s' c ≡ cell s c
 
 -- the cells from m up to n are two zero words, the others as they were
 pub record Cleared (s s' : List ℕ) (m n : ℕ) : Type 0 where

@@ -1,7 +1,7 @@
 -- What the functions of the collector ask for and leave, on words: a function is asked for some heap in its phase, and
 -- leaves every such heap in the next. In order: a cell put down, then the sweep. Lowering has the pass up.
 -- Assumes nothing.
-use Rattle.std.specs.Prelude.{◌≡◌, ◌≢◌, Bool, true, false, List, ℕ, suc, ◌+◌, ◌*◌, ◌^◌, ◌≤◌, ◌<◌, length}
+use Rattle.std.specs.Prelude.{◌≡◌, ◌≢◌, true, false, List, ℕ, suc, ◌+◌, ◌*◌, ◌^◌, ◌≤◌, ◌<◌, length}
 use Rattle.words.specs.Cell.{first_word, put_cell}
 use Rattle.words.specs.Second.{decode, plain, full_word}
 use Rattle.meaning.specs.Limits.{limit}
@@ -74,9 +74,9 @@ abbrev pub Passes : List ℕ → List ℕ → ℕ → ℕ → ℕ → ℕ → Ty
 Passes s s' c w d r = (g : Heap) → Head g s c w d → Passed g s' c r
 
 -- the whole sweep, which gives the number of unreached heap cells below `top`
-abbrev pub Sweepable : List ℕ → ℕ → Bool → Type 0
-Sweepable s top packs = (g : Heap) × Begun g s top packs
+abbrev pub Sweepable : List ℕ → ℕ → (ℕ → ℕ → Type 0) → Type 0
+Sweepable s top lifts = (g : Heap) × Begun g s top lifts
 
-abbrev pub Sweeps : List ℕ → List ℕ → ℕ → Bool → ℕ → Type 0
-Sweeps s s' top packs dead =
-    (g : Heap) → Begun g s top packs → Sweeping g s' g.T × (dead + g.new g.T ≡ g.T)
+abbrev pub Sweeps : List ℕ → List ℕ → ℕ → (ℕ → ℕ → Type 0) → ℕ → Type 0
+Sweeps s s' top lifts dead =
+    (g : Heap) → Begun g s top lifts → Sweeping g s' g.T × (dead + g.new g.T ≡ g.T)

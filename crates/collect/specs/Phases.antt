@@ -7,7 +7,7 @@
 --   Turn      a reached cell's turn;  Head  that of one with a chain, with which a run of cells becomes known
 --   Passed    the turns of that run are over
 -- Assumes nothing.
-use Rattle.std.specs.Prelude.{◌≡◌, Bool, true, List, ℕ, suc, ◌+◌, ◌*◌, ◌^◌, ◌≤◌, ◌<◌, length}
+use Rattle.std.specs.Prelude.{◌≡◌, true, cond, List, ℕ, suc, ◌+◌, ◌*◌, ◌^◌, ◌≤◌, ◌<◌, length}
 use Rattle.words.specs.Cell.{second_word}
 use Rattle.words.specs.Second.{decode}
 use Rattle.meaning.specs.Limits.{first_heap_cell, limit}
@@ -28,11 +28,12 @@ pub record Sweeping (g : Heap) (s : List ℕ) (j : ℕ) : Type 0 where
   pub frame : Frame g s
   pub at : SweptTo g j j (cell s)
 
--- nothing is done yet; the sweep goes over the heap cells below `top`
-pub record Begun (g : Heap) (s : List ℕ) (top : ℕ) (packs : Bool) : Type 0 where
+-- Nothing is done yet. The sweep goes over the heap cells below `top`. Where it packs, a reached cell goes up by the
+-- number of unreached ones above it, and else by none: `lifts` says what may be answered for how many.
+pub record Begun (g : Heap) (s : List ℕ) (top : ℕ) (lifts : ℕ → ℕ → Type 0) : Type 0 where
   pub phase : Sweeping g s 0
   pub ends : g.T ≡ top
-  pub mode : g.packs ≡ packs
+  pub up : (dead d : ℕ) → lifts dead d → d ≡ cond g.packs dead 0
 
 -- it is the turn of the reached cell c, whose second word is w, and whose place is `to`
 pub record Turn (g : Heap) (s : List ℕ) (c w to low : ℕ) : Type 0 where

@@ -1,6 +1,5 @@
 // Chains: a holder of cell k is a register or reached bracket whose right end is k. The chain of k starts in its first
 // word, under lc, and runs through the right ends of its holders, under rc; the last carries k's own first word.
-ghost use Rattle.std.specs.Prelude.{◌≡◌, min};
 ghost use Rattle.collect.specs.Passes.{Linkable, Links, MyTurn, Releases};
 
 // Puts the bracket with the words a and w down at m, with its length less one in place of its left end, and m at the
@@ -25,21 +24,14 @@ pub struct Released {
     pub low: usize,
 }
 
-fn smaller(a: usize, b: usize) -> usize
-    ensures { result ≡ min a b }
-{
-    if a < b { a } else { b }
-}
-
 // Undoes the chain of c, whose second word is w: each holder gets the right end `to` and a left end as far below it as
 // it was. All that it holds is known from then on. It ends because each turn takes a chain flag away.
-pub fn release(ws: &mut [u32], c: usize, w: u32, to: u32, low: usize) -> Released
+pub fn release(ws: &mut [u32], c: usize, w: u32, to: u32, mut low: usize) -> Released
     requires { MyTurn ws.old c w to low }
     ensures { Releases ws.old ws.new c w to low result.first result.second result.low }
 {
     let mut first = words::first_word(ws, c);
     let mut second = w;
-    let mut low = low;
     while words::has_left_chain(second) {
         let k = first as usize;
         let n = words::first_word(ws, k);
@@ -47,11 +39,7 @@ pub fn release(ws: &mut [u32], c: usize, w: u32, to: u32, low: usize) -> Release
         words::put_cell(ws, k, to - n, words::with_right_end(b, to));
         first = words::right_end(b);
         second = words::take_right_link(second, b);
-        low = smaller(c - n as usize, low);
+        low = (c - n as usize).min(low);
     }
-    Released {
-        first: first,
-        second: second,
-        low: low,
-    }
+    Released { first, second, low }
 }

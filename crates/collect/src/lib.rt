@@ -2,7 +2,7 @@
 // heap point down and registers never move, so one sweep down can find what is reached, link and mend; one pass up then
 // moves the cells.
 //
-//     Sound ──Sweeps──> packed against `top` ──Lowers──> packed low ──Settles──> registers too ──Cleared──> Sound
+//     Sound ──Sweeps──> packed against `top` ──Lowers──> packed low ──Lowers──> registers too ──Cleared──> Sound
 //
 // In the sweep a bracket is, in turn: as it was; on the chain of its right end, with its length less one in place of
 // its left end; off that chain, both ends mended. No cell is marked: what has a chain, or lies within a run, is
@@ -10,8 +10,7 @@
 //
 // Sweeps   the reached cells lie in order below `top`, without gaps, and both ends of a reference are where the cells
 //          that it named lie now.
-// Lowers   they have moved down to the first heap cell, and their ends by as much.
-// Settles  so have the registers' ends.
+// Lowers   they have moved down to the first heap cell, and their ends by as much; then the registers' ends have.
 // Cleared  the cells that have come free are zero.
 // Sweeps is a definition of specs/Passes.antt, the others of specs/Lowering.antt; the phases within the sweep are in
 // specs/Phases.antt.
@@ -24,7 +23,7 @@ ghost use Rattle.meaning.specs.Reach.{live};
 ghost use Rattle.meaning.specs.Collected.{collected, collected_top};
 ghost use Rattle.collect.specs.Answers.{Collects};
 
-use store::{Checked, Unsound};
+use store::Unsound;
 
 mod chains;
 mod lower;
@@ -36,12 +35,13 @@ pub fn collect_sound(ws: &mut [u32], top: usize) -> usize
     ensures { (ws.new ≡ collected first_heap_cell ws.old top)
         × (result ≡ collected_top first_heap_cell ws.old top) }
 {
-    let dead = sweep::sweep(ws, top, true);
+    let dead = sweep::sweep(ws, top, |n| n);
     if dead == 0 {
         return top;
     }
-    lower::lower_heap(ws, top, dead);
-    lower::lower_registers(ws, dead as u32);
+    let d = dead as u32;
+    lower::lower(ws, meaning::FIRST_HEAP_CELL + dead, top, dead, d);
+    lower::lower(ws, 0, meaning::FIRST_HEAP_CELL, 0, d);
     lower::clear(ws, top - dead, top);
     top - dead
 }
@@ -51,7 +51,7 @@ pub fn live(ws: &mut [u32], top: usize) -> usize
     requires { Sound first_heap_cell ws.old top }
     ensures { (ws.new ≡ ws.old) × (result ≡ live first_heap_cell ws.old top) }
 {
-    let dead = sweep::sweep(ws, top, false);
+    let dead = sweep::sweep(ws, top, |_| 0);
     top - meaning::FIRST_HEAP_CELL - dead
 }
 
@@ -73,23 +73,21 @@ pub fn collect_for(ws: &mut [u32], top: usize, wanted: usize) -> usize
     collect_sound(ws, top)
 }
 
-// What collecting answers: live and the new `top`, or why it is refused.
-#[derive(Clone, Copy)]
-pub enum Collected {
-    Done(usize, usize),
-    Refused(Unsound),
+// What collecting answers: live, and the new `top`.
+#[derive(Clone, Copy, PartialEq, Eq)]
+pub struct Collected {
+    pub live: usize,
+    pub top: usize,
 }
 
 // Collects any store that is sound; every other is left as it was lent.
-pub fn collect(ws: &mut [u32], top: usize) -> Collected
+pub fn collect(ws: &mut [u32], top: usize) -> Result<Collected, Unsound>
     ensures { Collects ws.old top result ws.new }
 {
-    let found = store::check(ws, top);
-    match found {
-        Checked::Sound => {
-            let new = collect_sound(ws, top);
-            Collected::Done(new - meaning::FIRST_HEAP_CELL, new)
-        }
-        Checked::Refused(why) => Collected::Refused(why),
-    }
+    store::check(ws, top)?;
+    let new = collect_sound(ws, top);
+    Ok(Collected {
+        live: new - meaning::FIRST_HEAP_CELL,
+        top: new,
+    })
 }

@@ -4,7 +4,6 @@
 // A holder is linked to the chain of its right end when its turn comes. The chain tells the right end, in its turn,
 // that it is reached, how far down its holders reach, and whose ends to mend; then it is undone. The cells from `low`
 // up to where the sweep stands are known to be reached. Where none is known, those without a chain are held by nothing.
-ghost use Rattle.std.specs.Prelude.{◌≡◌, cond};
 ghost use Rattle.collect.specs.Passes.{Standable, Stood, MyTurn, Turned, Untouched, HoldsRegisters};
 ghost use Rattle.collect.specs.Passes.{AtHead, Passes, Sweepable, Sweeps};
 
@@ -27,12 +26,10 @@ fn hold_registers(ws: &mut [u32])
     requires { Untouched ws.old }
     ensures { HoldsRegisters ws.old ws.new }
 {
-    let mut r: usize = 0;
-    while r < meaning::FIRST_HEAP_CELL {
+    for r in 0..meaning::FIRST_HEAP_CELL {
         let a = words::first_word(ws, r);
         let w = words::second_word(ws, r);
         stand(ws, r, a, w);
-        r += 1;
     }
 }
 
@@ -48,12 +45,11 @@ fn turn(ws: &mut [u32], c: usize, w: u32, to: usize, low: usize) -> usize
 
 // The turns of c, whose second word is w, and of the cells below it that become known; each goes d cells up. Gives the
 // last.
-fn sweep_known(ws: &mut [u32], c: usize, w: u32, d: usize) -> usize
+fn sweep_known(ws: &mut [u32], mut c: usize, w: u32, d: usize) -> usize
     requires { AtHead ws.old c w d }
     ensures { Passes ws.old ws.new c w d result }
 {
     let mut low = turn(ws, c, w, c + d, c + 1);
-    let mut c = c;
     while low < c {
         c -= 1;
         let w = words::second_word(ws, c);
@@ -62,18 +58,12 @@ fn sweep_known(ws: &mut [u32], c: usize, w: u32, d: usize) -> usize
     c
 }
 
-// How far up a reached cell goes that has so many unreached ones above it.
-fn lift(dead: usize, packs: bool) -> usize
-    ensures { result ≡ cond packs dead 0 }
-{
-    if packs { dead } else { 0 }
-}
-
-// All turns. Gives the number of unreached cells. With `packs` the reached ones end packed against `top`, their ends
-// too; without, every word ends as it began.
-pub fn sweep(ws: &mut [u32], top: usize, packs: bool) -> usize
-    requires { Sweepable ws.old top packs }
-    ensures { Sweeps ws.old ws.new top packs result }
+// All turns. Gives the number of unreached cells. A reached cell with n of them above it goes `lift(n)` cells up. Where
+// that is n, the reached cells end packed against `top`, their ends too; where it is 0, every word ends as it began.
+pub fn sweep<F: Fn(usize) -> usize>(ws: &mut [u32], top: usize, lift: F) -> usize
+    requires start { Sweepable ws.old top (F.post lift) }
+    requires callable { F.IsAlwaysCallable lift }
+    ensures { Sweeps ws.old ws.new top (F.post lift) result }
 {
     hold_registers(ws);
     let mut dead: usize = 0;
@@ -82,7 +72,7 @@ pub fn sweep(ws: &mut [u32], top: usize, packs: bool) -> usize
         c -= 1;
         let w = words::second_word(ws, c);
         if words::has_left_chain(w) {
-            c = sweep_known(ws, c, w, lift(dead, packs));
+            c = sweep_known(ws, c, w, lift(dead));
         } else {
             dead += 1;
         }

@@ -4,6 +4,7 @@
 --   done, short, kept, save_meets    a store that is saved;  what is left, by the answer
 --   save_then_load, load_then_save   back and forth
 -- Assumes nothing.
+use Rattle.std.specs.Prelude.{Result, Ok, Err}
 use mathlib.Core.Path.{◌≡◌, refl, sym, ap, ◌∙◌, subst}
 use mathlib.Core.Logic.{inl, inr, ◌≢◌}
 use mathlib.Core.Bool.{Bool, true, false}
@@ -23,10 +24,11 @@ use Rattle.store.specs.Answers.{refusal_of}
 use Rattle.store.specs.declared.Unsound.{Unsound}
 use Rattle.store.specs.declared.Unsound.TheVariants as unsound
 use Rattle.file.specs.Answers.{loaded_in, saved_in}
-use Rattle.file.specs.declared.Loaded.{Loaded}
-use Rattle.file.specs.declared.Loaded.TheVariants as loaded
+use Rattle.file.specs.declared.NotLoaded.{NotLoaded}
+use Rattle.file.specs.declared.NotLoaded.TheVariants as loaded
 use Rattle.file.specs.declared.Saved.{Saved}
-use Rattle.file.specs.declared.Saved.TheVariants as saved
+use Rattle.file.specs.declared.NotSaved.{NotSaved}
+use Rattle.file.specs.declared.NotSaved.TheVariants as saved
 use Rattle.file.proofs.Final.{one_load, one_save}
 use Rattle.promises.specs.Table.{OneOf}
 use Rattle.promises.specs.Files as tables
@@ -70,20 +72,20 @@ taken f bs ws d (tables.loaded p v s k a) z = record {
   len = s.long ∙ sym p.slice;
 }
 
-loading : (bs ws : List ℕ) (r : Loaded) (v : List ℕ) → LoadTable bs ws (loaded_in r v) → Loading bs ws r v
-loading bs ws (loaded.Ready t) v k =
-    let d = loaded_in (loaded.Ready t) v in
+loading : (bs ws : List ℕ) (r : Result ℕ NotLoaded) (v : List ℕ) → LoadTable bs ws (loaded_in r v) → Loading bs ws r v
+loading bs ws (Ok t) v k =
+    let d = loaded_in (Ok t) v in
     let f = first_of (file_edition bs) in
     let x = taken f bs ws d k.loads refl in
     let e = (first_of_lem (file_edition bs) x.kind).1 in
     (rw e at x.store, rw e at x.sound, rw e at x.all, x.len)
-loading bs ws loaded.ShortFile v k = (k.kept (λ z. omega arith)).0
-loading bs ws loaded.BadEdition v k = (k.kept (λ z. omega arith)).0
-loading bs ws loaded.BadDistance v k = (k.kept (λ z. omega arith)).0
-loading bs ws loaded.BadCapacity v k = (k.kept (λ z. omega arith)).0
-loading bs ws loaded.WrongSlice v k = (k.kept (λ z. omega arith)).0
-loading bs ws (loaded.Damaged c q) v k = (k.kept (λ z. omega arith)).0
-loading bs ws loaded.NotCollected v k = (k.kept (λ z. omega arith)).0
+loading bs ws (Err loaded.ShortFile) v k = (k.kept (λ z. omega arith)).0
+loading bs ws (Err loaded.BadEdition) v k = (k.kept (λ z. omega arith)).0
+loading bs ws (Err loaded.BadDistance) v k = (k.kept (λ z. omega arith)).0
+loading bs ws (Err loaded.BadCapacity) v k = (k.kept (λ z. omega arith)).0
+loading bs ws (Err loaded.WrongSlice) v k = (k.kept (λ z. omega arith)).0
+loading bs ws (Err (loaded.Damaged c q)) v k = (k.kept (λ z. omega arith)).0
+loading bs ws (Err loaded.NotCollected) v k = (k.kept (λ z. omega arith)).0
 
 pub load_meets : LoadMeets
 load_meets bs ws r v h =
@@ -98,10 +100,10 @@ module _ (ws : List ℕ) (top : ℕ) (out : List ℕ) where
 
   -- with these parts, by the status
   abbrev Left : file.Saved → Type 0
-  Left d = Saving ws top out (saved.Done d.top d.size) d.words d.space
+  Left d = Saving ws top out (Ok (record { top = d.top; length = d.size })) d.words d.space
 
   abbrev Short : file.Saved → Type 0
-  Short d = d.space ≡ replicate (length out) 0 → Saving ws top out (saved.ShortSpace d.top) d.words d.space
+  Short d = d.space ≡ replicate (length out) 0 → Saving ws top out (Err (saved.ShortSpace d.top)) d.words d.space
 
   done : (d : file.Saved) → As d → d.verdict.status ≡ 0 → Left d
   done d (tables.unsound v j n) z = absurd (n z)
@@ -133,13 +135,13 @@ module _ (ws : List ℕ) (top : ℕ) (out : List ℕ) where
   refusal_small unsound.BadTop z = omega (arith, z)
   refusal_small (unsound.Damaged c q) z = omega (arith, z)
 
-  saving : (r : Saved) (v a : List ℕ) → SaveTable edition first_heap_cell ws top (length out) (saved_in r v top a)
+  saving : (r : Result Saved NotSaved) (v a : List ℕ) → SaveTable edition first_heap_cell ws top (length out) (saved_in r v top a)
       → Saving ws top out r v a
-  saving (saved.Done t m) v a k = done (saved_in (saved.Done t m) v top a) k.saves refl
-  saving (saved.ShortSpace t) v a k =
-      short (saved_in (saved.ShortSpace t) v top a) k.saves refl (k.refused (λ z. omega arith)).1
-  saving (saved.Refused u) v a k =
-      let d = saved_in (saved.Refused u) v top a in
+  saving (Ok s) v a k = done (saved_in (Ok s) v top a) k.saves refl
+  saving (Err (saved.ShortSpace t)) v a k =
+      short (saved_in (Err (saved.ShortSpace t)) v top a) k.saves refl (k.refused (λ z. omega arith)).1
+  saving (Err (saved.Unsound u)) v a k =
+      let d = saved_in (Err (saved.Unsound u)) v top a in
       (kept d k.saves (refusal_not u) (refusal_small u), (k.refused (refusal_not u)).1)
 
 pub save_meets : SaveMeets
@@ -153,7 +155,7 @@ save_meets ws top out r v a h =
 
 -- what is loaded, by its parts
 restored_is : (ws : List ℕ) (top t m : ℕ) (v a : List ℕ) (l : Done)
-    → Restored first_heap_cell ws top (saved_in (saved.Done t m) v top a) l → loaded_in (loaded.Ready t) v ≡ l
+    → Restored first_heap_cell ws top (saved_in (Ok (record { top = t; length = m })) v top a) l → loaded_in (Ok t) v ≡ l
 restored_is ws top t m v a l k =
     λ j. record {
       verdict = ap (λ (d : Done). d.verdict) (sym k.loaded) j;
@@ -166,16 +168,16 @@ save_then_load ws top out t m v a h pre lent len r w l =
     let good : (save_in edition first_heap_cell ws top (length out)).verdict.status ≡ 0 =
     ap (λ (d : file.Saved). d.verdict.status) (sym h) in
     let bs = pre ++ take m a in
-    let k : Restored first_heap_cell ws top (saved_in (saved.Done t m) v top a) (load_in bs lent) =
+    let k : Restored first_heap_cell ws top (saved_in (Ok (record { top = t; length = m })) v top a) (load_in bs lent) =
     subst (λ (d : file.Saved). Restored first_heap_cell ws top d (load_in (file_in pre d) lent)) (sym h)
     (saved_loads edition first_heap_cell (omega arith) ((one_edition edition).0 refl) ws top (length out) pre lent good
     len) in
-    let x = one_load bs lent r (loaded.Ready t) w v l (restored_is ws top t m v a (load_in bs lent) k) in
+    let x = one_load bs lent r (Ok t) w v l (restored_is ws top t m v a (load_in bs lent) k) in
     (x.0, x.1, λ i g. rw (x.1, ← k.words) (k.registers i g), rw (x.1, ← k.words, ← k.tops) k.alike)
 
 -- what is saved, by its parts
 rewritten_is : (bs : List ℕ) (l : Done) (n : ℕ) (d : file.Saved) → Rewritten bs l n d
-    → saved_in (saved.Done l.top (file_distance bs)) l.words l.top
+    → saved_in (Ok (record { top = l.top; length = file_distance bs })) l.words l.top
     (body bs ++ replicate (n - file_distance bs) 0) ≡ d
 rewritten_is bs l n d k =
     λ j. record {
@@ -193,8 +195,8 @@ load_then_save bs lent t v b h out room r w a s =
     let e = first_of_lem (file_edition bs)
     (taken (first_of (file_edition bs)) bs lent (load_in bs lent) (load_answers bs lent).loads good).kind in
     let k = loaded_saves bs lent n b good room in
-    let k' : Rewritten bs (loaded_in (loaded.Ready t) v) n (save_in edition first_heap_cell v t n) =
+    let k' : Rewritten bs (loaded_in (Ok t) v) n (save_in edition first_heap_cell v t n) =
     subst (λ (d : Done). Rewritten bs d n (save_in edition first_heap_cell d.words d.top n)) (sym h)
     (rw (e.1, e.0) at k) in
-    one_save v t out r (saved.Done t (file_distance bs)) w v a (body bs ++ replicate (n - file_distance bs) 0) s
-    (rewritten_is bs (loaded_in (loaded.Ready t) v) n (save_in edition first_heap_cell v t n) k')
+    one_save v t out r (Ok (record { top = t; length = file_distance bs })) w v a (body bs ++ replicate (n - file_distance bs) 0) s
+    (rewritten_is bs (loaded_in (Ok t) v) n (save_in edition first_heap_cell v t n) k')

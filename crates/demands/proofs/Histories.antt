@@ -1,5 +1,7 @@
 -- A history as a list of batches and texts: a collection is a batch of one COLLECT, which is struck out again. So
 -- demand 3 of the definitions is demand 3 of the code. Assumes nothing.
+use Rattle.store.specs.declared.Unsound.{Unsound}
+use Rattle.std.specs.Prelude.{Result, Ok, Err}
 use mathlib.Core.Path.{◌≡◌, refl, sym, ap, ap₂, ◌∙◌}
 use mathlib.Core.Bool.{Bool, true, false}
 use mathlib.Core.List.{List, [], ◌∷◌, ◌++◌}
@@ -22,14 +24,11 @@ use Rattle.meaning.proofs.Counting.{refuted}
 use Rattle.meaning.proofs.check.Checking.{length_yes, yes_length}
 use Rattle.meaning.proofs.batch.Cases.{batch_run, batch_runs}
 use Rattle.meaning.proofs.batch.Batches.{runs_length}
-use Rattle.store.specs.declared.Made.TheVariants as made
 use Rattle.collect.specs.Answers.{collected_in, Collects}
 use Rattle.collect.specs.declared.Collected.{Collected}
-use Rattle.collect.specs.declared.Collected.TheVariants as answer
-use Rattle.calls.specs.declared.Ran.TheVariants as ran
 use Rattle.typing.specs.Answers.{typed_in, Types}
-use Rattle.typing.specs.declared.Typed.{Typed}
-use Rattle.typing.specs.declared.Typed.TheVariants as text-answer
+use Rattle.typing.specs.declared.NotTyped.{NotTyped}
+use Rattle.typing.specs.declared.NotTyped.TheVariants as text-answer
 use Rattle.typing.proofs.Final.{words_back}
 use Rattle.promises.specs.Requests.{Request, typed, requests, verdicts}
 use Rattle.promises.specs.Alike.{Lent, calls, text, requests_of, NoneRefused, Served, served, strike, strike_answers}
@@ -58,11 +57,11 @@ collect_step : (ws : List ℕ) (top : ℕ)
 unfolding uses wrong11 wrong12 wrong13 fault ops op_at plan_of carry_out perform step_after step
 collect_step ws top = refl
 
-collects_call : (ws : List ℕ) (top n t : ℕ) (v : List ℕ) → Collects ws top (answer.Done n t) v
-    → Runs ws top one_call_done two_words (ran.Ended t) v (0 ∷ n ∷ [])
+collects_call : (ws : List ℕ) (top n t : ℕ) (v : List ℕ) → Collects ws top (Ok (record { live = n; top = t })) v
+    → Runs ws top one_call_done two_words (Ok t) v (0 ∷ n ∷ [])
 unfolding ended calls_limit
 collects_call ws top n t v h =
-    let k = collect_meets ws top (answer.Done n t) v h in
+    let k = collect_meets ws top (Ok (record { live = n; top = t })) v h in
     let s = k.1.0 in
     let c = k.0.collects s in
     let a : AllowedCalls (length one_call_done) = record { short = omega arith; whole = refl } in
@@ -79,7 +78,7 @@ lents (collect n t v ∷ hs) = calls one_call_done two_words ∷ lents hs
 
 -- ---- as many answers as calls
 
-many : (ws : List ℕ) (top : ℕ) (cs out : List ℕ) (t : ℕ) (v a : List ℕ) → Runs ws top cs out (ran.Ended t) v a
+many : (ws : List ℕ) (top : ℕ) (cs out : List ℕ) (t : ℕ) (v a : List ℕ) → Runs ws top cs out (Ok t) v a
     → length (requests cs) ≡ length (verdicts (take (2 * (length cs / 4)) a))
 unfolding ended
 many ws top cs out t v a h =
@@ -108,7 +107,7 @@ record Told (ws : List ℕ) (top : ℕ) (hs : List Step) : Type 0 where
 
 -- a batch in front: what is served is what it left and answered, and then the rest
 served_next : (ws : List ℕ) (top : ℕ) (cs out : List ℕ) (t : ℕ) (v a : List ℕ) (bs : List Lent)
-    → Runs ws top cs out (ran.Ended t) v a
+    → Runs ws top cs out (Ok t) v a
     → (let q = served first_heap_cell v t bs in
     served first_heap_cell ws top (calls cs out ∷ bs) ≡ record {
       words = q.words;
@@ -118,20 +117,20 @@ served_next : (ws : List ℕ) (top : ℕ) (cs out : List ℕ) (t : ℕ) (v a : L
 served_next ws top cs out t v a bs h = rw (← h, served) refl
 
 none_next : (ws : List ℕ) (top : ℕ) (cs out : List ℕ) (t : ℕ) (v a : List ℕ) (bs : List Lent)
-    → Runs ws top cs out (ran.Ended t) v a → NoneRefused first_heap_cell v t bs
+    → Runs ws top cs out (Ok t) v a → NoneRefused first_heap_cell v t bs
     → NoneRefused first_heap_cell ws top (calls cs out ∷ bs)
 none_next ws top cs out t v a bs h n = rw (← h) (refl, n)
 
 -- a text in front, likewise: its numbers are the same whatever the `top`
-verdict_same : (r : Typed) (top t : ℕ) (v : List ℕ) → (typed_in r top v).verdict ≡ (typed_in r t v).verdict
-verdict_same (text-answer.Done n) top t v = refl
-verdict_same (text-answer.Refused u) top t v = refl
-verdict_same text-answer.NoRegister top t v = refl
-verdict_same (text-answer.BadText f i) top t v = refl
-verdict_same (text-answer.NoRoom n) top t v = refl
+verdict_same : (r : Result ℕ NotTyped) (top t : ℕ) (v : List ℕ) → (typed_in r top v).verdict ≡ (typed_in r t v).verdict
+verdict_same (Ok n) top t v = refl
+verdict_same (Err (text-answer.Unsound u)) top t v = refl
+verdict_same (Err text-answer.NoRegister) top t v = refl
+verdict_same (Err (text-answer.BadText b)) top t v = refl
+verdict_same (Err (text-answer.NoRoom n)) top t v = refl
 
 -- what the definition leaves and answers is what stands in the history
-typed_next : (ws : List ℕ) (top d : ℕ) (bs : List ℕ) (r : Typed) (t : ℕ) (v : List ℕ) → Types ws top d bs r v
+typed_next : (ws : List ℕ) (top d : ℕ) (bs : List ℕ) (r : Result ℕ NotTyped) (t : ℕ) (v : List ℕ) → Types ws top d bs r v
     → (typed_in r top v).top ≡ t
     → type_in first_heap_cell ws top d bs ≡ record { verdict = (typed_in r t v).verdict; words = v; top = t }
 typed_next ws top d bs r t v h e =
@@ -194,16 +193,16 @@ same_collected ws top ws' top' z e r r' v v' h h' =
     status : Done → ℕ
     status d = d.verdict.status
 
-    go : (r r' : Collected) → (collected_in r v top).verdict.status ≡ 0 → (collected_in r' v' top').verdict.status ≡ 0
+    go : (r r' : Result Collected Unsound) → (collected_in r v top).verdict.status ≡ 0 → (collected_in r' v' top').verdict.status ≡ 0
         → collected_in r v top ≡ collected_in r' v' top'
-        → ((n : ℕ) × (t : ℕ) × (r ≡ answer.Done n t)) × (r ≡ r') × (v ≡ v')
-    go (answer.Done n t) (answer.Done m u) x y q = (
-      (n, t, refl),
-      ap (λ (d : Done). answer.Done d.verdict.value d.top) q,
+        → ((n : ℕ) × (t : ℕ) × (r ≡ Ok (record { live = n; top = t }))) × (r ≡ r') × (v ≡ v')
+    go (Ok c) (Ok e) x y q = (
+      (c.live, c.top, refl),
+      ap (λ (d : Done). Ok (record { live = d.verdict.value; top = d.top })) q,
       ap (λ (d : Done). d.words) q,
     )
-    go (answer.Done n t) (answer.Refused u) x y q = absurd (refusal_not u y)
-    go (answer.Refused u) r' x y q = absurd (refusal_not u x)
+    go (Ok c) (Err u) x y q = absurd (refusal_not u y)
+    go (Err u) r' x y q = absurd (refusal_not u x)
 
 pub runs_never_show : RunsNeverShow
 runs_never_show ws top ws' top' s s' c a hs hs' h h' e =
@@ -223,19 +222,19 @@ runs_never_show ws top ws' top' s s' c a hs hs' h h' e =
 -- ---- from fresh stores
 
 -- a slice that is made a store has an allowed length
-made_allowed : (ws : List ℕ) (t : ℕ) (v : List ℕ) → Makes ws (made.Ready t) v → Allowed first_heap_cell (length ws)
+made_allowed : (ws : List ℕ) (t : ℕ) (v : List ℕ) → Makes ws (Ok t) v → Allowed first_heap_cell (length ws)
 made_allowed ws t v h = go (length_test first_heap_cell (length ws)) refl
   where
     go : (x : Bool) → length_test first_heap_cell (length ws) ≡ x → Allowed first_heap_cell (length ws)
     go true e = length_yes first_heap_cell (length ws) e
     go false e =
         let n = refuted (length_test first_heap_cell (length ws)) (yes_length first_heap_cell (length ws)) e in
-        absurd (omega (arith, ((fresh_meets ws (made.Ready t) v h).refused n).0))
+        absurd (omega (arith, ((fresh_meets ws (Ok t) v h).refused n).0))
 
 pub fresh_runs_never_show : FreshRunsNeverShow
 fresh_runs_never_show ws ws' l top top' v v' h h' =
-    let k = fresh_meets ws (made.Ready top) v h in
-    let k' = fresh_meets ws' (made.Ready top') v' h' in
+    let k = fresh_meets ws (Ok top) v h in
+    let k' = fresh_meets ws' (Ok top') v' h' in
     let a = made_allowed ws top v h in
     let a' = made_allowed ws' top' v' h' in
     let c : capacity ws ≡ capacity ws' = omega arith in

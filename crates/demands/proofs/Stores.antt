@@ -1,4 +1,5 @@
 -- The example, computed: one computation for all that the premises ask for. Assumes nothing.
+use Rattle.std.specs.Prelude.{Ok}
 use mathlib.Core.Path.{◌≡◌, refl, ap}
 use mathlib.Core.List.{List}
 use Prim.Native.Nat.{ℕ, ◌+◌, ◌*◌}
@@ -23,7 +24,6 @@ use Rattle.meaning.specs.Judge.{is_digit, with_digit, first_move, later_move, mo
 use Rattle.meaning.specs.Reader.{is_full, at_start, is_whole, stop_verdict, read, blank}
 use Rattle.meaning.specs.Lay.{new_cells}
 use Rattle.meaning.specs.Typed.{typed_of, type_in}
-use Rattle.collect.specs.declared.Collected.TheVariants as done
 use Rattle.promises.proofs.Final.{check_answers, alike_is_collected}
 use Rattle.collect.specs.Answers.{Collects}
 use Rattle.demands.specs.Runs.{Happened, words_after, top_after}
@@ -37,7 +37,7 @@ record Computed : Type 0 where
   alike : collect_in F first (F + 2) ≡ collect_in F second (F + 1)
   happened : Happened first (F + 2) first_history
   happened' : Happened second (F + 1) second_history
-  again : Collects (words_after second second_history) (top_after (F + 1) second_history) (done.Done 2 (F + 2))
+  again : Collects (words_after second second_history) (top_after (F + 1) second_history) (Ok (record { live = 2; top = F + 2 }))
       (words_after second second_history)
 
 computed : Computed
@@ -88,5 +88,5 @@ histories_unseen =
 
 pub one_more_collection : OneMoreCollection
 one_more_collection r v h =
-    let e = histories_unseen.equal r (done.Done 2 (F + 2)) v (words_after second second_history) h computed.again in
+    let e = histories_unseen.equal r (Ok (record { live = 2; top = F + 2 })) v (words_after second second_history) h computed.again in
     (e.1, e.2)

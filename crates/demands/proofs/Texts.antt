@@ -5,6 +5,7 @@
 --   type_zero, print_zero              an answer of status 0
 --   print_then_type, type_then_print   back and forth
 -- Assumes nothing.
+use Rattle.std.specs.Prelude.{Result, Ok, Err}
 use mathlib.Core.Path.{◌≡◌, refl, sym, ap, ◌∙◌, subst}
 use mathlib.Core.Logic.{◌⊎◌, inl, inr, ◌≢◌}
 use mathlib.Core.List.{List, [], ◌∷◌, ◌++◌}
@@ -29,11 +30,11 @@ use Rattle.reader.specs.Readers.{fault_of}
 use Rattle.reader.specs.declared.judging.Fault.{Fault}
 use Rattle.reader.specs.declared.judging.Fault.TheVariants as fault
 use Rattle.text.specs.Answers.{printed_in}
-use Rattle.text.specs.declared.Printed.{Printed}
-use Rattle.text.specs.declared.Printed.TheVariants as printed
+use Rattle.text.specs.declared.NoText.{NoText}
+use Rattle.text.specs.declared.NoText.TheVariants as printed
 use Rattle.typing.specs.Answers.{typed_in, Types}
-use Rattle.typing.specs.declared.Typed.{Typed}
-use Rattle.typing.specs.declared.Typed.TheVariants as typed
+use Rattle.typing.specs.declared.NotTyped.{NotTyped}
+use Rattle.typing.specs.declared.NotTyped.TheVariants as typed
 use Rattle.promises.specs.Table.{Not, OneOf}
 use Rattle.promises.specs.Collecting.{CollectedFrom}
 use Rattle.promises.specs.Typing.{said, typed_from, TypeTable}
@@ -77,10 +78,10 @@ module _ (ws : List ℕ) (top d : ℕ) (bs : List ℕ) where
   not_judged (inr (inr (inr (inl e)))) = omega (arith, e)
   not_judged (inr (inr (inr (inr e)))) = e
 
-  type_full : (t : ℕ) (v : List ℕ) → Table (typed_in (typed.NoRoom t) top v) → Typing ws top d bs (typed.NoRoom t) v
+  type_full : (t : ℕ) (v : List ℕ) → Table (typed_in (Err (typed.NoRoom t)) top v) → Typing ws top d bs (Err (typed.NoRoom t)) v
   type_full t v k = go (sound_or_not ws top)
     where
-      go : Sound first_heap_cell ws top ⊎ Not (Sound first_heap_cell ws top) → Typing ws top d bs (typed.NoRoom t) v
+      go : Sound first_heap_cell ws top ⊎ Not (Sound first_heap_cell ws top) → Typing ws top d bs (Err (typed.NoRoom t)) v
       go (inl s) =
           let f = (k.types s).full refl in (
             s,
@@ -92,7 +93,7 @@ module _ (ws : List ℕ) (top d : ℕ) (bs : List ℕ) where
 
   -- ---- done
 
-  type_sets : (t : ℕ) (v : List ℕ) → Types ws top d bs (typed.Done t) v → Table (done v t 0)
+  type_sets : (t : ℕ) (v : List ℕ) → Types ws top d bs (Ok t) v → Table (done v t 0)
       → TypedDone ws top d bs t v
   unfolding becomes
   type_sets t v h k =
@@ -112,14 +113,14 @@ module _ (ws : List ℕ) (top d : ℕ) (bs : List ℕ) where
         new_top = x.done_top refl;
       }
 
-  typing : (r : Typed) (v : List ℕ) → Types ws top d bs r v → Table (typed_in r top v) → Typing ws top d bs r v
-  typing (typed.Done t) v h k = type_sets t v h k
-  typing (typed.Refused u) v h k = type_kept (typed_in (typed.Refused u) top v) k (refusal_not u) (refusal_small u)
-  typing typed.NoRegister v h k =
-      type_kept (typed_in typed.NoRegister top v) k (λ z. omega (arith, z)) (λ z. omega (arith, z))
-  typing (typed.BadText f i) v h k =
-      type_kept (typed_in (typed.BadText f i) top v) k (fault_away f).0 (fault_away f).1
-  typing (typed.NoRoom t) v h k = type_full t v k
+  typing : (r : Result ℕ NotTyped) (v : List ℕ) → Types ws top d bs r v → Table (typed_in r top v) → Typing ws top d bs r v
+  typing (Ok t) v h k = type_sets t v h k
+  typing (Err (typed.Unsound u)) v h k = type_kept (typed_in (Err (typed.Unsound u)) top v) k (refusal_not u) (refusal_small u)
+  typing (Err typed.NoRegister) v h k =
+      type_kept (typed_in (Err typed.NoRegister) top v) k (λ z. omega (arith, z)) (λ z. omega (arith, z))
+  typing (Err (typed.BadText b)) v h k =
+      type_kept (typed_in (Err (typed.BadText b)) top v) k (fault_away b.fault).0 (fault_away b.fault).1
+  typing (Err (typed.NoRoom t)) v h k = type_full t v k
 
 pub type_meets : TypeMeets
 type_meets ws top d bs r v h =
@@ -130,14 +131,14 @@ type_meets ws top d bs r v h =
 -- ---- back and forth
 
 -- status 0 is the answer of what is done, and of nothing else
-type_zero : (r : Typed) (top : ℕ) (v : List ℕ) (d : ℕ) (e : Expr)
+type_zero : (r : Result ℕ NotTyped) (top : ℕ) (v : List ℕ) (d : ℕ) (e : Expr)
     → ((typed_in r top v).verdict.status ≡ 0) × (meaning (typed_in r top v).words d ≡ e)
-    → ((n : ℕ) × (r ≡ typed.Done n)) × (meaning v d ≡ e)
-type_zero (typed.Done t) top v d e h = ((t, refl), h.1)
-type_zero (typed.Refused u) top v d e h = absurd (refusal_not u h.0)
-type_zero typed.NoRegister top v d e h = absurd (omega (arith, h.0))
-type_zero (typed.BadText f i) top v d e h = absurd ((fault_away f).0 h.0)
-type_zero (typed.NoRoom t) top v d e h = absurd (omega (arith, h.0))
+    → ((n : ℕ) × (r ≡ Ok n)) × (meaning v d ≡ e)
+type_zero (Ok t) top v d e h = ((t, refl), h.1)
+type_zero (Err (typed.Unsound u)) top v d e h = absurd (refusal_not u h.0)
+type_zero (Err typed.NoRegister) top v d e h = absurd (omega (arith, h.0))
+type_zero (Err (typed.BadText b)) top v d e h = absurd ((fault_away b.fault).0 h.0)
+type_zero (Err (typed.NoRoom t)) top v d e h = absurd (omega (arith, h.0))
 
 pub print_then_type : PrintThenType
 print_then_type ws top i out m a p u t d s l room r v h =
@@ -150,14 +151,14 @@ print_then_type ws top i out m a p u t d s l room r v h =
     ((type_in first_heap_cell u t d (take x.size x.space)).verdict.status ≡ 0)
     × (meaning (type_in first_heap_cell u t d (take x.size x.space)).words d ≡ meaning ws i)) (sym p) k))
 
-print_zero : (r : Printed) (a : List ℕ) (n : ℕ) (s : List ℕ)
+print_zero : (r : Result ℕ NoText) (a : List ℕ) (n : ℕ) (s : List ℕ)
     → ((printed_in r a).verdict.status ≡ 0) × ((printed_in r a).size ≡ n) × ((printed_in r a).space ≡ s)
-    → (r ≡ printed.Done n) × (a ≡ s)
-print_zero (printed.Done m) a n s h = (ap printed.Done h.1, h.2)
-print_zero (printed.Refused u) a n s h = absurd (refusal_not u h.0)
-print_zero printed.NoRegister a n s h = absurd (omega (arith, h.0))
-print_zero printed.TooDeep a n s h = absurd (omega (arith, h.0))
-print_zero printed.ShortSpace a n s h = absurd (omega (arith, h.0))
+    → (r ≡ Ok n) × (a ≡ s)
+print_zero (Ok m) a n s h = (ap (λ (k : ℕ). Ok k) h.1, h.2)
+print_zero (Err (printed.Unsound u)) a n s h = absurd (refusal_not u h.0)
+print_zero (Err printed.NoRegister) a n s h = absurd (omega (arith, h.0))
+print_zero (Err printed.TooDeep) a n s h = absurd (omega (arith, h.0))
+print_zero (Err printed.ShortSpace) a n s h = absurd (omega (arith, h.0))
 
 pub type_then_print : TypeThenPrint
 type_then_print ws top d bs t v h out l r a p =

@@ -8,6 +8,7 @@
 --   run_meets                  a batch
 --   print_meets, prints_never_show   a print, and two prints of stores that are alike
 -- Assumes nothing.
+use Rattle.std.specs.Prelude.{Result, Ok, Err}
 use mathlib.Core.Path.{◌≡◌, refl, sym, ap, ◌∙◌, subst}
 use mathlib.Core.Logic.{◌⊎◌, inl, inr, ◌≢◌}
 use mathlib.Core.List.{List}
@@ -29,14 +30,13 @@ use Rattle.store.specs.declared.Unsound.TheVariants as unsound
 use Rattle.store.proofs.Final.{look_at_span}
 use Rattle.collect.specs.Answers.{collected_in}
 use Rattle.collect.specs.declared.Collected.{Collected}
-use Rattle.collect.specs.declared.Collected.TheVariants as collected
 use Rattle.calls.specs.Answers.{ran_in, Runs}
-use Rattle.calls.specs.declared.Ran.{Ran}
-use Rattle.calls.specs.declared.Ran.TheVariants as ran
+use Rattle.calls.specs.declared.NotRun.{NotRun}
+use Rattle.calls.specs.declared.NotRun.TheVariants as ran
 use Rattle.meaning.specs.Text as text
 use Rattle.text.specs.Answers.{printed_in}
-use Rattle.text.specs.declared.Printed.{Printed}
-use Rattle.text.specs.declared.Printed.TheVariants as printed
+use Rattle.text.specs.declared.NoText.{NoText}
+use Rattle.text.specs.declared.NoText.TheVariants as printed
 use Rattle.text.proofs.Final.{one_print}
 use Rattle.promises.specs.Table.{Not, CheckTable, FreshTable, LookTable, CollectTable, BatchTable}
 use Rattle.promises.specs.Collecting.{CollectedFrom}
@@ -88,22 +88,22 @@ refusal_not unsound.BadLength z = omega (arith, z)
 refusal_not unsound.BadTop z = omega (arith, z)
 refusal_not (unsound.Damaged c q) z = omega (arith, z)
 
-collecting : (ws : List ℕ) (top : ℕ) (r : Collected) (v : List ℕ)
+collecting : (ws : List ℕ) (top : ℕ) (r : Result Collected Unsound) (v : List ℕ)
     → CollectTable first_heap_cell ws top (collected_in r v top) → Collecting ws top r v
-collecting ws top (collected.Done n t) v k = go (sound_or_not ws top)
+collecting ws top (Ok c) v k = go (sound_or_not ws top)
   where
     go : Sound first_heap_cell ws top ⊎ Not (Sound first_heap_cell ws top)
-        → Collecting ws top (collected.Done n t) v
+        → Collecting ws top (Ok c) v
     go (inl s) =
-        let c = k.collects s in (
+        let e = k.collects s in (
           s,
-          c.1,
-          c.3 ∙ ap (λ (m : ℕ). first_heap_cell + m) (sym c.1),
-          subst (λ (w : List ℕ). CollectedFrom first_heap_cell ws top w) (sym c.2)
+          e.1,
+          e.3 ∙ ap (λ (m : ℕ). first_heap_cell + m) (sym e.1),
+          subst (λ (w : List ℕ). CollectedFrom first_heap_cell ws top w) (sym e.2)
               (collecting_keeps first_heap_cell (omega arith) ws top s),
         )
     go (inr s) = absurd ((k.refused s).1 refl)
-collecting ws top (collected.Refused u) v k = go (sound_or_not ws top)
+collecting ws top (Err u) v k = go (sound_or_not ws top)
   where
     go : Sound first_heap_cell ws top ⊎ Not (Sound first_heap_cell ws top) → v ≡ ws
     go (inl s) = absurd (refusal_not u (k.collects s).0)
@@ -118,7 +118,7 @@ collect_meets ws top r v h =
 -- ---- a batch
 
 ended_sound : (ws : List ℕ) (top : ℕ) (calls out : List ℕ) (t : ℕ) (v a : List ℕ)
-    → Runs ws top calls out (ran.Ended t) v a → (batch first_heap_cell ws top calls out).verdict.status ≡ 0
+    → Runs ws top calls out (Ok t) v a → (batch first_heap_cell ws top calls out).verdict.status ≡ 0
     → Sound first_heap_cell v t
 unfolding ended
 ended_sound ws top calls out t v a h z =
@@ -126,10 +126,10 @@ ended_sound ws top calls out t v a h z =
     subst (λ (o : Outcome). Sound first_heap_cell o.words o.top) (sym (h ∙ b.2))
     (runs_sound first_heap_cell (omega arith) ws top calls b.0)
 
-running : (ws : List ℕ) (top : ℕ) (calls out : List ℕ) (r : Ran) (v a : List ℕ)
+running : (ws : List ℕ) (top : ℕ) (calls out : List ℕ) (r : Result ℕ NotRun) (v a : List ℕ)
     → Runs ws top calls out r v a
     → BatchTable first_heap_cell ws top calls out (ran_in r v top a) → Running ws top calls out r v a
-running ws top calls out (ran.Ended t) v a h k =
+running ws top calls out (Ok t) v a h k =
     let z : (batch first_heap_cell ws top calls out).verdict.status ≡ 0 =
     ap (λ (o : Outcome). o.verdict.status) (sym h) in (
       (batch_runs first_heap_cell ws top calls out z).0,
@@ -137,9 +137,9 @@ running ws top calls out (ran.Ended t) v a h k =
       subst (λ (o : Outcome). BatchRun first_heap_cell ws top calls out o) (sym h)
           (batches_run first_heap_cell (omega arith) ws top calls out z),
     )
-running ws top calls out (ran.Refused u) v a h k = let e = k.kept (refusal_not u) in (e.0, e.2)
-running ws top calls out ran.BadCalls v a h k = let e = k.kept (λ z. omega (arith, z)) in (e.0, e.2)
-running ws top calls out ran.ShortAnswers v a h k = let e = k.kept (λ z. omega (arith, z)) in (e.0, e.2)
+running ws top calls out (Err (ran.Unsound u)) v a h k = let e = k.kept (refusal_not u) in (e.0, e.2)
+running ws top calls out (Err ran.BadCalls) v a h k = let e = k.kept (λ z. omega (arith, z)) in (e.0, e.2)
+running ws top calls out (Err ran.ShortAnswers) v a h k = let e = k.kept (λ z. omega (arith, z)) in (e.0, e.2)
 
 pub run_meets : RunMeets
 run_meets ws top calls out r v a h =
@@ -157,15 +157,15 @@ print_sound ws top i n v e (unsound _ j z) = absurd (z e)
 print_sound ws top i n v e (no_register s h) = absurd (omega (arith, e))
 print_sound ws top i n v e (written s k h m) = (k, h)
 
-printing : (ws : List ℕ) (top i n : ℕ) (r : Printed) (a : List ℕ)
+printing : (ws : List ℕ) (top i n : ℕ) (r : Result ℕ NoText) (a : List ℕ)
     → PrintTable first_heap_cell ws top i n (printed_in r a) → Printing ws top i n r a
-printing ws top i n (printed.Done m) a k =
+printing ws top i n (Ok m) a k =
     let s = print_sound ws top i n (only 0) refl k.prints in
     let w = k.whole refl in (s.0, s.1, w.0, rw w.0 w.1)
-printing ws top i n (printed.Refused u) a k = (k.refused (refusal_not u)).1
-printing ws top i n printed.NoRegister a k = (k.refused (λ z. omega (arith, z))).1
-printing ws top i n printed.TooDeep a k = (k.refused (λ z. omega (arith, z))).1
-printing ws top i n printed.ShortSpace a k = (k.refused (λ z. omega (arith, z))).1
+printing ws top i n (Err (printed.Unsound u)) a k = (k.refused (refusal_not u)).1
+printing ws top i n (Err printed.NoRegister) a k = (k.refused (λ z. omega (arith, z))).1
+printing ws top i n (Err printed.TooDeep) a k = (k.refused (λ z. omega (arith, z))).1
+printing ws top i n (Err printed.ShortSpace) a k = (k.refused (λ z. omega (arith, z))).1
 
 pub print_meets : PrintMeets
 print_meets ws top i out r a h =

@@ -3,14 +3,13 @@
 -- first has room, and by COLLECT, and both by `collect::collect` and for a JOIN that has room only in place of what its
 -- register held; and they end unequal again. All of it is computed, so that the premises are seen to be met. The heap
 -- begins at the code's first heap cell F, and has room for four cells; F + 2 and so on are cells. Assumes nothing.
-use Rattle.std.specs.Prelude.{◌≡◌, ◌≢◌, List, [], ◌∷◌, ◌++◌, ℕ, ◌+◌, ◌-◌}
+use Rattle.std.specs.Prelude.{◌≡◌, ◌≢◌, List, [], ◌∷◌, ◌++◌, ℕ, ◌+◌, ◌-◌, Result, Ok}
 use Rattle.words.specs.Second.{bracket_to}
 use Rattle.meaning.specs.Limits.{first_heap_cell}
 use Rattle.meaning.specs.Sound.{Sound, capacity}
 use Rattle.meaning.specs.Fresh.{empty_registers}
+use Rattle.store.specs.declared.Unsound.{Unsound}
 use Rattle.collect.specs.declared.Collected.{Collected}
-use Rattle.collect.specs.declared.Collected.TheVariants as collected
-use Rattle.typing.specs.declared.Typed.TheVariants as typed
 use Rattle.promises.specs.Alike.{Alike, strike}
 use Rattle.collect.specs.Answers.{Collects}
 use Rattle.demands.specs.Runs.{Step, run, type, collect, Happened, asked, words_after, top_after, Unseen}
@@ -66,7 +65,7 @@ abbrev pub first_history : List Step
 first_history =
     run (2 ∷ 1 ∷ 66 ∷ 0 ∷ []) (9 ∷ 9 ∷ []) (F + 3) (two (F + 1) (F + 2) (70 ∷ 0 ∷ 65 ∷ 0 ∷ 66 ∷ 0 ∷ 0 ∷ 0 ∷ []))
     (0 ∷ 0 ∷ []) ∷
-    type 2 bytes (typed.Done (F + 4)) (F + 4) (three (F + 3) seven) ∷
+    type 2 bytes (Ok (F + 4)) (F + 4) (three (F + 3) seven) ∷
     run (0 ∷ 2 ∷ 0 ∷ 0 ∷ []) (9 ∷ 9 ∷ []) (F + 4) (full seven) (0 ∷ 0 ∷ []) ∷
     collect 2 (F + 2) low ∷
     run (4 ∷ 2 ∷ 0 ∷ 1 ∷ 3 ∷ 3 ∷ 2 ∷ 0 ∷ 10 ∷ 0 ∷ 0 ∷ 0 ∷ 4 ∷ 2 ∷ 1 ∷ 0 ∷ 0 ∷ 2 ∷ 0 ∷ 0 ∷ [])
@@ -78,7 +77,7 @@ first_history =
 abbrev pub second_history : List Step
 second_history =
     run (2 ∷ 1 ∷ 66 ∷ 0 ∷ []) (9 ∷ 9 ∷ []) (F + 2) low (0 ∷ 0 ∷ []) ∷
-    type 2 bytes (typed.Done (F + 4)) (F + 4) (three (F + 3) seven) ∷
+    type 2 bytes (Ok (F + 4)) (F + 4) (three (F + 3) seven) ∷
     run (0 ∷ 2 ∷ 0 ∷ 0 ∷ 4 ∷ 2 ∷ 0 ∷ 1 ∷ 11 ∷ 0 ∷ 0 ∷ 0 ∷ []) (9 ∷ 9 ∷ 9 ∷ 9 ∷ 9 ∷ 9 ∷ []) (F + 4)
     (three (F + 2) pair) (0 ∷ 0 ∷ 0 ∷ 0 ∷ 0 ∷ 4 ∷ []) ∷
     run [] [] (F + 4) (three (F + 2) pair) [] ∷
@@ -110,5 +109,6 @@ HistoriesUnseen = Unseen first (F + 2) first_history second (F + 1) second_histo
 -- and leaves the words that the second history left.
 abbrev pub OneMoreCollection : Type 0
 OneMoreCollection =
-    (r : Collected) (v : List ℕ) → Collects (words_after first first_history) (top_after (F + 2) first_history) r v
-    → (r ≡ collected.Done 2 (F + 2)) × (v ≡ words_after second second_history)
+    (r : Result Collected Unsound) (v : List ℕ)
+    → Collects (words_after first first_history) (top_after (F + 2) first_history) r v
+    → (r ≡ Ok (record { live = 2; top = F + 2 })) × (v ≡ words_after second second_history)

@@ -7,11 +7,11 @@
 --   FeedsAppend                any struct is fed a piece as it is fed its parts
 --   PiecesThenType             what the end says of a text is what typing it in answers
 -- Assumes nothing.
-use Rattle.std.specs.Prelude.{◌≡◌, ◌≢◌, List, [], ◌∷◌, ◌++◌, ℕ, ◌≤◌, ◌<◌}
+use Rattle.std.specs.Prelude.{◌≡◌, ◌≢◌, List, [], ◌∷◌, ◌++◌, ℕ, ◌≤◌, ◌<◌, Result}
 use Rattle.meaning.specs.Limits.{first_heap_cell, terms_limit}
 use Rattle.meaning.specs.Sound.{Sound}
 use Rattle.typing.specs.Answers.{typed_in, Types}
-use Rattle.typing.specs.declared.Typed.{Typed}
+use Rattle.typing.specs.declared.NotTyped.{NotTyped}
 use Rattle.pieces.specs.States.{count_is, Starts, Feeds, Ends}
 use Rattle.pieces.specs.declared.Counted.{Counted}
 use Rattle.pieces.specs.declared.Pieces.{Pieces}
@@ -65,5 +65,5 @@ abbrev pub PiecesThenType : Type 0
 PiecesThenType =
     (s r : Pieces) (ps : List (List ℕ)) (c : Counted) → Starts s → FedBy s ps r → Ends r c
     → (ws : List ℕ) (top d : ℕ) → Sound first_heap_cell ws top → d < first_heap_cell
-    → (a : Typed) (v : List ℕ) → Types ws top d (joined ps) a v
+    → (a : Result ℕ NotTyped) (v : List ℕ) → Types ws top d (joined ps) a v
     → Told first_heap_cell ws top d (count_is c) (typed_in a top v).verdict

@@ -3,28 +3,29 @@
 -- `pieces` or `file`: what a caller must show, and what it may use. Each claim says that nothing is asked, and that
 -- this is learnt, whatever the lifetimes κs are. ws and top are lent, r is returned, v are the words that are left.
 -- Assumes nothing.
-use Rattle.std.specs.Prelude.{List, ℕ}
+use Rattle.std.specs.Prelude.{List, ℕ, Result}
 use Rattle.std.specs.Borrow.{Bor, MutBor}
 use contract.Lifetimes.{Lfts}
 use Rattle.meaning.specs.Limits.{first_heap_cell}
 use Rattle.store.specs.Answers.{Placed, Looks, Checks, Makes}
-use Rattle.store.specs.declared.Checked.{Checked}
-use Rattle.store.specs.declared.Made.{Made}
+use Rattle.store.specs.declared.Unsound.{Unsound}
+use Rattle.store.specs.declared.BadLength.{BadLength}
 use Rattle.store.specs.declared.Span.{Span}
 use Rattle.collect.specs.Answers.{Collects}
 use Rattle.collect.specs.declared.Collected.{Collected}
 use Rattle.calls.specs.Answers.{Runs}
-use Rattle.calls.specs.declared.Ran.{Ran}
+use Rattle.calls.specs.declared.NotRun.{NotRun}
 use Rattle.text.specs.Answers.{Prints}
-use Rattle.text.specs.declared.Printed.{Printed}
+use Rattle.text.specs.declared.NoText.{NoText}
 use Rattle.typing.specs.Answers.{Types}
-use Rattle.typing.specs.declared.Typed.{Typed}
+use Rattle.typing.specs.declared.NotTyped.{NotTyped}
 use Rattle.pieces.specs.States.{Starts, Feeds, Ends}
 use Rattle.pieces.specs.declared.Counted.{Counted}
 use Rattle.pieces.specs.declared.Pieces.{Pieces}
 use Rattle.file.specs.Answers.{Loads, Saves}
-use Rattle.file.specs.declared.Loaded.{Loaded}
+use Rattle.file.specs.declared.NotLoaded.{NotLoaded}
 use Rattle.file.specs.declared.Saved.{Saved}
+use Rattle.file.specs.declared.NotSaved.{NotSaved}
 use Rattle.store.proofs.check.Reads as check-contract
 use Rattle.store.proofs.fresh.Reads as fresh-contract
 use Rattle.store.proofs.look.Reads as look-contract
@@ -51,14 +52,15 @@ MutSlice = MutBor (List ℕ)
 abbrev pub CheckSays : Type 0
 CheckSays =
     (κs : Lfts 1) (ws : Slice) (top : ℕ) → check-contract.Asked κs (ws, (top, tt))
-    × ((r : Checked) (v : Slice) → check-contract.Learnt κs (ws, (top, tt)) r (v, (top, tt)) → Checks ws.now top r)
+    × ((r : Result (Unit {0}) Unsound) (v : Slice) → check-contract.Learnt κs (ws, (top, tt)) r (v, (top, tt))
+    → Checks ws.now top r)
 
 -- ---- `store::fresh`
 
 abbrev pub FreshSays : Type 0
 FreshSays =
     (κs : Lfts 1) (ws : MutSlice) → fresh-contract.Asked κs (ws, tt)
-    × ((r : Made) (v : MutSlice) → fresh-contract.Learnt κs (ws, tt) r (v, tt) → Makes ws.now r v.now)
+    × ((r : Result ℕ BadLength) (v : MutSlice) → fresh-contract.Learnt κs (ws, tt) r (v, tt) → Makes ws.now r v.now)
 
 -- ---- `store::look`, at register i: the words of the part r, and where it lies; `store::look_span`, by word numbers
 
@@ -78,7 +80,7 @@ SpanSays =
 abbrev pub CollectSays : Type 0
 CollectSays =
     (κs : Lfts 1) (ws : MutSlice) (top : ℕ) → collect-contract.Asked κs (ws, (top, tt))
-    × ((r : Collected) (v : MutSlice) → collect-contract.Learnt κs (ws, (top, tt)) r (v, (top, tt))
+    × ((r : Result Collected Unsound) (v : MutSlice) → collect-contract.Learnt κs (ws, (top, tt)) r (v, (top, tt))
     → Collects ws.now top r v.now)
 
 -- ---- `calls::run`, with a call list and an answer space `out`, which is left as a
@@ -87,7 +89,7 @@ abbrev pub RunSays : Type 0
 RunSays =
     (κs : Lfts 3) (ws : MutSlice) (top : ℕ) (calls : Slice) (out : MutSlice)
     → run-contract.Asked κs (ws, (top, (calls, (out, tt))))
-    × ((r : Ran) (v : MutSlice) (c : Slice) (a : MutSlice)
+    × ((r : Result ℕ NotRun) (v : MutSlice) (c : Slice) (a : MutSlice)
     → run-contract.Learnt κs (ws, (top, (calls, (out, tt)))) r (v, (top, (c, (a, tt))))
     → Runs ws.now top calls.now out.now r v.now a.now)
 
@@ -96,7 +98,7 @@ RunSays =
 abbrev pub PrintSays : Type 0
 PrintSays =
     (κs : Lfts 2) (ws : Slice) (top i : ℕ) (out : MutSlice) → print-contract.Asked κs (ws, (top, (i, (out, tt))))
-    × ((r : Printed) (v : Slice) (a : MutSlice)
+    × ((r : Result ℕ NoText) (v : Slice) (a : MutSlice)
     → print-contract.Learnt κs (ws, (top, (i, (out, tt)))) r (v, (top, (i, (a, tt))))
     → Prints ws.now top i out.now r a.now)
 
@@ -105,7 +107,7 @@ PrintSays =
 abbrev pub TypeSays : Type 0
 TypeSays =
     (κs : Lfts 2) (ws : MutSlice) (top d : ℕ) (bs : Slice) → type-contract.Asked κs (ws, (top, (d, (bs, tt))))
-    × ((r : Typed) (v : MutSlice) (b : Slice)
+    × ((r : Result ℕ NotTyped) (v : MutSlice) (b : Slice)
     → type-contract.Learnt κs (ws, (top, (d, (bs, tt)))) r (v, (top, (d, (b, tt))))
     → Types ws.now top d bs.now r v.now)
 
@@ -130,7 +132,7 @@ EndSays =
 abbrev pub LoadSays : Type 0
 LoadSays =
     (κs : Lfts 2) (ws : MutSlice) (bs : Slice) → load-contract.Asked κs (ws, (bs, tt))
-    × ((r : Loaded) (v : MutSlice) (b : Slice) → load-contract.Learnt κs (ws, (bs, tt)) r (v, (b, tt))
+    × ((r : Result ℕ NotLoaded) (v : MutSlice) (b : Slice) → load-contract.Learnt κs (ws, (bs, tt)) r (v, (b, tt))
     → Loads bs.now ws.now r v.now)
 
 -- ---- `file::save`, with a space `out`, which is left as a
@@ -138,5 +140,6 @@ LoadSays =
 abbrev pub SaveSays : Type 0
 SaveSays =
     (κs : Lfts 2) (ws : MutSlice) (top : ℕ) (out : MutSlice) → save-contract.Asked κs (ws, (top, (out, tt)))
-    × ((r : Saved) (v a : MutSlice) → save-contract.Learnt κs (ws, (top, (out, tt))) r (v, (top, (a, tt)))
+    × ((r : Result Saved NotSaved) (v a : MutSlice)
+    → save-contract.Learnt κs (ws, (top, (out, tt))) r (v, (top, (a, tt)))
     → Saves ws.now top out.now r v.now a.now)

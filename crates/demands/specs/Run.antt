@@ -2,7 +2,7 @@
 -- left is as its table says, a refusal leaves everything as it was lent, and what is done means what it says. Nothing
 -- is known of the use but what the contract promises. Answers are read through the definitions that give their numbers:
 -- `verdict_of`, `made_in`, `collected_in`, `ran_in`, `printed_in`. Not here: a text typed in (Texts). Assumes nothing.
-use Rattle.std.specs.Prelude.{◌≡◌, List, ◌++◌, ℕ, ◌+◌, ◌-◌, ◌*◌, ◌<◌, length, take, drop, replicate}
+use Rattle.std.specs.Prelude.{◌≡◌, Result, Ok, Err, List, ◌++◌, ℕ, ◌+◌, ◌-◌, ◌*◌, ◌<◌, length, take, drop, replicate}
 use Rattle.meaning.specs.Limits.{first_heap_cell}
 use Rattle.meaning.specs.Sound.{ends, at, capacity, Sound}
 use Rattle.meaning.specs.Meaning.{meaning}
@@ -10,18 +10,15 @@ use Rattle.meaning.specs.Reach.{live}
 use Rattle.meaning.specs.Verdicts.{only}
 use Rattle.meaning.specs.Text.{text}
 use Rattle.store.specs.Answers.{verdict_of, made_in, Placed, Checks, Makes, Looks}
-use Rattle.store.specs.declared.Checked.{Checked}
-use Rattle.store.specs.declared.Made.{Made}
+use Rattle.store.specs.declared.Unsound.{Unsound}
+use Rattle.store.specs.declared.BadLength.{BadLength}
 use Rattle.store.specs.declared.Span.{Span}
 use Rattle.collect.specs.Answers.{collected_in, Collects}
 use Rattle.collect.specs.declared.Collected.{Collected}
-use Rattle.collect.specs.declared.Collected.TheVariants as collected
 use Rattle.calls.specs.Answers.{ran_in, Runs}
-use Rattle.calls.specs.declared.Ran.{Ran}
-use Rattle.calls.specs.declared.Ran.TheVariants as ran
+use Rattle.calls.specs.declared.NotRun.{NotRun}
 use Rattle.text.specs.Answers.{printed_in, Prints}
-use Rattle.text.specs.declared.Printed.{Printed}
-use Rattle.text.specs.declared.Printed.TheVariants as printed
+use Rattle.text.specs.declared.NoText.{NoText}
 use Rattle.promises.specs.Table.{CheckTable, FreshTable, LookTable, CollectTable, BatchTable}
 use Rattle.promises.specs.Collecting.{CollectedFrom}
 use Rattle.promises.specs.Calls.{BatchRun}
@@ -32,10 +29,14 @@ use Rattle.demands.specs.Promised.{Slice}
 -- ---- the check, a fresh store
 
 abbrev pub CheckMeets : Type 0
-CheckMeets = (ws : List ℕ) (top : ℕ) (r : Checked) → Checks ws top r → CheckTable first_heap_cell ws top (verdict_of r)
+CheckMeets =
+    (ws : List ℕ) (top : ℕ) (r : Result (Unit {0}) Unsound) → Checks ws top r
+    → CheckTable first_heap_cell ws top (verdict_of r)
 
 abbrev pub FreshMeets : Type 0
-FreshMeets = (ws : List ℕ) (r : Made) (v : List ℕ) → Makes ws r v → FreshTable first_heap_cell ws (made_in r v)
+FreshMeets =
+    (ws : List ℕ) (r : Result ℕ BadLength) (v : List ℕ) → Makes ws r v
+    → FreshTable first_heap_cell ws (made_in r v)
 
 -- ---- the look: the words, and that the part lies in what was lent, eight bytes a cell, at the register's left end
 
@@ -54,54 +55,49 @@ SpanMeets =
 
 -- ---- collecting: done, with live and the new `top`, it leaves the collected store; refused, it leaves all as lent
 
-abbrev pub Collecting : List ℕ → ℕ → Collected → List ℕ → Type 0
-Collecting ws top (collected.Done n t) v =
-    Sound first_heap_cell ws top × (n ≡ live first_heap_cell ws top) × (t ≡ first_heap_cell + n)
+abbrev pub Collecting : List ℕ → ℕ → Result Collected Unsound → List ℕ → Type 0
+Collecting ws top (Ok c) v =
+    Sound first_heap_cell ws top × (c.live ≡ live first_heap_cell ws top) × (c.top ≡ first_heap_cell + c.live)
     × CollectedFrom first_heap_cell ws top v
-Collecting ws top (collected.Refused u) v = v ≡ ws
+Collecting ws top (Err u) v = v ≡ ws
 
 abbrev pub CollectMeets : Type 0
 CollectMeets =
-    (ws : List ℕ) (top : ℕ) (r : Collected) (v : List ℕ) → Collects ws top r v
+    (ws : List ℕ) (top : ℕ) (r : Result Collected Unsound) (v : List ℕ) → Collects ws top r v
     → CollectTable first_heap_cell ws top (collected_in r v top) × Collecting ws top r v
 
 -- ---- a batch: ended, it has done call by call what each call says, and the store is sound again; refused, it leaves
 -- store and answers as lent
 
-abbrev pub Running : List ℕ → ℕ → List ℕ → List ℕ → Ran → List ℕ → List ℕ → Type 0
-Running ws top calls out (ran.Ended t) v a =
+abbrev pub Running : List ℕ → ℕ → List ℕ → List ℕ → Result ℕ NotRun → List ℕ → List ℕ → Type 0
+Running ws top calls out (Ok t) v a =
     Sound first_heap_cell ws top × Sound first_heap_cell v t
     × BatchRun first_heap_cell ws top calls out (record { verdict = only 0; words = v; top = t; answers = a })
-Running ws top calls out (ran.Refused u) v a = (v ≡ ws) × (a ≡ out)
-Running ws top calls out ran.BadCalls v a = (v ≡ ws) × (a ≡ out)
-Running ws top calls out ran.ShortAnswers v a = (v ≡ ws) × (a ≡ out)
+Running ws top calls out (Err e) v a = (v ≡ ws) × (a ≡ out)
 
 abbrev pub RunMeets : Type 0
 RunMeets =
-    (ws : List ℕ) (top : ℕ) (calls out : List ℕ) (r : Ran) (v a : List ℕ) → Runs ws top calls out r v a
+    (ws : List ℕ) (top : ℕ) (calls out : List ℕ) (r : Result ℕ NotRun) (v a : List ℕ) → Runs ws top calls out r v a
     → BatchTable first_heap_cell ws top calls out (ran_in r v top a) × Running ws top calls out r v a
 
 -- ---- a print: done, with a length, it leaves the text of what register i denotes and zeros after it; refused, it
 -- leaves n zeros, as many as the text space has bytes
 
-abbrev pub Printing : List ℕ → ℕ → ℕ → ℕ → Printed → List ℕ → Type 0
-Printing ws top i n (printed.Done m) a =
+abbrev pub Printing : List ℕ → ℕ → ℕ → ℕ → Result ℕ NoText → List ℕ → Type 0
+Printing ws top i n (Ok m) a =
     Sound first_heap_cell ws top × (i < first_heap_cell) × (m ≡ length (text (meaning ws i)))
     × (a ≡ text (meaning ws i) ++ replicate (n - m) 0)
-Printing ws top i n (printed.Refused u) a = a ≡ replicate n 0
-Printing ws top i n printed.NoRegister a = a ≡ replicate n 0
-Printing ws top i n printed.TooDeep a = a ≡ replicate n 0
-Printing ws top i n printed.ShortSpace a = a ≡ replicate n 0
+Printing ws top i n (Err e) a = a ≡ replicate n 0
 
 abbrev pub PrintMeets : Type 0
 PrintMeets =
-    (ws : List ℕ) (top i : ℕ) (out : List ℕ) (r : Printed) (a : List ℕ) → Prints ws top i out r a
+    (ws : List ℕ) (top i : ℕ) (out : List ℕ) (r : Result ℕ NoText) (a : List ℕ) → Prints ws top i out r a
     → PrintTable first_heap_cell ws top i (length out) (printed_in r a) × Printing ws top i (length out) r a
 
 -- demand 3 of prints: two sound stores that are alike, and text spaces that are equally long
 abbrev pub PrintsNeverShow : Type 0
 PrintsNeverShow =
-    (ws : List ℕ) (top : ℕ) (ws' : List ℕ) (top' i : ℕ) (out out' : List ℕ) (r r' : Printed) (a a' : List ℕ)
+    (ws : List ℕ) (top : ℕ) (ws' : List ℕ) (top' i : ℕ) (out out' : List ℕ) (r r' : Result ℕ NoText) (a a' : List ℕ)
     → Sound first_heap_cell ws top → Sound first_heap_cell ws' top' → capacity ws ≡ capacity ws'
     → Alike first_heap_cell ws top ws' top' → length out ≡ length out'
     → Prints ws top i out r a → Prints ws' top' i out' r' a' → (r ≡ r') × (a ≡ a')

@@ -3,15 +3,13 @@
 -- anywhere between them. Each step is known only by what the function's contract promises. Where the calls and texts
 -- are equal once COLLECT is struck out, so are the answers, and one more `collect::collect` of each leaves the same
 -- words, `top` and live. That a store is sound is what `store::check` says (`CheckMeets`). Assumes nothing.
-use Rattle.std.specs.Prelude.{◌≡◌, List, [], ◌∷◌, ◌++◌, ℕ, ◌*◌, ◌/◌, length, take}
+use Rattle.std.specs.Prelude.{◌≡◌, List, [], ◌∷◌, ◌++◌, ℕ, ◌*◌, ◌/◌, length, take, Result, Ok}
 use Rattle.meaning.specs.Limits.{first_heap_cell}
 use Rattle.meaning.specs.Sound.{Sound, capacity}
 use Rattle.meaning.specs.Verdicts.{Verdict}
-use Rattle.store.specs.declared.Made.TheVariants as made
+use Rattle.store.specs.declared.Unsound.{Unsound}
 use Rattle.collect.specs.declared.Collected.{Collected}
-use Rattle.collect.specs.declared.Collected.TheVariants as collected
-use Rattle.calls.specs.declared.Ran.TheVariants as ran
-use Rattle.typing.specs.declared.Typed.{Typed}
+use Rattle.typing.specs.declared.NotTyped.{NotTyped}
 use Rattle.promises.specs.Requests.{Request, typed, requests, verdicts}
 use Rattle.promises.specs.Alike.{Alike, strike, strike_answers}
 use Rattle.store.specs.Answers.{Makes}
@@ -26,7 +24,7 @@ pub data Step : Type 0 where
   run : List ℕ → List ℕ → ℕ → List ℕ → List ℕ → Step
   -- a text typed in: the register and the bytes lent; it was answered so, done or refused, with this `top`, and left
   -- these words
-  type : ℕ → List ℕ → Typed → ℕ → List ℕ → Step
+  type : ℕ → List ℕ → Result ℕ NotTyped → ℕ → List ℕ → Step
   -- a collection: done with this live and this `top`, and left these words
   collect : ℕ → ℕ → List ℕ → Step
 
@@ -34,9 +32,9 @@ pub data Step : Type 0 where
 -- its `top`: where none stands in it, it is the one lent.
 abbrev pub Happened : List ℕ → ℕ → List Step → Type 0
 Happened ws top [] = Unit {0}
-Happened ws top (run cs out t v a ∷ hs) = Runs ws top cs out (ran.Ended t) v a × Happened v t hs
+Happened ws top (run cs out t v a ∷ hs) = Runs ws top cs out (Ok t) v a × Happened v t hs
 Happened ws top (type d bs r t v ∷ hs) = Types ws top d bs r v × ((typed_in r top v).top ≡ t) × Happened v t hs
-Happened ws top (collect n t v ∷ hs) = Collects ws top (collected.Done n t) v × Happened v t hs
+Happened ws top (collect n t v ∷ hs) = Collects ws top (Ok (record { live = n; top = t })) v × Happened v t hs
 
 -- what was asked in all batches, call by call, and in texts; and what was answered: the first two words for each call
 -- of a batch, and the numbers of a text's answer
@@ -70,8 +68,8 @@ top_after top (collect n t v ∷ hs) = top_after t hs
 -- one more collection of each, whatever it returns and leaves: it is not refused, and both return and leave the same
 abbrev pub SameCollected : List ℕ → ℕ → List ℕ → ℕ → Type 0
 SameCollected ws top ws' top' =
-    (r r' : Collected) (v v' : List ℕ) → Collects ws top r v → Collects ws' top' r' v'
-    → ((n : ℕ) × (t : ℕ) × (r ≡ collected.Done n t)) × (r ≡ r') × (v ≡ v')
+    (r r' : Result Collected Unsound) (v v' : List ℕ) → Collects ws top r v → Collects ws' top' r' v'
+    → ((n : ℕ) × (t : ℕ) × (r ≡ Ok (record { live = n; top = t }))) × (r ≡ r') × (v ≡ v')
 
 -- what does not show of two histories
 pub record Unseen (ws : List ℕ) (top : ℕ) (hs : List Step) (ws' : List ℕ) (top' : ℕ) (hs' : List Step) : Type 0 where
@@ -91,6 +89,6 @@ RunsNeverShow =
 abbrev pub FreshRunsNeverShow : Type 0
 FreshRunsNeverShow =
     (ws ws' : List ℕ) → length ws ≡ length ws' → (top top' : ℕ) (v v' : List ℕ)
-    → Makes ws (made.Ready top) v → Makes ws' (made.Ready top') v'
+    → Makes ws (Ok top) v → Makes ws' (Ok top') v'
     → (hs hs' : List Step) → Happened v top hs → Happened v' top' hs' → strike (asked hs) ≡ strike (asked hs')
     → Unseen v top hs v' top' hs'

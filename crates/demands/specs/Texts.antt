@@ -4,7 +4,7 @@
 --   TypeMeets                       one use of `typing::type_in`
 --   PrintThenType, TypeThenPrint    back and forth
 -- Assumes nothing.
-use Rattle.std.specs.Prelude.{◌≡◌, ◌≢◌, false, List, ◌++◌, ℕ, ◌+◌, ◌-◌, ◌≤◌, ◌<◌, length, take, replicate}
+use Rattle.std.specs.Prelude.{◌≡◌, ◌≢◌, false, List, ◌++◌, ℕ, ◌+◌, ◌-◌, ◌≤◌, ◌<◌, length, take, replicate, Result, Ok, Err}
 use Rattle.meaning.specs.Limits.{first_heap_cell}
 use Rattle.meaning.specs.Sound.{capacity, Sound}
 use Rattle.meaning.specs.Meaning.{meaning}
@@ -13,11 +13,10 @@ use Rattle.meaning.specs.Text.{text}
 use Rattle.meaning.specs.Lay.{all_terms}
 use Rattle.meaning.specs.Call.{sought}
 use Rattle.text.specs.Answers.{Prints}
-use Rattle.text.specs.declared.Printed.{Printed}
-use Rattle.text.specs.declared.Printed.TheVariants as printed
+use Rattle.text.specs.declared.NoText.{NoText}
 use Rattle.typing.specs.Answers.{typed_in, Types}
-use Rattle.typing.specs.declared.Typed.{Typed}
-use Rattle.typing.specs.declared.Typed.TheVariants as typed
+use Rattle.typing.specs.declared.NotTyped.{NotTyped}
+use Rattle.typing.specs.declared.NotTyped.TheVariants as typed
 use Rattle.promises.specs.Collecting.{CollectedFrom}
 use Rattle.promises.specs.Typing.{said, Whole, typed_from, TypeTable}
 use Rattle.promises.specs.Holding.{OwnAlone}
@@ -37,18 +36,18 @@ pub record TypedDone (ws : List ℕ) (top d : ℕ) (bs : List ℕ) (t : ℕ) (v 
   pub new_top : t ≡ typed_from first_heap_cell ws top d bs + all_terms (said bs)
 
 -- refused for room, it leaves the collected store and tells its `top`; refused otherwise, it leaves all as lent
-abbrev pub Typing : List ℕ → ℕ → ℕ → List ℕ → Typed → List ℕ → Type 0
-Typing ws top d bs (typed.Done t) v = TypedDone ws top d bs t v
-Typing ws top d bs (typed.Refused u) v = v ≡ ws
-Typing ws top d bs typed.NoRegister v = v ≡ ws
-Typing ws top d bs (typed.BadText f k) v = v ≡ ws
-Typing ws top d bs (typed.NoRoom t) v =
+abbrev pub Typing : List ℕ → ℕ → ℕ → List ℕ → Result ℕ NotTyped → List ℕ → Type 0
+Typing ws top d bs (Ok t) v = TypedDone ws top d bs t v
+Typing ws top d bs (Err (typed.Unsound u)) v = v ≡ ws
+Typing ws top d bs (Err typed.NoRegister) v = v ≡ ws
+Typing ws top d bs (Err (typed.BadText b)) v = v ≡ ws
+Typing ws top d bs (Err (typed.NoRoom t)) v =
     Sound first_heap_cell ws top × (t ≡ first_heap_cell + live first_heap_cell ws top)
     × CollectedFrom first_heap_cell ws top v
 
 abbrev pub TypeMeets : Type 0
 TypeMeets =
-    (ws : List ℕ) (top d : ℕ) (bs : List ℕ) (r : Typed) (v : List ℕ) → Types ws top d bs r v
+    (ws : List ℕ) (top d : ℕ) (bs : List ℕ) (r : Result ℕ NotTyped) (v : List ℕ) → Types ws top d bs r v
     → TypeTable first_heap_cell ws top d bs (typed_in r top v) × Typing ws top d bs r v
 
 -- ---- back and forth
@@ -57,16 +56,16 @@ TypeMeets =
 -- denotes what was printed
 abbrev pub PrintThenType : Type 0
 PrintThenType =
-    (ws : List ℕ) (top i : ℕ) (out : List ℕ) (m : ℕ) (a : List ℕ) → Prints ws top i out (printed.Done m) a
+    (ws : List ℕ) (top i : ℕ) (out : List ℕ) (m : ℕ) (a : List ℕ) → Prints ws top i out (Ok m) a
     → (u : List ℕ) (t d : ℕ) → Sound first_heap_cell u t → d < first_heap_cell
     → first_heap_cell + live first_heap_cell (sought false d u) t + all_terms (meaning ws i) ≤ capacity u
-    → (r : Typed) (v : List ℕ) → Types u t d (take m a) r v
-    → ((n : ℕ) × (r ≡ typed.Done n)) × (meaning v d ≡ meaning ws i)
+    → (r : Result ℕ NotTyped) (v : List ℕ) → Types u t d (take m a) r v
+    → ((n : ℕ) × (r ≡ Ok n)) × (meaning v d ≡ meaning ws i)
 
 -- a typed text that is done, printed into a space that is long enough: it is done, with the same bytes and zeros after
 -- them
 abbrev pub TypeThenPrint : Type 0
 TypeThenPrint =
-    (ws : List ℕ) (top d : ℕ) (bs : List ℕ) (t : ℕ) (v : List ℕ) → Types ws top d bs (typed.Done t) v
-    → (out : List ℕ) → length bs ≤ length out → (r : Printed) (a : List ℕ) → Prints v t d out r a
-    → (r ≡ printed.Done (length bs)) × (a ≡ bs ++ replicate (length out - length bs) 0)
+    (ws : List ℕ) (top d : ℕ) (bs : List ℕ) (t : ℕ) (v : List ℕ) → Types ws top d bs (Ok t) v
+    → (out : List ℕ) → length bs ≤ length out → (r : Result ℕ NoText) (a : List ℕ) → Prints v t d out r a
+    → (r ≡ Ok (length bs)) × (a ≡ bs ++ replicate (length out - length bs) 0)

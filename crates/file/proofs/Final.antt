@@ -4,41 +4,42 @@ use mathlib.Core.Bool.{cond}
 use mathlib.Core.List.{List}
 use Prim.Native.Nat.{ℕ}
 use lib.Dec.{eqb}
+use Rattle.std.specs.Prelude.{Result, Ok, Err}
 use Rattle.meaning.specs.Verdicts.{Verdict, Done, on_zero}
 use Rattle.meaning.specs.File as file
-use Rattle.store.proofs.Refusals.{unsound_of, unsound_of_back, refusal_by}
+use Rattle.store.proofs.Refusals.{rule_of, rule_of_back, unsound_of, unsound_of_back, refusal_by}
 use Rattle.store.specs.Answers.{refusal_of}
 use Rattle.store.specs.declared.Unsound.{Unsound}
 use Rattle.file.specs.Answers.{loaded_in, saved_in}
 use Rattle.file.specs.Unique.{OneLoad, OneSave}
-use Rattle.file.specs.declared.Loaded.{Loaded}
-use Rattle.file.specs.declared.Loaded.TheVariants as loaded
+use Rattle.file.specs.declared.NotLoaded.{NotLoaded}
+use Rattle.file.specs.declared.NotLoaded.TheVariants as not_loaded
+use Rattle.file.specs.declared.NotSaved.{NotSaved}
+use Rattle.file.specs.declared.NotSaved.TheVariants as not_saved
 use Rattle.file.specs.declared.Saved.{Saved}
-use Rattle.file.specs.declared.Saved.TheVariants as saved
 
 -- ---- loading
 
-abbrev loaded_by : ℕ → ℕ → ℕ → ℕ → Loaded
-loaded_by s v q t =
-    on_zero s (loaded.Ready t)
-    (cond (eqb s 3) (loaded.Damaged v q)
-    (cond (eqb s 30) loaded.ShortFile
-    (cond (eqb s 31) loaded.BadEdition
-    (cond (eqb s 32) loaded.BadDistance
-    (cond (eqb s 33) loaded.BadCapacity (cond (eqb s 34) loaded.NotCollected loaded.WrongSlice))))))
+abbrev not_loaded_by : ℕ → ℕ → ℕ → NotLoaded
+not_loaded_by s v q =
+    cond (eqb s 3) (not_loaded.Damaged v (rule_of q))
+    (cond (eqb s 30) not_loaded.ShortFile
+    (cond (eqb s 31) not_loaded.BadEdition
+    (cond (eqb s 32) not_loaded.BadDistance
+    (cond (eqb s 33) not_loaded.BadCapacity (cond (eqb s 34) not_loaded.NotCollected not_loaded.WrongSlice)))))
 
-abbrev loaded_of : Done → Loaded
-loaded_of d = loaded_by d.verdict.status d.verdict.value d.verdict.rule d.top
+abbrev loaded_of : Done → Result ℕ NotLoaded
+loaded_of d = on_zero d.verdict.status (Ok d.top) (Err (not_loaded_by d.verdict.status d.verdict.value d.verdict.rule))
 
-loaded_back : (r : Loaded) (vs : List ℕ) → loaded_of (loaded_in r vs) ≡ r
-loaded_back (loaded.Ready t) vs = refl
-loaded_back loaded.ShortFile vs = refl
-loaded_back loaded.BadEdition vs = refl
-loaded_back loaded.BadDistance vs = refl
-loaded_back loaded.BadCapacity vs = refl
-loaded_back loaded.WrongSlice vs = refl
-loaded_back (loaded.Damaged c q) vs = refl
-loaded_back loaded.NotCollected vs = refl
+loaded_back : (r : Result ℕ NotLoaded) (vs : List ℕ) → loaded_of (loaded_in r vs) ≡ r
+loaded_back (Ok t) vs = refl
+loaded_back (Err not_loaded.ShortFile) vs = refl
+loaded_back (Err not_loaded.BadEdition) vs = refl
+loaded_back (Err not_loaded.BadDistance) vs = refl
+loaded_back (Err not_loaded.BadCapacity) vs = refl
+loaded_back (Err not_loaded.WrongSlice) vs = refl
+loaded_back (Err (not_loaded.Damaged c q)) vs = rw (rule_of_back q) refl
+loaded_back (Err not_loaded.NotCollected) vs = refl
 
 pub one_load : OneLoad
 one_load bs ws r r' vs vs' p q =
@@ -49,25 +50,29 @@ one_load bs ws r r' vs vs' p q =
 
 -- ---- saving
 
-abbrev saved_by : Verdict → ℕ → ℕ → ℕ → Saved
-saved_by v t m s = on_zero s (saved.Done t m) (cond (eqb s 22) (saved.ShortSpace t) (saved.Refused (unsound_of v)))
+abbrev saved_by : Verdict → ℕ → ℕ → ℕ → Result Saved NotSaved
+saved_by v t m s =
+    on_zero s (Ok (record { top = t; length = m }))
+    (Err (cond (eqb s 22) (not_saved.ShortSpace t) (not_saved.Unsound (unsound_of v))))
 
-abbrev saved_of : file.Saved → Saved
+abbrev saved_of : file.Saved → Result Saved NotSaved
 saved_of d = saved_by d.verdict d.top d.size d.verdict.status
 
-refused_back : (v : Verdict) (t : ℕ) (u : Unsound) → saved_by v t 0 (refusal_of u).status ≡ saved.Refused (unsound_of v)
-refused_back v t = refusal_by (saved_by v t 0) (saved.Refused (unsound_of v)) refl refl refl
+refused_back : (v : Verdict) (t : ℕ) (u : Unsound)
+    → saved_by v t 0 (refusal_of u).status ≡ Err (not_saved.Unsound (unsound_of v))
+refused_back v t = refusal_by (saved_by v t 0) (Err (not_saved.Unsound (unsound_of v))) refl refl refl
 
-saved_back : (r : Saved) (vs : List ℕ) (top : ℕ) (ss : List ℕ) → saved_of (saved_in r vs top ss) ≡ r
-saved_back (saved.Done t m) vs top ss = refl
-saved_back (saved.ShortSpace t) vs top ss = refl
-saved_back (saved.Refused u) vs top ss = refused_back (refusal_of u) top u ∙ ap saved.Refused (unsound_of_back u)
+saved_back : (r : Result Saved NotSaved) (vs : List ℕ) (top : ℕ) (ss : List ℕ) → saved_of (saved_in r vs top ss) ≡ r
+saved_back (Ok s) vs top ss = refl
+saved_back (Err (not_saved.ShortSpace t)) vs top ss = refl
+saved_back (Err (not_saved.Unsound u)) vs top ss =
+    refused_back (refusal_of u) top u
+    ∙ ap {B = Result Saved NotSaved} (λ (w : Unsound). Err (not_saved.Unsound w)) (unsound_of_back u)
 
-words_back : (r : Saved) (vs : List ℕ) (top : ℕ) (ss : List ℕ)
+words_back : (r : Result Saved NotSaved) (vs : List ℕ) (top : ℕ) (ss : List ℕ)
     → ((saved_in r vs top ss).words ≡ vs) × ((saved_in r vs top ss).space ≡ ss)
-words_back (saved.Done t m) vs top ss = (refl, refl)
-words_back (saved.ShortSpace t) vs top ss = (refl, refl)
-words_back (saved.Refused u) vs top ss = (refl, refl)
+words_back (Ok s) vs top ss = (refl, refl)
+words_back (Err e) vs top ss = (refl, refl)
 
 pub one_save : OneSave
 one_save ws top out r r' vs vs' ss ss' p q =

@@ -1,61 +1,54 @@
--- The verdict on a file, test by test, and on the store in it from its occupied cells. In order:
+-- The verdict on the store in a file, from its occupied cells. In order:
 --   found_damaged, found_ready, found_uncollected   3 and 34, as the code finds them
 --   store_found                                     what the code finds is what the definition says
---   part_body                                       the part of a file from its first heap cell on
---   judge_edition to judge_stored                   the tests of the trailer, as the code makes them, then the store
+--   judged, room                                    a file whose trailer is right: its verdict, and its slice
 -- Assumes nothing.
 use mathlib.Core.Path.{◌≡◌, refl, sym, ap, ◌∙◌}
-use mathlib.Core.Logic.{◌⊎◌, inl, inr, ◌≢◌}
+use mathlib.Core.Logic.{◌⊎◌, inl, inr}
 use mathlib.Core.Bool.{Bool, true, false, cond}
 use mathlib.Core.List.{List, ◌++◌}
 use Prim.Native.Nat.{ℕ, zero, suc, ◌+◌, ◌-◌, ◌*◌, ◌≤◌, ◌<◌}
 use native.Mathlib.Omega.{arith}
-use lib.Dec.{leb, eqb}
 use lib.ListN.{length, get_or, replicate, get_or-eq_default}
-use borrow.Author.Tests.{lt-ltb, le-ltb, ne_eqb}
+use borrow.Author.Tests.{lt-ltb, le-ltb}
 use Rattle.words.specs.Cell.{first_word, second_word}
 use Rattle.octets.specs.Little.{words_of}
 use Rattle.octets.proofs.Filling.{padded_at}
-use Rattle.meaning.specs.Limits.{limit}
 use Rattle.meaning.specs.Sound.{at, Sound, capacity}
 use Rattle.meaning.specs.Reach.{held_below}
-use Rattle.meaning.specs.Verdicts.{Verdict, only, damaged_at}
+use Rattle.meaning.specs.Verdicts.{only, damaged_at}
 use Rattle.meaning.specs.Check.{broken_rule, cell_test, damaged, length_test, top_test, verdict_at, check}
-use Rattle.meaning.specs.File.{first_of, distance_for, file_cells, file_capacity, file_edition, body, cells_in, image}
-use Rattle.meaning.specs.File.{distance_test, capacity_test, check_store, check_as}
+use Rattle.meaning.specs.File.{file_cells, file_capacity, body, cells_in, image}
+use Rattle.meaning.specs.File.{check_store, check_file}
 use Rattle.meaning.proofs.Lists.{lt_or_ge}
-use Rattle.meaning.proofs.Counting.{positive}
 use Rattle.meaning.proofs.sound.Cells.{limit_fits}
 use Rattle.meaning.proofs.check.Checking.{yes_length, yes_top, yes_cell, damaged_before, tests_sound, sound_check}
 use Rattle.meaning.proofs.check.Scanning.{check_cells, verdict_damaged}
 use Rattle.meaning.proofs.file.Images.{held_zeros, cell_zeros, damaged_zeros}
-use Rattle.meaning.proofs.file.Accepted.{Framed, body_long, occupied, image_is, image_long, distance_yes, capacity_yes}
-use Rattle.meaning.proofs.file.Accepted.{as_edition, as_distance, as_capacity, as_slice, as_store}
-use Rattle.file.specs.Answers.{Gives}
-use Rattle.file.specs.Body.{store_in, Whole}
+use Rattle.meaning.proofs.file.Accepted.{Framed, occupied, image_is, image_long, distance_yes, capacity_yes}
+use Rattle.meaning.proofs.file.Accepted.{as_store, checked_long}
+use Rattle.file.specs.Images.{words_in, top_in}
 use Rattle.file.specs.Windows.{held_from}
-use Rattle.file.specs.Judged.{TrailerOf, rule_in, found_in}
-use Rattle.file.specs.declared.Loaded.{Loaded}
-use Rattle.file.specs.declared.Loaded.TheVariants as loaded
-use Rattle.file.specs.declared.judging.Trailer.{Trailer}
-use Rattle.file.proofs.Parts.{part, part_drop}
+use Rattle.file.specs.Judged.{ImageOf, rule_in, found_in}
+use Rattle.file.specs.declared.image.Image.{Image}
 use Rattle.file.proofs.Windowed.{held_live}
 
 -- ---- 3 and 34, as the code finds them
 
-module _ (f n c : ℕ) (ws : List ℕ) (e : c ≡ damaged f ws (f + n) 0 (f + n)) where
-  pub found_damaged : (q : ℕ) → q ≡ rule_in f n ws c → c < f + n → Gives (loaded.Damaged c q) (found_in f n ws) (f + n)
+module _ (f n : ℕ) (ws : List ℕ) where
+  pub found_damaged : (c q : ℕ) → damaged f ws (f + n) 0 (f + n) ≡ c → rule_in f n ws c ≡ q → c < f + n
+      → found_in f n ws ≡ damaged_at c q
   unfolding found_in
-  found_damaged q r h = rw (← e, lt-ltb c (f + n) h, r) (refl, refl)
+  found_damaged c q e r h = rw (e, lt-ltb c (f + n) h, r) refl
 
-  module _ (t : Bool) (h : f + n ≤ c) (q : t ≡ held_from (at ws) (f + n) f n) where
-    pub found_ready : t ≡ true → Gives (loaded.Ready (f + n)) (found_in f n ws) (f + n)
+  module _ (e : damaged f ws (f + n) 0 (f + n) ≡ f + n) where
+    pub found_ready : held_from (at ws) (f + n) f n ≡ true → found_in f n ws ≡ only 0
     unfolding found_in
-    found_ready p = rw (← e, le-ltb c (f + n) h, ← q, p) (refl, refl)
+    found_ready h = rw (e, le-ltb (f + n) (f + n) (omega arith), h) refl
 
-    pub found_uncollected : t ≡ false → Gives loaded.NotCollected (found_in f n ws) (f + n)
+    pub found_uncollected : held_from (at ws) (f + n) f n ≡ false → found_in f n ws ≡ only 34
     unfolding found_in
-    found_uncollected p = rw (← e, le-ltb c (f + n) h, ← q, p) (refl, refl)
+    found_uncollected h = rw (e, le-ltb (f + n) (f + n) (omega arith), h) refl
 
 -- ---- and as the definition has them
 
@@ -159,82 +152,22 @@ module _ (f : ℕ) (bs : List ℕ) (a : Framed f bs) where
           (ap (λ (t : Bool). cond t (only 0) (only 34))
           (sym (held_live f n ws a.kind s) ∙ held_ext ws xs (f + n) (held_zeros xs m (f + n)) f n))
 
--- ---- the trailer's tests, as the code makes them
+-- ---- a file whose trailer is right
 
--- the part from the first heap cell on is the body
-pub part_body : (bs : List ℕ) (t : Trailer) → TrailerOf bs t → part bs (length bs - t.distance) ≡ body bs
-part_body bs t o = part_drop bs (length bs - t.distance) ∙ rw o.distance refl
+module _ (bs : List ℕ) (len : ℕ) (i : Image) (o : ImageOf bs len i) where
+  framed : Framed i.first bs
+  framed =
+      let d = distance_yes i.first bs o.distance in
+      let c = capacity_yes i.first bs o.capacity in
+      record { long = o.long; kind = o.kind; reach = d.0; within = d.1; enough = c.0; allowed = c.1 }
 
--- a file whose trailer is right
-module _ (bs : List ℕ) (t : Trailer) (o : TrailerOf bs t) (a : Framed (first_of (file_edition bs)) bs) where
-  pub start_fits : t.distance ≤ length bs
-  start_fits = rw o.distance a.within
+  -- its verdict
+  pub judged : check_file bs len ≡ found_in i.first i.cells (words_in i)
+  judged =
+      checked_long bs len o.long
+      ∙ (rw (← o.first) (as_store i.first bs len o.kind o.distance o.capacity o.slice)
+      ∙ (store_found i.first bs framed ∙ rw (o.cells, o.bytes) refl))
 
-  pub part_whole : Whole t.first t.cells (part bs (length bs - t.distance))
-  part_whole =
-      rw (part_body bs t o, o.first, o.cells)
-      (record { long = body_long _ bs a; few = omega (arith, a.enough, a.allowed) })
-
-module _ (bs : List ℕ) (len : ℕ) (t : Trailer) (o : TrailerOf bs t) where
-  abbrev F : ℕ
-  F = first_of (file_edition bs)
-
-  abbrev v : Verdict
-  v = check_as (first_of (file_edition bs)) bs len
-
-  abbrev top : ℕ
-  top = first_of (file_edition bs) + file_cells bs
-
-  pub judge_edition : t.first ≡ 0 → Gives loaded.BadEdition v top
-  judge_edition h = rw (as_edition F bs len (sym o.first ∙ h)) (refl, refl)
-
-  module _ (h : t.first ≢ 0) (r : Bool)
-      (er : r ≡ cond (eqb t.distance (distance_for t.first t.cells)) (leb t.distance (length bs)) false)
-    where
-      is_distance : distance_test F bs ≡ r
-      unfolding distance_test
-      is_distance = rw (← o.first, ← o.cells, ← o.distance) (sym er)
-
-      is_kind : 0 < F
-      is_kind = rw (← o.first) (positive t.first (ne_eqb t.first 0 h))
-
-      pub judge_distance : r ≡ false → Gives loaded.BadDistance v top
-      judge_distance q = rw (as_distance F bs len is_kind (is_distance ∙ q)) (refl, refl)
-
-      module _ (y : r ≡ true) (r' : Bool)
-          (er' : r' ≡ cond (leb (t.first + t.cells) t.capacity) (leb t.capacity limit) false) where
-        is_capacity : capacity_test F bs ≡ r'
-        unfolding capacity_test
-        is_capacity = rw (← o.first, ← o.cells, ← o.capacity) (sym er')
-
-        pub judge_capacity : r' ≡ false → Gives loaded.BadCapacity v top
-        judge_capacity q = rw (as_capacity F bs len is_kind (is_distance ∙ y) (is_capacity ∙ q)) (refl, refl)
-
-        module _ (y' : r' ≡ true) where
-          pub judge_slice : len ≢ 2 * t.capacity → Gives loaded.WrongSlice v top
-          judge_slice q =
-              rw (as_slice F bs len is_kind (is_distance ∙ y) (is_capacity ∙ y') (rw (← o.capacity) q)) (refl, refl)
-
-          pub framed : 16 ≤ length bs → Framed (first_of (file_edition bs)) bs
-          framed l =
-              let d = distance_yes F bs (is_distance ∙ y) in
-              let c = capacity_yes F bs (is_capacity ∙ y') in
-              record {
-                long = l;
-                kind = is_kind;
-                reach = d.0;
-                within = d.1;
-                enough = c.0;
-                allowed = c.1;
-              }
-
-          pub judge_stored : 16 ≤ length bs → len ≡ 2 * t.capacity → (R : Loaded)
-              → Gives R
-              (found_in t.first t.cells (store_in t.first t.cells (part bs (length bs - t.distance))))
-              (t.first + t.cells)
-              → Gives R v top
-          judge_stored l q R g =
-              let x : v ≡ found_in F (file_cells bs) (store_in F (file_cells bs) (body bs)) =
-              as_store F bs len is_kind (is_distance ∙ y) (is_capacity ∙ y') (rw (← o.capacity) q)
-              ∙ store_found F bs (framed l) in
-              rw x (rw (part_body bs t o, o.first, o.cells) at g)
+  -- its slice has room for the store
+  pub room : 2 * top_in i ≤ len
+  room = omega (arith, o.slice, o.cells, framed.enough)

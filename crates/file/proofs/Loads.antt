@@ -1,71 +1,44 @@
 -- What loading leaves, from what is found of the file. In order:
---   load_short     a file under 16 bytes
---   load_refused   one that is refused
---   is_framed      one that is taken, and the room that its store needs
---   load_filled    what is left where the store is written
+--   not_loaded_kept   no refusal has the number 0
+--   load_refused    a file that is refused
+--   load_filled     one that is taken, once the store is written
 -- Assumes nothing.
-use mathlib.Core.Path.{◌≡◌, refl, sym, ap, ◌∙◌, subst}
-use mathlib.Core.Bool.{Bool, true, false}
+use mathlib.Core.Path.{◌≡◌, refl, ◌∙◌}
 use mathlib.Core.List.{List}
-use Prim.Native.Nat.{ℕ, ◌+◌, ◌-◌, ◌*◌, ◌≤◌, ◌<◌}
-use native.Mathlib.Omega.{arith}
-use lib.Dec.{eqb}
+use Prim.Native.Nat.{ℕ, ◌+◌}
 use lib.ListN.{length}
-use borrow.Author.Tests.{eqb-true, eqb-false}
+use Rattle.std.specs.Prelude.{Ok, Err}
 use Rattle.octets.specs.Space.{filled}
-use Rattle.meaning.specs.Verdicts.{Verdict, if_sound}
-use Rattle.meaning.specs.File.{first_of, file_cells, file_edition, image, check_as, check_file, load_in}
-use Rattle.meaning.proofs.check.Checking.{on_zero_no}
-use Rattle.meaning.proofs.file.Accepted.{Framed, Accepted, accepted_as, checked_short, checked_long}
-use Rattle.file.specs.Answers.{verdict_of, top_of, Gives, Loads}
-use Rattle.file.specs.Body.{store_in}
-use Rattle.file.specs.Judged.{TrailerOf}
-use Rattle.file.specs.declared.Loaded.{Loaded}
-use Rattle.file.specs.declared.Loaded.TheVariants as loaded
-use Rattle.file.specs.declared.judging.Trailer.{Trailer}
-use Rattle.file.proofs.Parts.{part}
-use Rattle.file.proofs.Judges.{part_body}
+use Rattle.meaning.specs.Verdicts.{only, if_sound}
+use Rattle.meaning.specs.File.{first_of, file_cells, file_edition, image, check_file, load_in}
+use Rattle.file.specs.Answers.{not_loaded_of, Loads}
+use Rattle.file.specs.Images.{words_in, top_in}
+use Rattle.file.specs.Judged.{ImageOf}
+use Rattle.file.specs.declared.NotLoaded.{NotLoaded}
+use Rattle.file.specs.declared.NotLoaded.TheVariants as not_loaded
+use Rattle.file.specs.declared.image.Image.{Image}
 
-pub load_short : (bs ws : List ℕ) → length bs < 16 → Loads bs ws loaded.ShortFile ws
-unfolding load_in
-load_short bs ws h = rw (checked_short bs (length ws) h) refl
+not_loaded_kept : {A : Type 0} (e : NotLoaded) (x y : A) → if_sound (not_loaded_of e) x y ≡ y
+not_loaded_kept not_loaded.ShortFile x y = refl
+not_loaded_kept not_loaded.BadEdition x y = refl
+not_loaded_kept not_loaded.BadDistance x y = refl
+not_loaded_kept not_loaded.BadCapacity x y = refl
+not_loaded_kept not_loaded.WrongSlice x y = refl
+not_loaded_kept (not_loaded.Damaged c q) x y = refl
+not_loaded_kept not_loaded.NotCollected x y = refl
 
-module _ (bs ws : List ℕ) (l : 16 ≤ length bs) (R : Loaded)
-    (g : Gives R (check_as (first_of (file_edition bs)) bs (length ws)) (first_of (file_edition bs) + file_cells bs))
-    (t : Bool) (e : t ≡ eqb (verdict_of R).status 0) where
+module _ (bs ws : List ℕ) where
   abbrev f : ℕ
   f = first_of (file_edition bs)
 
-  is_checked : check_file bs (length ws) ≡ verdict_of R
-  is_checked = checked_long bs (length ws) l ∙ sym g.0
-
-  is_top : top_of R ≡ if_sound (verdict_of R) (f + file_cells bs) 0
-  is_top = subst (λ (v : Verdict). top_of R ≡ if_sound v (f + file_cells bs) 0) (sym g.0) g.1
-
-  pub load_refused : t ≡ false → Loads bs ws R ws
+  pub load_refused : (e : NotLoaded) → check_file bs (length ws) ≡ not_loaded_of e → Loads bs ws (Err e) ws
   unfolding load_in
-  load_refused h =
-      let s = (verdict_of R).status in
-      rw (is_checked, is_top, on_zero_no s (image f bs) ws (eqb-false s 0 (sym e ∙ h))) refl
+  load_refused e h = rw (h, not_loaded_kept e (image f bs) ws, not_loaded_kept e (f + file_cells bs) 0) refl
 
-  module _ (h : t ≡ true) where
-    ready : (verdict_of R).status ≡ 0
-    ready = eqb-true (verdict_of R).status 0 (sym e ∙ h)
-
-    is_accepted : Accepted f bs (length ws)
-    is_accepted = accepted_as f bs (length ws) l (ap (λ (v : Verdict). v.status) (sym g.0) ∙ ready)
-
-    pub is_framed : Framed (first_of (file_edition bs)) bs
-    is_framed = is_accepted.frame
-
-    module _ (r : Trailer) (o : TrailerOf bs r) where
-      pub room_enough : 2 * (r.first + r.cells) ≤ length ws
-      room_enough = rw (o.first, o.cells) (omega (arith, is_accepted.slice, is_accepted.frame.enough))
-
-      pub load_filled : (ws' : List ℕ)
-          → ws' ≡ filled (length ws) (store_in r.first r.cells (part bs (length bs - r.distance)))
-          → Loads bs ws R ws'
-      unfolding load_in image
-      load_filled ws' q =
-          let w : ws' ≡ image f bs = q ∙ rw (part_body bs r o, o.first, o.cells, is_accepted.slice) refl in
-          rw (is_checked, is_top, w, ready) refl
+  pub load_filled : (i : Image) → ImageOf bs (length ws) i × (check_file bs (length ws) ≡ only 0) → (vs : List ℕ)
+      → vs ≡ filled (length ws) (words_in i) → (t : ℕ) → t ≡ top_in i
+      → Loads bs ws (Ok t) vs
+  unfolding load_in image
+  load_filled i o vs q t p =
+      let v : vs ≡ image f bs = q ∙ rw (o.0.bytes, o.0.first, o.0.cells, o.0.slice) refl in
+      rw (o.1, p, v, o.0.first, o.0.cells) refl

@@ -1,22 +1,20 @@
 -- A window's notes: one cell more, and what a look along them tells. In order:
---   noted_none, noted_run          a cell without a run that belongs to the window, and one with such a run
---   window_length, noted_begin     before the first cell
---   noted_turn                     a turn of the loop over the cells
---   between_past, held_past        a cell is held where a run that begins at or before it reaches beyond it
---   past_or, past_none             how far the runs reach that pass one test or another, or none
---   along_held                     a look along a window tells whether each of its cells is held
---   look_end, look_stop, look_turn the loop of the look
+--   noted_begin               before the first cell
+--   noted_turn                a turn of the loop over the cells
+--   between_past, held_past   a cell is held where a run that begins at or before it reaches beyond it
+--   past_or, past_none        how far the runs reach that pass one test or another, or none
+--   along_held, window_held   a look along a window tells whether each of its cells is held, or of its first n
 -- Assumes nothing.
 use mathlib.Core.Path.{◌≡◌, refl, sym, ap, ap₂, ◌∙◌, subst}
 use mathlib.Core.Bool.{Bool, true, false, cond, ◌&&◌, ◌||◌}
 use mathlib.Core.List.{List, [], ◌∷◌}
-use Prim.Native.Nat.{ℕ, zero, suc, ◌+◌, ◌-◌, ◌≤◌, ◌<◌, min, max}
+use Prim.Native.Nat.{ℕ, zero, suc, ◌+◌, ◌-◌, ◌≤◌, ◌<◌, max}
 use native.Mathlib.Nat.{max_comm, zero-max}
 use native.Mathlib.Numerals.{add-one}
 use native.Mathlib.Omega.{arith}
 use lib.Dec.{ltb, leb, eqb}
-use lib.ListN.{length, get_or, set, take, drop, replicate, length-set, length-replicate}
-use lib.Seq.{get_or-set_same, get_or-set_other, drop-cons, length-take-le}
+use lib.ListN.{length, get_or, set, take, replicate, length-set}
+use lib.Seq.{get_or-set_same, get_or-set_other, get_or-take, length-take-le}
 use borrow.Author.Tests.{ltb-true, ltb-false, leb-true, leb-false, eqb-true, eqb-false}
 use borrow.Author.Tests.{lt-ltb, le-ltb}
 use Rattle.words.specs.Cell.{first_word, second_word}
@@ -53,35 +51,11 @@ noted_step k m w far h j l =
     let g : j < length far = subst (λ (y : ℕ). j < y) (noted_length w (k m) far) l in
     noted_place w (k m) far j (past (placed w j) k m) g (h j g)
 
--- by the two words of the cell
-module _ (w a b : ℕ) (far : List ℕ) where
-  pub noted_none : b ≤ bracket_to 0 → noted w (cell_of (ltb b (bracket_to 0)) a b) far ≡ far
-  noted_none h = go (ltb b (bracket_to 0)) refl
-    where
-      go : (t : Bool) → ltb b (bracket_to 0) ≡ t → noted w (cell_of t a b) far ≡ far
-      go true e = refl
-      go false e = let z : b - bracket_to 0 ≡ 0 = omega arith in rw z refl
-
-  pub noted_run : bracket_to 0 < b
-      → noted w (cell_of (ltb b (bracket_to 0)) a b) far
-      ≡ set far (a - w) (max (get_or far (a - w) 0) (b - bracket_to 0 + 1))
-  noted_run h =
-      let e : b - bracket_to 0 ≡ suc (b - bracket_to 1) = omega arith in
-      let f : suc (b - bracket_to 1) + 1 ≡ suc (suc (b - bracket_to 1)) = omega arith in
-      rw (le-ltb b (bracket_to 0) (omega arith), e, f) refl
-
--- before the first: m places of an array of n zeros, where m is the smaller of n and x
-pub window_length : (m n x : ℕ) → m ≡ min n x → length (take m (replicate {A = ℕ} n 0)) ≡ m
-window_length m n x h = length-take-le m (replicate n 0) (omega (arith, length-replicate {A = ℕ} n 0))
-
-none_noted : (k : ℕ → Cell) (w m n : ℕ) → Noted k 0 w (take m (replicate n 0))
-none_noted k w zero n j h = absurd (omega arith)
-none_noted k w (suc m) zero j h = absurd (omega arith)
-none_noted k w (suc m) (suc n) zero h = refl
-none_noted k w (suc m) (suc n) (suc j) h = none_noted k w m n j (omega arith)
-
-pub noted_begin : (k : ℕ → Cell) (w m n x : ℕ) → m ≡ min n x → Noted k 0 w (take m (replicate n 0))
-noted_begin k w m n x h = none_noted k w m n
+-- before the first
+pub noted_begin : (k : ℕ → Cell) (w n : ℕ) → Noted k 0 w (replicate n 0)
+noted_begin k w zero j h = absurd (omega arith)
+noted_begin k w (suc n) zero h = refl
+noted_begin k w (suc n) (suc j) h = noted_begin k w n j (omega arith)
 
 -- a turn of the loop over the cells
 pub noted_turn : (ws : List ℕ) (c w a b : ℕ) (far far' : List ℕ) → a ≡ first_word ws c → b ≡ second_word ws c
@@ -202,26 +176,10 @@ module _ (k : ℕ → Cell) (m w : ℕ) where
       (subst (λ (y : ℕ). along (w + 0) y far ≡ held_from k m (w + 0) (length far)) p
       (along_from 0 far (λ i l. let g : 0 + i ≡ i = omega arith in rw g (h i l))))
 
--- the loop of the look
-drop_all : (xs : List ℕ) (j : ℕ) → length xs ≤ j → drop j xs ≡ []
-drop_all [] zero h = refl
-drop_all [] (suc j) h = refl
-drop_all (x ∷ xs) zero h = absurd (omega arith)
-drop_all (x ∷ xs) (suc j) h = drop_all xs j (omega arith)
-
-module _ (far : List ℕ) (w reach j : ℕ) where
-  pub look_end : length far ≤ j → along (w + j) reach (drop j far) ≡ true
-  look_end h = rw (drop_all far j h) refl
-
-  module _ (h : j < length far) (r : ℕ) (e : r ≡ max reach (get_or far j 0)) where
-    here : along (w + j) reach (drop j far) ≡ (ltb (w + j) r && along (suc (w + j)) r (drop (suc j) far))
-    here = rw (drop-cons far j 0 h, e) refl
-
-    pub look_stop : r ≤ w + j → along (w + j) reach (drop j far) ≡ false
-    look_stop g = here ∙ rw (le-ltb (w + j) r g) refl
-
-    pub look_turn : w + j < r → along (w + (j + 1)) r (drop (j + 1) far) ≡ along (w + j) reach (drop j far)
-    look_turn g =
-        let s : j + 1 ≡ suc j = omega arith in
-        let t : w + suc j ≡ suc (w + j) = omega arith in
-        rw (s, t) (sym (here ∙ rw (lt-ltb (w + j) r g) refl))
+  -- the same of its first n places
+  pub window_held : (far : List ℕ) (n : ℕ) → n ≤ length far → Noted k m w far
+      → along w 0 (take n far) ≡ held_from k m w n
+  window_held far n l h =
+      let e : length (take n far) ≡ n = length-take-le n far l in
+      along_held (take n far) (λ j i. get_or-take n far j 0 (omega arith) ∙ h j (omega arith))
+      ∙ ap (λ (x : ℕ). held_from k m w x) e

@@ -1,14 +1,15 @@
--- Parts of lists: the part of bytes from one on; and a slice into which a store is written in two parts, its registers,
--- then its heap and the zeros after it. In order:
---   part, part_drop   the part from a place on
---   filled_parts      the two parts are the store
+-- Parts of lists: the part of bytes from one on; and a store in two parts, its registers and its heap. In order:
+--   part, part_drop       the part from a place on
+--   cell_low, cell_high   the words of a cell of the store: of a register, of a heap cell
+--   filled_parts          a slice into which the two parts are written, and zeros after them
 -- Assumes nothing.
-use mathlib.Core.Path.{◌≡◌, refl, sym, ap, ◌∙◌}
-use mathlib.Core.List.{List, [], ◌++◌, append-nil}
-use Prim.Native.Nat.{ℕ, ◌+◌, ◌-◌, ◌*◌, ◌≤◌}
+use mathlib.Core.Path.{◌≡◌, sym, ap, ◌∙◌}
+use mathlib.Core.List.{List, ◌++◌}
+use Prim.Native.Nat.{ℕ, ◌+◌, ◌-◌, ◌*◌, ◌≤◌, ◌<◌}
 use native.Mathlib.Omega.{arith}
-use lib.ListN.{length, take, drop, length-append, length-drop, drop_of_length-le}
-use lib.Seq.{length-take-le, take_all, take_at}
+use lib.ListN.{length, get_or, take, drop, length-drop}
+use lib.Seq.{take_all}
+use Rattle.words.specs.Cell.{first_word, second_word}
 use Rattle.octets.specs.Little.{words_of}
 use Rattle.octets.specs.Space.{filled}
 use Rattle.octets.proofs.Endian.{words_length, words_take, words_drop}
@@ -23,6 +24,32 @@ part bs s = take (length bs - s) (drop s bs)
 pub part_drop : (bs : List ℕ) (s : ℕ) → part bs s ≡ drop s bs
 part_drop bs s = take_all (length bs - s) (drop s bs) (omega (arith, length-drop s bs))
 
+module _ (f n : ℕ) (body : List ℕ) (o : Whole f n body) (c : ℕ) where
+  enough : 2 * n + 2 * f ≤ length (words_of body)
+  enough = omega (arith, words_length body, o.long)
+
+  pub cell_low : c < f
+      → (first_word (store_in f n body) c ≡ get_or (words_of body) (2 * (n + c)) 0)
+      × (second_word (store_in f n body) c ≡ get_or (words_of body) (2 * (n + c) + 1) 0)
+  cell_low h =
+      let w = words_of body in
+      let e : 2 * n + 2 * c ≡ 2 * (n + c) = omega arith in
+      let d : 2 * n + (2 * c + 1) ≡ 2 * (n + c) + 1 = omega arith in (
+        images.cells_low f n w enough (2 * c) (omega arith) ∙ ap (λ (i : ℕ). get_or w i 0) e,
+        images.cells_low f n w enough (2 * c + 1) (omega arith) ∙ ap (λ (i : ℕ). get_or w i 0) d,
+      )
+
+  pub cell_high : f ≤ c → c < f + n
+      → (first_word (store_in f n body) c ≡ get_or (words_of body) (2 * (c - f)) 0)
+      × (second_word (store_in f n body) c ≡ get_or (words_of body) (2 * (c - f) + 1) 0)
+  cell_high l h =
+      let w = words_of body in
+      let e : 2 * c - 2 * f ≡ 2 * (c - f) = omega arith in
+      let d : 2 * c + 1 - 2 * f ≡ 2 * (c - f) + 1 = omega arith in (
+        images.cells_high f n w enough (2 * c) (omega arith) (omega arith) ∙ ap (λ (i : ℕ). get_or w i 0) e,
+        images.cells_high f n w enough (2 * c + 1) (omega arith) (omega arith) ∙ ap (λ (i : ℕ). get_or w i 0) d,
+      )
+
 module _ (f n : ℕ) (body ws : List ℕ) (o : Whole f n body) (h : 2 * (f + n) ≤ length ws) where
   abbrev w : List ℕ
   w = words_of body
@@ -33,48 +60,31 @@ module _ (f n : ℕ) (body ws : List ℕ) (o : Whole f n body) (h : 2 * (f + n) 
   abbrev m : ℕ
   m = length ws - 2 * f
 
-  regs_long : length regs ≡ 2 * f
-  regs_long = images.regs_long f n w (omega (arith, words_length body, o.long))
-
   four : 8 * n ≡ 4 * (2 * n)
   four = omega arith
 
-  -- the slice after the registers are written
-  abbrev half : List ℕ
-  half = regs ++ drop (2 * f) ws
-
-  half_long : length half ≡ length ws
-  half_long = omega (arith, length-append regs (drop (2 * f) ws), regs_long, length-drop (2 * f) ws)
-
-  upper_long : length (part half (2 * f)) ≡ m
-  upper_long =
-      let e = ap (λ (x : List ℕ). length x) (part_drop half (2 * f)) in
-      omega (arith, e, length-drop (2 * f) half, half_long)
-
-  module _ (P : List ℕ) (p : P ≡ filled (length (take (2 * f) ws)) (words_of (part body (8 * n)))) where
-    first_part : P ≡ regs
-    first_part =
-        let a : words_of (part body (8 * n)) ≡ drop (2 * n) w =
-        ap words_of (part_drop body (8 * n) ∙ ap (λ (x : ℕ). drop x body) four) ∙ words_drop (2 * n) body in
-        let l = length-take-le (2 * f) ws (omega arith) in
-        p ∙ rw (l, a) (filled_long (2 * f) (drop (2 * n) w)
-        (omega (arith, length-drop (2 * n) w, words_length body, o.long)))
-
-    pub filled_parts : (Q : List ℕ)
-        → Q ≡ filled (length (part (P ++ drop (2 * f) ws) (2 * f))) (words_of (take (8 * n) body))
-        → take (2 * f) (P ++ drop (2 * f) ws)
-        ++ (Q ++ drop (length (P ++ drop (2 * f) ws) - 2 * f) (drop (2 * f) (P ++ drop (2 * f) ws)))
-        ≡ filled (length ws) (store_in f n body)
-    unfolding cells_in
-    filled_parts Q =
-        rw first_part
-        (λ q.
-        let heap = take (2 * n) w in
-        let b : words_of (take (8 * n) body) ≡ heap =
-        ap (λ (x : ℕ). words_of (take x body)) four ∙ words_take (2 * n) body in
-        let Q-is : Q ≡ filled m heap = q ∙ rw (upper_long, b) refl in
-        let z : drop (length half - 2 * f) (drop (2 * f) half) ≡ [] =
-        drop_of_length-le (drop (2 * f) half) {i = length half - 2 * f} (omega (arith, length-drop (2 * f) half)) in
-        let e : length regs + m ≡ length ws = omega (arith, regs_long) in
-        rw (take_at regs (drop (2 * f) ws) (2 * f) regs_long, z, Q-is, append-nil (filled m heap))
-        (sym (filled_then m regs heap) ∙ ap (λ (x : ℕ). filled x (regs ++ heap)) e))
+  -- low and high are the lengths of the two parts
+  pub filled_parts : (low high : ℕ) (P Q : List ℕ) → low ≡ 2 * f → high + 2 * f ≡ length ws
+      → P ≡ filled low (words_of (drop (8 * n) body)) → Q ≡ filled high (words_of (take (8 * n) body))
+      → P ++ Q ≡ filled (length ws) (store_in f n body)
+  unfolding cells_in
+  filled_parts low high P Q l g p q =
+      let heap = take (2 * n) w in
+      let a : words_of (drop (8 * n) body) ≡ drop (2 * n) w =
+      ap (λ (x : ℕ). words_of (drop x body)) four ∙ words_drop (2 * n) body in
+      let b : words_of (take (8 * n) body) ≡ heap =
+      ap (λ (x : ℕ). words_of (take x body)) four ∙ words_take (2 * n) body in
+      let k : high ≡ m = omega arith in
+      let r : length regs ≡ 2 * f = images.regs_long f n w (omega (arith, words_length body, o.long)) in
+      let e : length regs + m ≡ length ws = omega arith in
+      rw (
+        p,
+        q,
+        l,
+        k,
+        a,
+        b,
+        filled_long (2 * f) (drop (2 * n) w)
+            (omega (arith, length-drop (2 * n) w, words_length body, o.long)),
+      )
+      (sym (filled_then m regs heap) ∙ ap (λ (x : ℕ). filled x (regs ++ heap)) e)

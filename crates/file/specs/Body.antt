@@ -1,10 +1,11 @@
--- The bytes of a file from its first heap cell on, as the occupied cells of a store: f is the first heap cell of that
--- store, n is the number of its heap cells. Assumes nothing.
+-- The store in a file, from its body, the bytes from the first heap cell on: f is that cell, n is the number of its
+-- heap cells. Assumes nothing.
 use Rattle.std.specs.Prelude.{◌≡◌, List, ℕ, ◌+◌, ◌≤◌, length}
 use Rattle.octets.specs.Little.{words_of}
 use Rattle.meaning.specs.Limits.{limit}
 use Rattle.meaning.specs.File.{distance_for, cells_in}
 
+-- its occupied cells
 abbrev pub store_in : ℕ → ℕ → List ℕ → List ℕ
 store_in f n body = cells_in f n (words_of body)
 

@@ -3,88 +3,78 @@
 // The numbers that an answer stands for are in specs/Answers.antt.
 #![tactic(auto)]
 
-ghost use Rattle.std.specs.Prelude.{◌≡◌, length};
-ghost use Rattle.meaning.specs.Limits.{first_heap_cell, edition};
-ghost use Rattle.meaning.specs.Sound.{Sound};
-ghost use Rattle.meaning.specs.Collected.{collected, collected_top};
-ghost use Rattle.meaning.specs.File.{file_of, saved_as};
-ghost use Rattle.file.specs.Answers.{saved_in, Loads, Saves};
+ghost use Rattle.std.specs.Prelude.{◌≡◌};
+ghost use Rattle.file.specs.Answers.{Loads, Saves};
+ghost use Rattle.file.specs.Written.{Writes};
+ghost use Rattle.file.specs.declared.NotSaved.TheVariants as not_saved;
 
-use store::{Checked, Unsound};
+use store::{Rule, Unsound};
 
 mod held;
+mod image;
 mod judging;
-mod reading;
 mod writing;
 
-// What loading answers: `top` of the store, or why the file is refused. Damaged has the first damaged cell
-// and the rule that it breaks.
-#[derive(Clone, Copy)]
-pub enum Loaded {
-    Ready(usize),
+// Why a file is refused: the first of these that holds. Damaged has the first damaged cell and the rule that it breaks.
+#[derive(Clone, Copy, PartialEq, Eq)]
+pub enum NotLoaded {
     ShortFile,
     BadEdition,
     BadDistance,
     BadCapacity,
     WrongSlice,
-    Damaged(usize, u32),
+    Damaged(usize, Rule),
     NotCollected,
 }
 
-// Loads the store of a file into a slice of its length. Where it is refused, the slice is left as it was lent. The
-// slice need not hold a store before.
-pub fn load(ws: &mut [u32], file: &[u8]) -> Loaded
+// Loads the store of a file into a slice of its length, and gives its `top`. Where the file is refused, the slice is
+// left as it was lent. The slice need not hold a store before.
+pub fn load(ws: &mut [u32], file: &[u8]) -> Result<usize, NotLoaded>
     ensures { Loads file.now ws.old result ws.new }
 {
-    if file.len() < judging::TRAILER {
-        return Loaded::ShortFile;
-    }
-    let t = judging::read_trailer(file);
-    let found = judging::judge(t, file, ws.len());
-    if judging::is_ready(found) {
-        let start = file.len() - t.distance;
-        reading::fill(ws, &file[start..], t.first, t.cells);
-    }
-    found
+    let image = judging::judge(file, ws.len())?;
+    image.fill(ws);
+    Ok(image.top())
 }
 
-// What saving answers: the new `top` and the length of the file; the new `top` where the space is short; or why the
-// store is refused.
-#[derive(Clone, Copy)]
-pub enum Saved {
-    Done(usize, usize),
+// What saving gives: the new `top` and the length of the file.
+#[derive(Clone, Copy, PartialEq, Eq)]
+pub struct Saved {
+    pub top: usize,
+    pub length: usize,
+}
+
+// Why nothing is saved: the store is unsound; or the space is short, with the new `top`.
+#[derive(Clone, Copy, PartialEq, Eq)]
+pub enum NotSaved {
+    Unsound(Unsound),
     ShortSpace(usize),
-    Refused(Unsound),
 }
 
-// Collects a sound store and writes its file.
-fn save_sound(ws: &mut [u32], top: usize, space: &mut [u8]) -> Saved
-    requires { Sound first_heap_cell ws.old top }
-    ensures { saved_in result ws.new top space.new ≡ saved_as
-        (file_of edition first_heap_cell (collected first_heap_cell ws.old top)
-        (collected_top first_heap_cell ws.old top)) (collected first_heap_cell ws.old top)
-        (collected_top first_heap_cell ws.old top) (length space.old) }
-{
-    let low = collect::collect_sound(ws, top);
-    let pen = writing::put_file(space, ws, low);
-    if pen.short {
-        octets::writing::zero_from(space, 0);
-        return Saved::ShortSpace(low);
+impl From<Unsound> for NotSaved {
+    ghost from_gives = { λ why e. e ≡ not_saved.Unsound why };
+
+    fn from(why: Unsound) -> NotSaved {
+        NotSaved::Unsound(why)
     }
-    octets::writing::zero_from(space, pen.place);
-    Saved::Done(low, pen.place)
+}
+
+// Collects a store and writes its file at the start of the space. The rest of the space is left as it is.
+fn collect_and_write(ws: &mut [u32], top: usize, space: &mut [u8]) -> Result<Saved, NotSaved>
+    ensures { Writes ws.old top space.old result ws.new space.new }
+{
+    let low = collect::collect(ws, top)?.top;
+    let length = writing::put_file(space, ws, low).map_err(|_| NotSaved::ShortSpace(low))?;
+    Ok(Saved { top: low, length })
 }
 
 // Saves any store that is sound, and collects it for that; every other is left as it was lent. The whole space is
 // determined, whatever the answer.
-pub fn save(ws: &mut [u32], top: usize, space: &mut [u8]) -> Saved
+pub fn save(ws: &mut [u32], top: usize, space: &mut [u8]) -> Result<Saved, NotSaved>
     ensures { Saves ws.old top space.old result ws.new space.new }
 {
-    match store::check(ws, top) {
-        Checked::Sound => save_sound(ws, top, space),
-        Checked::Refused(why) => {
-            octets::writing::zero_from(space, 0);
-            Saved::Refused(why)
-        }
-    }
+    let saved = collect_and_write(ws, top, space);
+    let length = saved.map_or(0, |saved| saved.length);
+    octets::writing::zero_from(space, length);
+    saved
 }

@@ -1,32 +1,30 @@
 // The file of a collected store, written from left to right.
 ghost use Rattle.std.specs.Prelude.{◌≡◌};
 ghost use Rattle.octets.specs.Space.{blank, write};
-ghost use Rattle.octets.specs.Pens.{space};
+ghost use Rattle.octets.specs.Places.{space};
 ghost use Rattle.meaning.specs.Limits.{first_heap_cell, edition};
 ghost use Rattle.meaning.specs.Sound.{Sound};
 ghost use Rattle.meaning.specs.File.{file_of};
 
 use super::judging::TRAILER;
 use octets::writing;
-use octets::writing::Pen;
+use octets::writing::Full;
 
-// The heap, the registers, the trailer. The pen is short where they do not fit.
-pub fn put_file(out: &mut [u8], ws: &[u32], top: usize) -> Pen
+// The heap, the registers, the trailer. Gives the length of the file.
+#[tactic(auto, using(meaning::proofs::sound::Cells::limit_fits))]
+pub fn put_file(out: &mut [u8], ws: &[u32], top: usize) -> Result<usize, Full>
     requires { Sound first_heap_cell ws.now top }
     ensures { space out.new result
         ≡ write (file_of edition first_heap_cell ws.now top) (blank out.old) }
 {
     let low = 2 * meaning::FIRST_HEAP_CELL;
-    let high = 2 * top;
-    let n = top - meaning::FIRST_HEAP_CELL;
-    let distance = 8 * (n + meaning::FIRST_HEAP_CELL) + TRAILER;
-    let heap = writing::put_words(out, writing::start(), &ws[low..high]);
-    let registers = writing::put_words(out, heap, &ws[..low]);
     let trailer = [
-        distance as u32,
-        n as u32,
+        (8 * top + TRAILER) as u32,
+        (top - meaning::FIRST_HEAP_CELL) as u32,
         (ws.len() / 2) as u32,
         meaning::EDITION,
     ];
-    writing::put_words(out, registers, &trailer[..])
+    let place = writing::put_words(out, 0, &ws[low..2 * top])?;
+    let place = writing::put_words(out, place, &ws[..low])?;
+    writing::put_words(out, place, &trailer)
 }

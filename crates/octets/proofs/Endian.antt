@@ -1,15 +1,20 @@
 -- Laws of words of bytes and bytes of words. In order:
 --   words_length, bytes_length   how many there are
---   word_at, word_none           word j of bytes, and that there is none
+--   word_at_lem, word_none       word j of bytes, and that there is none
+--   worth, word_of               a chunk of four bytes as a word;  what is made of a chunk, or of none
 --   words_take, words_drop       the words of the first bytes, and of those after them
---   bytes_append                 the bytes of words, then of words
+--   bytes_append, bytes_one      the bytes of words, then of words;  of one word
 --   words_back, bytes_back       there and back
 -- Assumes nothing.
-use mathlib.Core.Path.{◌≡◌, refl, ap, ap₂}
+use mathlib.Core.Path.{◌≡◌, refl, sym, ap, ◌∙◌, ap₂}
 use mathlib.Core.List.{List, [], ◌∷◌, ◌++◌}
-use Prim.Native.Nat.{ℕ, zero, suc, ◌+◌, ◌*◌, ◌/◌, ◌%◌, ◌≤◌, ◌<◌}
+use Prim.Native.Nat.{ℕ, zero, suc, ◌+◌, ◌*◌, ◌/◌, ◌%◌, ◌^◌, ◌≤◌, ◌<◌}
 use native.Mathlib.Omega.{arith}
 use lib.ListN.{length, get_or, take, drop, get_or-eq_default}
+use Rattle.std.proofs.Common.{w32, Bor}
+use Rattle.std.specs.Prelude.{Option, Some, None, MatchOption}
+use Rattle.std.specs.Int.{to_le_bytes}
+use Rattle.std.specs.Simd.{first_chunks}
 use Rattle.octets.specs.Little.{words_of, bytes_of}
 use Rattle.octets.specs.Claims.{BytesLength, WordsBack, BytesBack}
 
@@ -46,6 +51,29 @@ word_at_lem (a ∷ b ∷ c ∷ d ∷ bs) (suc j) h =
 pub word_none : (bs : List ℕ) (j : ℕ) → length bs / 4 ≤ j → get_or (words_of bs) j 0 ≡ 0
 word_none bs j h = get_or-eq_default (words_of bs) 0 (omega (arith, words_length bs))
 
+-- a chunk of four bytes as a word
+abbrev pub worth : List ℕ → ℕ
+worth bs = get_or bs 0 0 + get_or bs 1 0 * 256 + get_or bs 2 0 * 65536 + get_or bs 3 0 * 16777216
+
+chunk_word : (bs : List ℕ) (k j : ℕ) (none : List ℕ) → k ≡ length bs / 4 → j < k
+    → worth (get_or (first_chunks 4 k bs) j none) ≡ get_or (words_of bs) j 0
+chunk_word [] k j none e h = absurd (omega arith)
+chunk_word (a ∷ []) k j none e h = absurd (omega arith)
+chunk_word (a ∷ b ∷ []) k j none e h = absurd (omega arith)
+chunk_word (a ∷ b ∷ c ∷ []) k j none e h = absurd (omega arith)
+chunk_word (a ∷ b ∷ c ∷ d ∷ bs) zero j none e h = absurd (omega arith)
+chunk_word (a ∷ b ∷ c ∷ d ∷ bs) (suc k) zero none e h = omega arith
+chunk_word (a ∷ b ∷ c ∷ d ∷ bs) (suc k) (suc j) none e h = chunk_word bs k j none (omega arith) (omega arith)
+
+-- what is made of a chunk, or of none
+pub word_of : (bs : List ℕ) (i r : ℕ) (chunks : List (List ℕ)) (o : Option (Bor (List ℕ)))
+    → chunks ≡ first_chunks 4 (length bs / 4) bs → MatchOption o (r ≡ 0) (λ x. r ≡ worth x.now)
+    → MatchOption o (length chunks ≤ i) (λ x. (i < length chunks) × ((none : List ℕ) → x.now ≡ get_or chunks i none))
+    → length chunks ≡ length bs / 4 → r ≡ get_or (words_of bs) i 0
+word_of bs i r chunks None e p q k = p ∙ sym (word_none bs i (omega (arith, q)))
+word_of bs i r chunks (Some x) e p q k =
+    p ∙ (rw (q.1 [], e) (chunk_word bs (length bs / 4) i [] refl (omega (arith, q.0))))
+
 -- the first n bytes have the first k words, and those after them the rest
 abbrev Cut : ℕ → ℕ → List ℕ → Type 0
 Cut n k bs = (words_of (take n bs) ≡ take k (words_of bs)) × (words_of (drop n bs) ≡ drop k (words_of bs))
@@ -71,6 +99,12 @@ pub bytes_append : (xs ys : List ℕ) → bytes_of (xs ++ ys) ≡ bytes_of xs ++
 bytes_append [] ys = refl
 bytes_append (x ∷ xs) ys =
     ap (λ (r : List ℕ). x % 256 ∷ x / 256 % 256 ∷ x / 65536 % 256 ∷ x / 16777216 ∷ r) (bytes_append xs ys)
+
+-- the bytes of one word of 32 bits
+pub bytes_one : (w : ℕ) → w < 2 ^ 32 → to_le_bytes w32 w ≡ bytes_of (w ∷ [])
+bytes_one w h =
+    let e : w / 16777216 % 256 ≡ w / 16777216 = omega arith in
+    ap (λ (x : ℕ). w % 256 ∷ w / 256 % 256 ∷ w / 65536 % 256 ∷ x ∷ []) e
 
 -- a word is that of its bytes, and a byte of a word is the byte it was made of
 four_of : (w : ℕ) → four (w % 256) (w / 256 % 256) (w / 65536 % 256) (w / 16777216) ≡ w

@@ -3,20 +3,21 @@
 --   filled_length, filled_at  the length and the elements of a filled list
 --   filled_fits               a list that fits is filled up with zeros
 --   filled_long, filled_then  a list that is too long; a list, then what fills the rest
+--   zeros_from, zeros_none    zeros from a place on, and none where that is past the end
 --   Filling                   the elements below i are as they are to be
---   begin, begin_at           none is to be, and those below a place are already
---   beyond, onward, finish    what is beyond that place; one element more; all of them
+--   finish                    so are all of them
 -- Assumes nothing.
-use mathlib.Core.Path.{◌≡◌, refl, sym, ◌∙◌, subst}
+use mathlib.Core.Path.{◌≡◌, refl, sym, ◌∙◌, ap, subst}
 use mathlib.Core.Bool.{Bool, true, false}
-use mathlib.Core.List.{List, [], ◌∷◌, ◌++◌}
+use mathlib.Core.List.{List, [], ◌∷◌, ◌++◌, append-nil}
 use Prim.Native.Nat.{ℕ, zero, suc, ◌+◌, ◌-◌, ◌≤◌, ◌<◌}
 use native.Mathlib.Omega.{arith}
 use lib.Dec.{ltb}
-use lib.ListN.{length, get_or, set, take, replicate, length-set, length-append, length-replicate, length-take}
-use lib.ListN.{get_or-eq_default, get_or-append}
-use lib.Seq.{length-take-le, get_or-take, ext_get_or, get_or-set_same, get_or-set_other, get_or-append-add}
-use lib.Seq.{take-append-le}
+use lib.ListN.{length, get_or, take, drop, replicate, length-append, length-replicate, length-take}
+use lib.ListN.{length-drop, get_or-append, drop_of_length-le}
+use lib.Seq.{length-take-le, get_or-take, ext_get_or, get_or-append-add}
+use lib.Seq.{take-append-le, take_all}
+use borrow.Rule.Slice.PartMut.{put_mid}
 use borrow.Author.Tests.{ltb-true, ltb-false}
 use Rattle.octets.specs.Space.{filled}
 use Rattle.octets.specs.Claims.{PaddedAt, FilledFits}
@@ -80,33 +81,27 @@ filled_then n xs ys =
         (get_or-append-add xs ys j 0
         ∙ (sym (filled_at n ys j (omega arith)) ∙ sym (get_or-append-add xs (filled n ys) j 0)))
 
+-- zeros from a place on, and none where the place is past the end
+pub zeros_from : (l : List ℕ) (n : ℕ) (zeros : List ℕ) → n ≤ length l
+    → zeros ≡ replicate (length (take (length l - n) (drop n l))) 0
+    → put_mid n (length l - n) l zeros ≡ filled (length l) (take n l)
+zeros_from l n zeros h z =
+    let m = length l - n in
+    let first : length (take n l) ≡ n = omega (arith, length-take n l) in
+    let many : length (take m (drop n l)) ≡ m = omega (arith, length-take m (drop n l), length-drop n l) in
+    let rest : drop m (drop n l) ≡ [] = drop_of_length-le (drop n l) (omega (arith, length-drop n l)) in
+    rw (z, many, filled_fits (length l) (take n l) (omega (arith, first)), first, rest)
+    (ap (λ (x : List ℕ). take n l ++ x) (append-nil (replicate m 0)))
+
+pub zeros_none : (l : List ℕ) (n : ℕ) → length l ≤ n → l ≡ filled (length l) (take n l)
+zeros_none l n h =
+    let z : length l - length l ≡ 0 = omega arith in
+    rw (take_all n l h, filled_fits (length l) l (omega arith), z) (sym (append-nil l))
+
 -- l was l₀ and becomes a filled list of xs: its elements below i are those of xs
 pub record Filling (l₀ xs l : List ℕ) (i : ℕ) : Type 0 where
   pub same : length l ≡ length l₀
   pub below : (j : ℕ) → j < i → get_or l j 0 ≡ get_or xs j 0
-
-pub begin : (l₀ xs : List ℕ) → Filling l₀ xs l₀ 0
-begin l₀ xs = record { same = refl; below = λ j h. absurd (omega arith) }
-
--- what stands below a place, from there on
-pub begin_at : (l₀ : List ℕ) (n : ℕ) → Filling l₀ (take n l₀) l₀ n
-begin_at l₀ n = record { same = refl; below = λ j h. sym (get_or-take n l₀ j 0 h) }
-
-pub beyond : (n : ℕ) (l : List ℕ) (i : ℕ) → n ≤ i → get_or (take n l) i 0 ≡ 0
-beyond n l i h = get_or-eq_default (take n l) 0 (omega (arith, length-take n l))
-
-pub onward : {l₀ xs l : List ℕ} {i x : ℕ} → Filling l₀ xs l i → i < length l → x ≡ get_or xs i 0
-    → Filling l₀ xs (set l i x) (i + 1)
-onward {l₀} {xs} {l} {i} {x} f h e = record {
-  same = length-set l i x ∙ f.same;
-  below = λ j g. go j g (ltb j i) refl;
-}
-  where
-    go : (j : ℕ) → j < i + 1 → (t : Bool) → ltb j i ≡ t → get_or (set l i x) j 0 ≡ get_or xs j 0
-    go j g true t = let d = ltb-true j i t in get_or-set_other l i j x 0 (λ q. omega arith) ∙ f.below j d
-    go j g false t =
-        let k : i ≡ j = omega (arith, ltb-false j i t) in
-        subst (λ (y : ℕ). get_or (set l i x) y 0 ≡ get_or xs y 0) k (get_or-set_same l i x 0 h ∙ e)
 
 pub finish : {l₀ xs l : List ℕ} {i : ℕ} → Filling l₀ xs l i → length l ≤ i → l ≡ filled (length l₀) xs
 finish {l₀} {xs} {l} {i} f h =

@@ -1,28 +1,33 @@
 -- Laws of a space that is written from left to right. In order:
---   put_in, put_past, put_short, put_stopped   one byte: written, one too many, nothing any more
---   write_then, write_step                   bytes, then bytes; the first of what is left to write is written
---   bytes_next, bytes_none                   bytes, a byte a turn
---   words_next, words_none                   words, a word a turn
---   sets_next, sets_none                     the same where all of them fit, from a place on
---   same_space                               the space stays as long
---   words_fit, words_set                     words whose bytes all fit, set at once
---   write_fits, pen_fits                     bytes that fit, and the pen after them
---   write_stops, write_short                 bytes that do not
+--   put_in, put_past, put_short       one byte: written, one too many, nothing any more
+--   write_then, write_step            bytes, then bytes; the first of what is left to write is written
+--   write_stops, write_cut            nothing is written behind a byte that did not fit
+--   passed                            the answer that `?` passes on
+--   bytes_cut, words_cut              a list of bytes, or of words, a part a turn, where a byte does not fit
+--   sets_next                         words that all fit, a word a turn, from a place on
+--   same_space                        the space stays as long
+--   words_set                         words whose bytes all fit, set at once
+--   write_fits, place_fits            bytes that fit, and the answer after them
+--   write_short                       bytes that do not
 -- Assumes nothing.
 use mathlib.Core.Path.{◌≡◌, refl, sym, ap, ◌∙◌}
-use mathlib.Core.Bool.{Bool, true, false, cond, false≢true}
-use mathlib.Core.List.{List, [], ◌∷◌, ◌++◌}
-use Prim.Native.Nat.{ℕ, suc, ◌+◌, ◌*◌, ◌/◌, ◌%◌, ◌≤◌, ◌<◌}
+use mathlib.Core.Bool.{Bool, true, false, cond, true≢false}
+use mathlib.Core.List.{List, [], ◌∷◌, ◌++◌, append_assoc}
+use Prim.Native.Nat.{ℕ, suc, ◌+◌, ◌-◌, ◌*◌, ◌≤◌, ◌<◌}
 use native.Mathlib.Omega.{arith}
 use native.Mathlib.Numerals.{add-one}
-use lib.Dec.{ltb, leb}
-use lib.ListN.{length, get_or, drop, set, length-set, drop_of_length-le}
-use lib.Seq.{sets, sets-eq, drop-cons}
-use borrow.Author.Tests.{lt-ltb, le-ltb, ltb-true, ltb-false, leb-true}
+use lib.Dec.{ltb}
+use lib.ListN.{length, get_or, take, drop, set, length-set}
+use lib.Seq.{sets, sets-eq, drop-cons, drop-drop}
+use borrow.Rule.Slice.PartMut.{put_mid}
+use Rattle.std.specs.Prelude.{Result, Ok, Err}
+use Rattle.std.specs.Result.{IsErrAnd}
+use Rattle.std.proofs.lemmas.Result.{err_from_is_err_and}
+use borrow.Author.Tests.{lt-ltb, le-ltb, ltb-true, ltb-false}
 use Rattle.octets.specs.Little.{bytes_of}
 use Rattle.octets.specs.Space.{Space, up_to, blank, put_byte, write}
-use Rattle.octets.specs.Pens.{space}
-use Rattle.octets.specs.declared.writing.Pen.{Pen}
+use Rattle.octets.specs.Places.{space}
+use Rattle.octets.specs.declared.writing.Full.{Full}
 use Rattle.octets.specs.Claims.{WriteFits, WriteShort, WriteStops}
 use Rattle.octets.proofs.Endian.{bytes_length}
 
@@ -42,10 +47,6 @@ module _ (s : Space) (b : ℕ) where
   pub put_short : s.short ≡ true → put_byte b s ≡ s
   unfolding put_byte
   put_short e = rw e refl
-
-  pub put_stopped : s.short ≡ true → put_byte b s ≡ record { bytes = s.bytes; place = s.place; short = true }
-  put_stopped e =
-      put_short e ∙ ap {B = Space} (λ (t : Bool). record { bytes = s.bytes; place = s.place; short = t }) e
 
   put_length : length (put_byte b s).bytes ≡ length s.bytes
   unfolding put_byte
@@ -71,44 +72,56 @@ write_then xs ys s s' s'' e f = f ∙ (ap (write ys) e ∙ sym (write_append xs 
 pub write_step : (xs ys : List ℕ) (s s' x : Space) → s' ≡ write xs s → write (xs ++ ys) s ≡ x → write ys s' ≡ x
 write_step xs ys s s' x e f = ap (write ys) e ∙ (sym (write_append xs ys s) ∙ f)
 
--- a list of bytes, written a byte a turn: one more, and the end
-pub bytes_next : (l : List ℕ) (i : ℕ) (s s' x : Space) → i < length l → s' ≡ put_byte (get_or l i 0) s
-    → write (drop i l) s ≡ x → write (drop (i + 1) l) s' ≡ x
-bytes_next l i s s' x h e f =
-    rw (add-one i) (write_step (get_or l i 0 ∷ []) (drop (suc i) l) s s' x e (rw (drop-cons l i 0 h) at f))
+pub write_stops : WriteStops
+write_stops [] s h = refl
+write_stops (x ∷ xs) s h = ap (write xs) (put_short s x h) ∙ write_stops xs s h
 
-pub bytes_none : (l : List ℕ) (i : ℕ) (s x : Space) → length l ≤ i → write (drop i l) s ≡ x → s ≡ x
-bytes_none l i s x h f = rw (drop_of_length-le l h) at f
+-- what was to be written, where a byte of the front did not fit
+pub write_cut : (xs ys : List ℕ) (s t x : Space) → t.short ≡ true → t ≡ write xs s → write (xs ++ ys) s ≡ x → t ≡ x
+write_cut xs ys s t x h e f = sym (write_stops ys t h) ∙ write_step xs ys s t x e f
 
--- a list of words, written a word a turn
-pub words_next : (l : List ℕ) (i : ℕ) (s s' x : Space) → i < length l → s' ≡ write (bytes_of (get_or l i 0 ∷ [])) s
-    → write (bytes_of (drop i l)) s ≡ x → write (bytes_of (drop (i + 1) l)) s' ≡ x
-words_next l i s s' x h e f =
-    rw (add-one i)
-    (write_step (bytes_of (get_or l i 0 ∷ [])) (bytes_of (drop (suc i) l)) s s' x e (rw (drop-cons l i 0 h) at f))
+-- the answer that `?` passes on
+pub passed : (out : List ℕ) (r : Result ℕ Full) {full : Full} → IsErrAnd r (λ y. y ≡ full)
+    → space out r ≡ space out (Err full)
+passed out r h = let p = err_from_is_err_and r h in rw (p.1, p.2) refl
 
-pub words_none : (l : List ℕ) (i : ℕ) (s x : Space) → length l ≤ i → write (bytes_of (drop i l)) s ≡ x → s ≡ x
-words_none l i s x h f = rw (drop_of_length-le l h) at f
+-- a list of bytes, or of words, a part a turn, where a byte does not fit
+pub bytes_cut : (l : List ℕ) (i : ℕ) (s t x : Space) → i < length l → t.short ≡ true → t ≡ put_byte (get_or l i 0) s
+    → write (drop i l) s ≡ x → t ≡ x
+bytes_cut l i s t x h q e f =
+    write_cut (get_or l i 0 ∷ []) (drop (suc i) l) s t x q e (rw (drop-cons l i 0 h) at f)
+
+pub words_cut : (l : List ℕ) (i : ℕ) (s t x : Space) → i < length l → t.short ≡ true
+    → t ≡ write (bytes_of (get_or l i 0 ∷ [])) s → write (bytes_of (drop i l)) s ≡ x → t ≡ x
+words_cut l i s t x h q e f =
+    write_cut (bytes_of (get_or l i 0 ∷ [])) (bytes_of (drop (suc i) l)) s t x q e (rw (drop-cons l i 0 h) at f)
 
 -- words that fit, set from a place on
-pub sets_next : (ws out x : List ℕ) (place i : ℕ) → i < length ws
-    → sets out (place + 4 * i) (bytes_of (drop i ws)) ≡ x
-    → sets
-    (set
-    (set
-    (set (set out (place + 4 * i) (get_or ws i 0 % 256)) (place + 4 * i + 1) (get_or ws i 0 / 256 % 256))
-    (place + 4 * i + 2) (get_or ws i 0 / 65536 % 256))
-    (place + 4 * i + 3) (get_or ws i 0 / 16777216)) (place + 4 * (i + 1)) (bytes_of (drop (i + 1) ws)) ≡ x
-sets_next ws out x place i h f =
-    let a : place + 4 * i + 1 ≡ suc (place + 4 * i) = omega arith in
-    let b : place + 4 * i + 2 ≡ suc (suc (place + 4 * i)) = omega arith in
-    let c : place + 4 * i + 3 ≡ suc (suc (suc (place + 4 * i))) = omega arith in
-    let d : place + 4 * suc i ≡ suc (suc (suc (suc (place + 4 * i)))) = omega arith in
-    rw (add-one i, d, c, b, a) (rw (drop-cons ws i 0 h) at f)
+sets_append : (xs ys out : List ℕ) (place : ℕ)
+    → sets (sets out place xs) (place + length xs) ys ≡ sets out place (xs ++ ys)
+sets_append [] ys out place = let e : place + 0 ≡ place = omega arith in rw e refl
+sets_append (x ∷ xs) ys out place =
+    let e : place + suc (length xs) ≡ suc place + length xs = omega arith in
+    rw e (sets_append xs ys (set out place x) (suc place))
 
-pub sets_none : (ws out x : List ℕ) (place i : ℕ) → length ws ≤ i
-    → sets out place (bytes_of (drop i ws)) ≡ x → out ≡ x
-sets_none ws out x place i h f = rw (drop_of_length-le ws h) at f
+-- four bytes of a word at once
+sets_part : (xs out : List ℕ) (at : ℕ) → at + length xs ≤ length out → put_mid at (length xs) out xs ≡ sets out at xs
+sets_part xs out at h =
+    rw (sets-eq xs out at h, append_assoc)
+    (ap (λ (r : List ℕ). take at out ++ (xs ++ r)) (drop-drop (length xs) at out))
+
+pub sets_next : (ws out x ys : List ℕ) (place i : ℕ) → i < length ws → place + 4 * length ws ≤ length out
+    → ys ≡ bytes_of (get_or ws i 0 ∷ []) → sets out (place + 4 * i) (bytes_of (drop i ws)) ≡ x
+    → sets (put_mid (place + 4 * i) (place + 4 * i + 4 - (place + 4 * i)) out ys) (place + 4 * (i + 1))
+    (bytes_of (drop (i + 1) ws)) ≡ x
+sets_next ws out x ys place i h k e f =
+    let at = place + 4 * i in
+    let word = bytes_of (get_or ws i 0 ∷ []) in
+    let rest = bytes_of (drop (suc i) ws) in
+    let four : place + 4 * i + 4 - (place + 4 * i) ≡ 4 = omega arith in
+    let next : place + 4 * (i + 1) ≡ place + 4 * i + 4 = omega arith in
+    rw (e, four, next, add-one i, sets_part word out at (omega arith))
+    (sets_append word rest out at ∙ (rw (drop-cons ws i 0 h) at f))
 
 write_length : (xs : List ℕ) (s : Space) → length (write xs s).bytes ≡ length s.bytes
 write_length [] s = refl
@@ -130,42 +143,26 @@ write_sets (x ∷ xs) out place h =
     ∙ (write_sets xs (set out place x) (place + 1) (omega (arith, length-set out place x)) ∙ rw (e, f) refl)
 
 -- words whose bytes all fit, set at once
-module _ (p : Pen) (ws out : List ℕ) (t : Bool)
-    (e : t ≡ cond p.short false (leb (p.place + 4 * length ws) (length out))) (h : t ≡ true) where
-  all_fit : (p.short ≡ false) × (p.place + 4 * length ws ≤ length out)
-  all_fit = go p.short (sym e ∙ h)
-    where
-      go : (s : Bool) → cond s false (leb (p.place + 4 * length ws) (length out)) ≡ true
-          → (s ≡ false) × (p.place + 4 * length ws ≤ length out)
-      go true q = absurd (false≢true q)
-      go false q = (refl, leb-true (p.place + 4 * length ws) (length out) q)
-
-  pub words_fit : p.place + 4 * length ws ≤ length out
-  words_fit = all_fit.1
-
-  pub words_set : (out' : List ℕ) → out' ≡ sets out p.place (bytes_of ws)
-      → space out' (record { place = p.place + 4 * length ws; short = false }) ≡ write (bytes_of ws) (space out p)
-  words_set out' f =
-      let n = bytes_length ws in
-      let g = write_sets (bytes_of ws) out p.place (omega (arith, n, words_fit)) in
-      rw (f, ← n) (sym g ∙ ap (λ (s : Bool). write (bytes_of ws) (record { bytes = out; place = p.place; short = s }))
-      (sym all_fit.0))
+pub words_set : (ws out out' : List ℕ) (place : ℕ) → place + 4 * length ws ≤ length out
+    → out' ≡ sets out place (bytes_of ws)
+    → up_to out' (place + 4 * length ws) ≡ write (bytes_of ws) (up_to out place)
+words_set ws out out' place h f =
+    let n = bytes_length ws in
+    rw (f, ← n) (sym (write_sets (bytes_of ws) out place (omega (arith, n, h))))
 
 pub write_fits : WriteFits
 write_fits xs out h =
     let e : 0 + length xs ≡ length xs = omega arith in
     write_sets xs out 0 (omega arith) ∙ rw (sets-eq xs out 0 (omega arith), e) refl
 
--- a pen that has written what fits
-pub pen_fits : (xs out out' : List ℕ) (p : Pen) → length xs ≤ length out → space out' p ≡ write xs (blank out)
-    → (out' ≡ xs ++ drop (length xs) out) × (p.place ≡ length xs) × (p.short ≡ false)
-pen_fits xs out out' p h e =
+-- the answer where what is written fits
+pub place_fits : (xs out out' : List ℕ) (r : Result ℕ Full) → length xs ≤ length out
+    → space out' r ≡ write xs (blank out) → (r ≡ Ok (length xs)) × (out' ≡ xs ++ drop (length xs) out)
+place_fits xs out out' (Ok place) h e =
     let f = e ∙ write_fits xs out h in
-    (ap (λ (s : Space). s.bytes) f, ap (λ (s : Space). s.place) f, ap (λ (s : Space). s.short) f)
-
-pub write_stops : WriteStops
-write_stops [] s h = refl
-write_stops (x ∷ xs) s h = ap (write xs) (put_short s x h) ∙ write_stops xs s h
+    (ap {B = Result ℕ Full} (λ (s : Space). Ok (s.place)) f, ap (λ (s : Space). s.bytes) f)
+place_fits xs out out' (Err full) h e =
+    let f = e ∙ write_fits xs out h in absurd (true≢false (ap (λ (s : Space). s.short) f))
 
 write_over : (xs out : List ℕ) (place : ℕ) → place ≤ length out → length out < place + length xs
     → (write xs (up_to out place)).short ≡ true

@@ -1,100 +1,72 @@
-// A lent space of bytes, written from left to right. Where a byte does not fit, the pen is short, and from then on
-// nothing is written. Each function takes the pen, writes its bytes and gives the pen as it is after them.
-ghost use Rattle.std.specs.Prelude.{◌≡◌, false, cond, List, [], ◌∷◌, ℕ, ◌+◌, ◌*◌, ◌≤◌, leb, length, take};
+// A lent space of bytes, written from left to right. Each function takes the place of its first byte and gives the
+// place behind its last one. Where a byte does not fit, nothing more is written, and the answer is the place of that
+// byte.
+ghost use Rattle.std.specs.Prelude.{◌≡◌, ◌∷◌, [], ℕ, ◌+◌, ◌*◌, ◌≤◌, ◌↔◌, length, take, IsTrue};
 ghost use Rattle.std.proofs.lemmas.List.Edits.{sets};
 ghost use Rattle.octets.specs.Little.{bytes_of};
 ghost use Rattle.octets.specs.Decimal.{decimal};
-ghost use Rattle.octets.specs.Space.{blank, put_byte, write, filled};
-ghost use Rattle.octets.specs.Pens.{space};
+ghost use Rattle.octets.specs.Space.{up_to, put_byte, write, filled};
+ghost use Rattle.octets.specs.Places.{space};
 
-// Where the next byte goes, and whether a byte did not fit.
-#[derive(Clone, Copy)]
-pub struct Pen {
+// The byte that would go at `place` does not fit.
+#[derive(Clone, Copy, Debug, PartialEq, Eq)]
+pub struct Full {
     pub place: usize,
-    pub short: bool,
-}
-
-// At the start of the space.
-pub fn start() -> Pen
-    ensures { (out : List ℕ) → space out result ≡ blank out }
-{
-    Pen {
-        place: 0,
-        short: false,
-    }
 }
 
 // One byte.
-pub fn put(out: &mut [u8], pen: Pen, b: u8) -> Pen
-    ensures { space out.new result ≡ put_byte b (space out.old pen) }
+pub fn put(out: &mut [u8], place: usize, b: u8) -> Result<usize, Full>
+    ensures { space out.new result ≡ put_byte b (up_to out.old place) }
 {
-    let place = pen.place;
-    if pen.short {
-        return Pen { place, short: true };
+    if out.len() <= place {
+        return Err(Full { place });
     }
-    if place < out.len() {
-        out[place] = b;
-        return Pen {
-            place: place + 1,
-            short: false,
-        };
-    }
-    Pen { place, short: true }
+    out[place] = b;
+    Ok(place + 1)
 }
 
 // The bytes of s.
-pub fn put_bytes(out: &mut [u8], pen: Pen, s: &[u8]) -> Pen
-    ensures { space out.new result ≡ write s.now (space out.old pen) }
+pub fn put_bytes(out: &mut [u8], place: usize, s: &[u8]) -> Result<usize, Full>
+    ensures { space out.new result ≡ write s.now (up_to out.old place) }
 {
-    let mut next = pen;
-    let mut i: usize = 0;
-    while i < s.len() {
-        next = put(out, next, s[i]);
-        i += 1;
+    let mut next = place;
+    for b in s {
+        next = put(out, next, *b)?;
     }
-    next
+    Ok(next)
 }
 
 // The most digits that a number has.
 const DIGITS: usize = 20;
 
 // n in decimal: the digits from the last one on, then written from the first.
-pub fn put_decimal(out: &mut [u8], pen: Pen, n: usize) -> Pen
-    ensures { space out.new result ≡ write (decimal n) (space out.old pen) }
+pub fn put_decimal(out: &mut [u8], place: usize, n: usize) -> Result<usize, Full>
+    ensures { space out.new result ≡ write (decimal n) (up_to out.old place) }
 {
     let mut digits = [0u8; DIGITS];
-    let mut first = DIGITS - 1;
     let mut rest = n;
-    digits[first] = b'0' + (rest % 10) as u8;
-    while 10 <= rest {
-        rest /= 10;
-        first -= 1;
+    for first in (0..DIGITS).rev() {
         digits[first] = b'0' + (rest % 10) as u8;
+        rest /= 10;
+        if rest == 0 {
+            return put_bytes(out, place, &digits[first..]);
+        }
     }
-    put_bytes(out, pen, &digits[first..])
+    unreachable!() // no number has more digits
 }
 
 // The four bytes of a word, the lowest first.
-pub fn put_word(out: &mut [u8], pen: Pen, w: u32) -> Pen
-    ensures { space out.new result ≡ write (bytes_of (w ∷ [])) (space out.old pen) }
+pub fn put_word(out: &mut [u8], place: usize, w: u32) -> Result<usize, Full>
+    ensures { space out.new result ≡ write (bytes_of (w ∷ [])) (up_to out.old place) }
 {
-    let p = put(out, pen, (w % 256) as u8);
-    let q = put(out, p, (w / 256 % 256) as u8);
-    let r = put(out, q, (w / 65536 % 256) as u8);
-    put(out, r, (w / 16777216) as u8)
+    put_bytes(out, place, &w.to_le_bytes())
 }
 
-// Whether the bytes of n words fit, and every byte before them did.
-fn all_fit(pen: Pen, n: usize, len: usize) -> bool
-    ensures { result ≡ cond pen.short false (leb (pen.place + 4 * n) len) }
+// Whether the bytes of n words fit from a place on.
+fn all_fit(place: usize, n: usize, len: usize) -> bool
+    ensures { IsTrue result ↔ (place + 4 * n ≤ len) }
 {
-    if pen.short {
-        return false;
-    }
-    if len / 4 < n {
-        return false;
-    }
-    pen.place <= len - 4 * n
+    n <= len / 4 && place <= len - 4 * n
 }
 
 // The bytes of words from a place on, where all of them fit.
@@ -102,53 +74,39 @@ fn set_words(out: &mut [u8], place: usize, ws: &[u32])
     requires { place + 4 * length ws.now ≤ length out.old }
     ensures { out.new ≡ sets out.old place (bytes_of ws.now) }
 {
-    let mut i: usize = 0;
-    while i < ws.len() {
-        let w = ws[i];
+    for (i, w) in ws.iter().enumerate() {
         let at = place + 4 * i;
-        out[at] = (w % 256) as u8;
-        out[at + 1] = (w / 256 % 256) as u8;
-        out[at + 2] = (w / 65536 % 256) as u8;
-        out[at + 3] = (w / 16777216) as u8;
-        i += 1;
+        out[at..at + 4].copy_from_slice(&w.to_le_bytes());
     }
 }
 
 // The bytes of words, of which some may not fit.
-fn put_each(out: &mut [u8], pen: Pen, ws: &[u32]) -> Pen
-    ensures { space out.new result ≡ write (bytes_of ws.now) (space out.old pen) }
+fn put_each(out: &mut [u8], place: usize, ws: &[u32]) -> Result<usize, Full>
+    ensures { space out.new result ≡ write (bytes_of ws.now) (up_to out.old place) }
 {
-    let mut next = pen;
-    let mut i: usize = 0;
-    while i < ws.len() {
-        next = put_word(out, next, ws[i]);
-        i += 1;
+    let mut next = place;
+    for w in ws {
+        next = put_word(out, next, *w)?;
     }
-    next
+    Ok(next)
 }
 
 // The bytes of words. Where all of them fit, the space is asked once and not for each byte.
-pub fn put_words(out: &mut [u8], pen: Pen, ws: &[u32]) -> Pen
-    ensures { space out.new result ≡ write (bytes_of ws.now) (space out.old pen) }
+pub fn put_words(out: &mut [u8], place: usize, ws: &[u32]) -> Result<usize, Full>
+    ensures { space out.new result ≡ write (bytes_of ws.now) (up_to out.old place) }
 {
-    if all_fit(pen, ws.len(), out.len()) {
-        let place = pen.place;
+    if all_fit(place, ws.len(), out.len()) {
         set_words(out, place, ws);
-        return Pen {
-            place: place + 4 * ws.len(),
-            short: false,
-        };
+        return Ok(place + 4 * ws.len());
     }
-    put_each(out, pen, ws)
+    put_each(out, place, ws)
 }
 
 // Zeros from a place on.
 pub fn zero_from(out: &mut [u8], from: usize)
     ensures { out.new ≡ filled (length out.old) (take from out.old) }
 {
-    let mut i = from;
-    while i < out.len() {
-        out[i] = 0;
-        i += 1;
+    if from < out.len() {
+        out[from..].fill(0);
     }
 }

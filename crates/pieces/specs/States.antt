@@ -1,16 +1,17 @@
 -- The state in numbers, as it goes from piece to piece, and what the functions promise (SCOPE 5.11).
 -- Assumes nothing.
-use Rattle.std.specs.Prelude.{◌≡◌, cond, List, ℕ, eqb}
+use Rattle.std.specs.Prelude.{◌≡◌, true, false, cond, ◌&&◌, List, ℕ, eqb, Result, Ok, Err}
 use Rattle.meaning.specs.Verdicts.{valued}
 use Rattle.meaning.specs.Judge as said
 use Rattle.meaning.specs.Judge.{begun, spaced, number, closed, stopped}
-use Rattle.meaning.specs.Reader.{reader}
+use Rattle.meaning.specs.Reader.{reader, stop_status, stop_verdict, is_whole}
 use Rattle.meaning.specs.Pieces as said-pieces
-use Rattle.meaning.specs.Pieces.{Count, feeds, fits, no_pieces, counted}
-use Rattle.reader.specs.Readers.{fault_of, stand_of}
+use Rattle.meaning.specs.Pieces.{Count, stand_fits, feeds, fits, no_pieces, counted}
+use Rattle.reader.specs.Readers.{fault_of, stand_of, refused_at}
 use Rattle.reader.specs.declared.judging.Fault.{Fault}
 use Rattle.reader.specs.declared.judging.Fault.TheVariants as fault
 use Rattle.reader.specs.declared.judging.Stand.{Stand}
+use Rattle.reader.specs.declared.BadText.{BadText}
 use Rattle.pieces.specs.declared.Counted.{Counted}
 use Rattle.pieces.specs.declared.Pieces.{Pieces}
 
@@ -38,9 +39,6 @@ number_of closed = 3
 number_of (stopped s) = s
 
 -- the number so far, and 0 where the reader does not stand in one
-abbrev pub kept_code : ℕ → ℕ → ℕ
-kept_code n a = cond (eqb n 2) a 0
-
 abbrev pub code_of : said.Stand → ℕ
 code_of begun = 0
 code_of spaced = 0
@@ -48,12 +46,15 @@ code_of (number a) = a
 code_of closed = 0
 code_of (stopped s) = 0
 
--- the code's own stands, whatever number they keep
-abbrev pub StandsFor : ℕ → Stand → Type 0
-StandsFor n s = (a : ℕ) → stand_of s a ≡ stand_from n a
+-- where the reader stands, or why the text is refused
+abbrev pub stand_is : Result Stand Fault → said.Stand
+stand_is (Ok s) = stand_of s
+stand_is (Err f) = stopped (fault_of f)
 
-abbrev pub IsNumber : Stand → ℕ → Type 0
-IsNumber s n = (a : ℕ) → n ≡ number_of (stand_of s a)
+-- two numbers as that: the reader goes on there, or a text that ended there would be refused
+abbrev pub StandsFor : ℕ → ℕ → Result Stand Fault → Type 0
+StandsFor n a (Ok s) = stand_of s ≡ stand_from n a
+StandsFor n a (Err f) = (stand_fits (stand_from n a) ≡ false) × (fault_of f ≡ stop_status (stand_from n a))
 
 -- ---- the state
 
@@ -92,3 +93,9 @@ Feeds s bs r = r ≡ cond (fits (state_of s)) (struct_of (feeds (state_of s) bs)
 
 abbrev pub Ends : Pieces → Counted → Type 0
 Ends s r = count_is r ≡ counted (state_of s)
+
+-- the text ends, if it may, with the number of its terms
+abbrev pub IsWhole : Pieces → Result ℕ BadText → Type 0
+IsWhole s (Ok n) = ((fits (state_of s) && is_whole (state_of s).place) ≡ true) × (n ≡ s.terms)
+IsWhole s (Err e) =
+    ((fits (state_of s) && is_whole (state_of s).place) ≡ false) × (stop_verdict (state_of s).place ≡ refused_at e)

@@ -1,96 +1,109 @@
 // Bytes fed to a state that goes on: each is judged and read as crate `reader` does it, and counted beside.
-ghost use Rattle.std.specs.Prelude.{◌≡◌, max};
-ghost use Rattle.meaning.specs.Pieces.{feeds};
-ghost use Rattle.reader.specs.Readers.{move_of};
-ghost use Rattle.pieces.specs.Feeding.{state_is, CanCount, Counts, CanFeed, IsFed};
+ghost use Rattle.std.specs.Prelude.{◌≡◌};
+ghost use Rattle.meaning.specs.Pieces.{next, feeds};
+ghost use Rattle.reader.specs.Readers.{move_of, CanGo};
+ghost use Rattle.pieces.specs.Feeding.{state_is, fed_to, CanCount, Counts, CanFeed, Begins};
 
-use reader::judging::Move;
-use reader::{Reader, go, is_stopped, judge_byte};
+use reader::judging::{Fault, Move};
+use reader::{BadText, Reader};
 
-// The reader, the terms begun in the innermost open expression, and the most that any one has had. The counts of those
-// around stand beside it, in the array of the state.
-#[derive(Clone, Copy)]
-pub struct State {
-    pub place: Reader,
-    pub own: u32,
-    pub most: u32,
-}
-
-fn larger(a: u32, b: u32) -> u32
-    ensures { result ≡ max a b }
-{
-    if a < b { b } else { a }
-}
-
-// The two counts that a byte changes.
+// The terms begun in the innermost open expression, and the most that any one has had.
 #[derive(Clone, Copy)]
 pub struct Level {
     pub own: u32,
     pub most: u32,
 }
 
-// What the byte b does to the counts: a term begins, and where it is a bracket, the count of the level around it waits
+// The reader and the counts of the innermost open expression. Those of the ones around it stand beside the state, in an
+// array.
+#[derive(Clone, Copy)]
+pub struct State {
+    pub place: Reader,
+    pub level: Level,
+}
+
+impl State {
+    // Before the first byte.
+    #[tactic(auto, unfolding(meaning::specs::Pieces::no_pieces))]
+    pub fn start() -> State
+        ensures { Begins result }
+    {
+        State {
+            place: Reader::start(),
+            level: Level { own: 0, most: 0 },
+        }
+    }
+
+    // What a byte leaves.
+    fn after(self, m: Move, counts: &mut [u32; meaning::DEPTH_LIMIT]) -> State
+        requires goes { CanGo m self.place }
+        requires counts { CanCount (move_of m) self }
+        ensures { state_is result counts.new ≡ next (move_of m) (state_is self counts.old) }
+    {
+        State {
+            place: self.place.after(m),
+            level: count_byte(m, self, counts),
+        }
+    }
+}
+
+// Why a byte is refused, and the state before it.
+#[derive(Clone, Copy)]
+pub struct Stopped {
+    pub fault: Fault,
+    pub state: State,
+}
+
+impl From<Stopped> for BadText {
+    ghost from_gives = { λ s e. e ≡ record { fault = s.fault; offset = s.state.place.offset } };
+
+    fn from(s: Stopped) -> BadText {
+        s.state.place.refuse(s.fault)
+    }
+}
+
+// What a byte does to the counts: a term begins, and where it is a bracket, the count of the level around it waits
 // until it closes.
-fn count_byte(m: Move, b: u8, s: State, counts: &mut [u32; meaning::DEPTH_LIMIT]) -> Level
-    requires { CanCount (move_of m s.place.code b) s }
-    ensures { Counts (move_of m s.place.code b) s counts.old result counts.new }
+#[tactic(auto, unfolding(meaning::specs::Limits::depth_limit))]
+fn count_byte(m: Move, s: State, counts: &mut [u32; meaning::DEPTH_LIMIT]) -> Level
+    requires { CanCount (move_of m) s }
+    ensures { Counts (move_of m) s counts.old result counts.new }
 {
-    let own = s.own;
-    let most = s.most;
-    let place = s.place;
-    let depth = place.depth;
+    let depth = s.place.depth;
+    let own = s.level.own + 1;
+    let most = s.level.most.max(own);
     match m {
-        Move::Stops(_) => Level { own, most },
-        Move::Begins => Level {
-            own: own + 1,
-            most: larger(most, own + 1),
-        },
-        Move::Grows => Level { own, most },
+        Move::Begins(_) => Level { own, most },
         Move::Opens => {
-            counts[depth] = own + 1;
-            Level {
-                own: 0,
-                most: larger(most, own + 1),
-            }
+            counts[depth] = own;
+            Level { own: 0, most }
         }
         Move::Closes => Level {
             own: counts[depth - 1],
-            most,
+            ..s.level
         },
-        Move::Parts => Level { own, most },
+        Move::Grows(_) | Move::Parts => s.level,
     }
 }
 
-// One byte.
-fn feed_byte(s: State, b: u8, counts: &mut [u32; meaning::DEPTH_LIMIT]) -> State
+// A piece, up to the byte that is refused. A whole text is read as one piece, so that there is one loop over bytes. The
+// compiler puts the judgement of a byte into a loop only where there is no other. A call for each byte nearly doubles
+// the time of typing. What a byte leaves is a plain struct: a Result is packed and unpacked at each byte, which takes a
+// sixth longer.
+pub fn feed_bytes(
+    s: State,
+    piece: &[u8],
+    counts: &mut [u32; meaning::DEPTH_LIMIT],
+) -> Result<State, Stopped>
     requires { CanFeed s counts.old }
-    ensures { IsFed s counts.old b result counts.new }
+    ensures { fed_to result counts.new ≡ feeds (state_is s counts.old) piece.now }
 {
-    let place = s.place;
-    let m = judge_byte(place, b);
-    let level = count_byte(m, b, s, counts);
-    State {
-        place: go(m, b, place),
-        own: level.own,
-        most: level.most,
-    }
-}
-
-// A piece, up to the byte that is refused.
-pub fn feed_bytes(s: State, piece: &[u8], counts: &mut [u32; meaning::DEPTH_LIMIT]) -> State
-    requires { CanFeed s counts.old }
-    ensures { state_is result counts.new ≡ feeds (state_is s counts.old) piece.now }
-{
-    let mut t = s;
-    let mut i: usize = 0;
-    while i < piece.len() {
-        t = feed_byte(t, piece[i], counts);
-        let place = t.place;
-        let stand = place.stand;
-        if is_stopped(stand) {
-            return t;
+    let mut state = s;
+    for &b in piece {
+        match state.place.judge(b) {
+            Ok(m) => state = state.after(m, counts),
+            Err(fault) => return Err(Stopped { fault, state }),
         }
-        i += 1;
     }
-    t
+    Ok(state)
 }

@@ -4,15 +4,15 @@
 // read here too, for crate `typing`.
 #![tactic(auto)]
 
-ghost use Rattle.std.specs.Prelude.{◌≡◌, ◌&&◌};
-ghost use Rattle.meaning.specs.Reader.{advances, at_start, is_whole};
-ghost use Rattle.meaning.specs.Pieces.{fits};
+ghost use Rattle.std.specs.Prelude.{◌≡◌};
+ghost use Rattle.meaning.specs.Reader.{advances, at_start};
 ghost use Rattle.reader.specs.Readers.{Finds};
-ghost use Rattle.pieces.specs.States.{state_of, Starts, Feeds, Ends};
+ghost use Rattle.pieces.specs.States.{struct_of, Starts, Feeds, Ends, IsWhole};
+ghost use Rattle.pieces.specs.Feeding.{fed_to};
 
-use crate::numbers::{kept_code, number_of, stand_of};
-use reader::judging::{Stand, fault_number};
-use reader::{Found, Reader, finish, is_whole, stop_fault};
+use crate::feeding::{State, Stopped, feed_bytes};
+use crate::numbers::numbers_of;
+use reader::BadText;
 
 mod feeding;
 mod fitting;
@@ -35,55 +35,45 @@ pub struct Pieces {
     pub counts: [u32; meaning::DEPTH_LIMIT],
 }
 
+// What bytes lead to, in numbers.
+fn pieces_of(reached: Result<State, Stopped>, counts: [u32; meaning::DEPTH_LIMIT]) -> Pieces
+    ensures { result ≡ struct_of (fed_to reached counts) }
+{
+    let (stand, s) = match reached {
+        Ok(s) => (Ok(s.place.stand), s),
+        Err(e) => (Err(e.fault), e.state),
+    };
+    let (number, code) = numbers_of(stand);
+    Pieces {
+        stand: number,
+        code,
+        offset: s.place.offset,
+        depth: s.place.depth,
+        terms: s.place.total,
+        own: s.level.own,
+        most: s.level.most,
+        counts,
+    }
+}
+
 // Before the first piece.
+#[tactic(auto, unfolding(meaning::specs::Limits::depth_limit))]
 pub fn start() -> Pieces
     ensures { Starts result }
 {
-    Pieces {
-        stand: 0,
-        code: 0,
-        offset: 0,
-        depth: 0,
-        terms: 0,
-        own: 0,
-        most: 0,
-        counts: [0; meaning::DEPTH_LIMIT],
-    }
+    pieces_of(Ok(State::start()), [0; meaning::DEPTH_LIMIT])
 }
 
 // A piece. A state that does not go on, a refused one among them, comes back as it came.
 pub fn feed(s: Pieces, piece: &[u8]) -> Pieces
     ensures { Feeds s piece.now result }
 {
-    if !fitting::goes_on(s) {
+    let Ok(from) = State::try_from(&s) else {
         return s;
-    }
-    let mut counts = s.counts;
-    let from = feeding::State {
-        place: Reader {
-            stand: stand_of(s.stand),
-            code: kept_code(s.stand, s.code),
-            offset: s.offset,
-            depth: s.depth,
-            total: s.terms,
-        },
-        own: s.own,
-        most: s.most,
     };
-    let to = feeding::feed_bytes(from, piece, &mut counts);
-    let place = to.place;
-    let stand = place.stand;
-    let number = number_of(stand);
-    Pieces {
-        stand: number,
-        code: kept_code(number, place.code),
-        offset: place.offset,
-        depth: place.depth,
-        terms: place.total,
-        own: to.own,
-        most: to.most,
-        counts,
-    }
+    let mut counts = s.counts;
+    let reached = feed_bytes(from, piece, &mut counts);
+    pieces_of(reached, counts)
 }
 
 // What the end gives: a status and the value that goes with it, the terms on all levels and the most of one level.
@@ -96,55 +86,40 @@ pub struct Counted {
     pub most: usize,
 }
 
-// Whether the text may end here: in a state that goes on.
-fn ends_whole(s: Pieces) -> bool
-    ensures { result ≡ (fits (state_of s) && is_whole (state_of s).place) }
+// The terms of a text that ends here, if it may: in a state that goes on.
+fn terms(s: &Pieces) -> Result<usize, BadText>
+    ensures { IsWhole s.now result }
 {
-    if fitting::goes_on(s) {
-        return is_whole(stand_of(s.stand), s.depth);
-    }
-    false
+    State::try_from(s)?.place.finish()
 }
 
 // The end of the text.
+#[tactic(auto, unfolding(meaning::specs::Pieces::counted))]
 pub fn end(s: Pieces) -> Counted
     ensures { Ends s result }
 {
-    if ends_whole(s) {
-        return Counted {
+    match terms(&s) {
+        Ok(terms) => Counted {
             status: 0,
             value: 0,
-            terms: s.terms,
+            terms,
             most: s.most as usize,
-        };
-    }
-    Counted {
-        status: fault_number(stop_fault(stand_of(s.stand))),
-        value: s.offset,
-        terms: 0,
-        most: 0,
+        },
+        Err(bad) => Counted {
+            status: bad.fault.into(),
+            value: bad.offset,
+            terms: 0,
+            most: 0,
+        },
     }
 }
 
-// A whole text read, as one piece, for crate `typing`: the number of its terms, or its refusal. Both have one loop over
-// the bytes: the compiler puts the judgement of a byte into a loop only where there is no other, and a call for each
-// byte nearly doubles the time of typing.
-pub fn read(text: &[u8]) -> Found
+// A whole text read, for crate `typing`: the number of its terms, or its refusal.
+pub fn read(text: &[u8]) -> Result<usize, BadText>
     ensures { Finds (advances at_start text.now) result }
 {
     let mut counts = [0; meaning::DEPTH_LIMIT];
-    let from = feeding::State {
-        place: Reader {
-            stand: Stand::Begun,
-            code: 0,
-            offset: 0,
-            depth: 0,
-            total: 0,
-        },
-        own: 0,
-        most: 0,
-    };
-    let to = feeding::feed_bytes(from, text, &mut counts);
-    let place = to.place;
-    finish(place)
+    feed_bytes(State::start(), text, &mut counts)?
+        .place
+        .finish()
 }

@@ -1,71 +1,50 @@
-// Where the reader stands, as a number: 0 to 3, or the status with which the text is refused.
+// Where the reader stands, in two numbers: 0 to 3, or the status with which the text is refused; and the number so far,
+// where it stands in one.
 ghost use Rattle.std.specs.Prelude.{◌≡◌};
-ghost use Rattle.reader.specs.Readers.{fault_of};
-ghost use Rattle.pieces.specs.States.{or_else, refusal_from, StandsFor, IsNumber, kept_code};
+ghost use Rattle.pieces.specs.States.{StandsFor, number_of, code_of, stand_is};
 
-use reader::judging::{Fault, Stand, fault_number};
+use reader::codes::Code;
+use reader::judging::{Fault, Stand};
 
-pub const BEGUN: u32 = 0;
+const BEGUN: u32 = 0;
 
-pub const SPACED: u32 = 1;
+const SPACED: u32 = 1;
 
-pub const NUMBER: u32 = 2;
+const NUMBER: u32 = 2;
 
-pub const CLOSED: u32 = 3;
+const CLOSED: u32 = 3;
 
-// The fault with this number, if it is the one, and else the other.
-fn or_else(number: u32, fault: Fault, other: Fault) -> Fault
-    ensures { fault_of result ≡ or_else number fault (fault_of other) }
+const NO_CODE: u32 = Fault::NoCode as u32;
+
+const TOO_DEEP: u32 = Fault::TooDeep as u32;
+
+const TOO_MANY: u32 = Fault::TooMany as u32;
+
+// Any other number, and one that is no code so far, is that of bytes that are no text.
+pub fn stand_of(number: u32, code: u32) -> Result<Stand, Fault>
+    ensures { StandsFor number code result }
 {
-    if number == fault_number(fault) {
-        fault
-    } else {
-        other
+    match number {
+        BEGUN => Ok(Stand::Begun),
+        SPACED => Ok(Stand::Spaced),
+        NUMBER if code <= meaning::CODE_LIMIT => Ok(Stand::Number(Code { value: code })),
+        CLOSED => Ok(Stand::Closed),
+        NO_CODE => Err(Fault::NoCode),
+        TOO_DEEP => Err(Fault::TooDeep),
+        TOO_MANY => Err(Fault::TooMany),
+        _ => Err(Fault::NotText),
     }
 }
 
-// Any other number is that of a text that is refused.
-fn refused(number: u32) -> Fault
-    ensures { fault_of result ≡ refusal_from number }
-{
-    let many = or_else(number, Fault::TooMany, Fault::NotText);
-    let deep = or_else(number, Fault::TooDeep, many);
-    or_else(number, Fault::NoCode, deep)
-}
-
-pub fn stand_of(number: u32) -> Stand
-    ensures { StandsFor number result }
-{
-    if number == BEGUN {
-        return Stand::Begun;
-    }
-    if number == SPACED {
-        return Stand::Spaced;
-    }
-    if number == NUMBER {
-        return Stand::Number;
-    }
-    if number == CLOSED {
-        return Stand::Closed;
-    }
-    Stand::Stopped(refused(number))
-}
-
-pub fn number_of(stand: Stand) -> u32
-    ensures { IsNumber stand result }
+pub fn numbers_of(stand: Result<Stand, Fault>) -> (u32, u32)
+    ensures number { result.0 ≡ number_of (stand_is stand) }
+    ensures code { result.1 ≡ code_of (stand_is stand) }
 {
     match stand {
-        Stand::Begun => BEGUN,
-        Stand::Spaced => SPACED,
-        Stand::Number => NUMBER,
-        Stand::Closed => CLOSED,
-        Stand::Stopped(fault) => fault_number(fault),
+        Ok(Stand::Begun) => (BEGUN, 0),
+        Ok(Stand::Spaced) => (SPACED, 0),
+        Ok(Stand::Number(code)) => (NUMBER, code.value),
+        Ok(Stand::Closed) => (CLOSED, 0),
+        Err(fault) => (fault.into(), 0),
     }
-}
-
-// The number so far, where the reader stands in one.
-pub fn kept_code(number: u32, code: u32) -> u32
-    ensures { result ≡ kept_code number code }
-{
-    if number == NUMBER { code } else { 0 }
 }

@@ -1,4 +1,4 @@
 -- Laws that belong to no one function. In order:
---   Suiting  what a byte is, by its move and by what is asked of it
+--   Suiting  what a judgement says of a byte
 -- Assumes nothing.
 mod Suiting

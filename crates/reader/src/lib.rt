@@ -1,156 +1,115 @@
 // One byte of a text read (SCOPE 5.8): where the reader stands decides what a byte does, and a byte that cannot go on
-// stops it for good. The state is a struct by value. Nothing is laid here: at its end the reader tells how many terms a
-// text has, or why it is none. The loop over bytes is in crate `pieces`.
+// is refused. The reader is a struct by value. Nothing is laid here: at its end the reader tells how many terms a text
+// has, or why it is none. The loop over bytes is in crate `pieces`.
 #![tactic(auto)]
 
 ghost use Rattle.std.specs.Prelude.{◌≡◌};
-ghost use Rattle.meaning.specs.Judge.{judge};
-ghost use Rattle.meaning.specs.Reader.{moved, is_full};
-ghost use Rattle.reader.specs.Readers.{move_of, stand_of, reader_of, CanGo, CanRead, Reads, MayEnd, IsWhole};
-ghost use Rattle.reader.specs.Readers.{StopsFor, IsStopped, Finds};
+ghost use Rattle.meaning.specs.Reader.{moved, at_start};
+ghost use Rattle.reader.specs.Readers.{move_of, reader_of, CanGo, Judged, Finds};
 
-use crate::judging::{Fault, Move, Stand, judge, with_digit};
+use crate::judging::{Fault, Move, Stand, judge};
 
+pub mod codes;
 pub mod judging;
 
-// Where the reader stands, the last code as far as it is read, the offset of the next byte or of the one that stopped
-// it, the brackets that are open, and the terms begun on all levels.
+// Where the reader stands, the offset of the next byte, the brackets that are open, and the terms begun on all levels.
 #[derive(Clone, Copy)]
 pub struct Reader {
     pub stand: Stand,
-    pub code: u32,
     pub offset: usize,
     pub depth: usize,
     pub total: usize,
 }
 
-// What the byte b leaves.
-pub fn go(m: Move, b: u8, r: Reader) -> Reader
-    requires { CanGo (move_of m r.code b) b r }
-    ensures { Reads result (moved (move_of m r.code b) (reader_of r)) }
-{
-    let code = r.code;
-    let offset = r.offset;
-    let depth = r.depth;
-    let total = r.total;
-    match m {
-        Move::Stops(fault) => Reader {
-            stand: Stand::Stopped(fault),
-            code,
-            offset,
-            depth,
-            total,
-        },
-        Move::Begins => Reader {
-            stand: Stand::Number,
-            code: with_digit(0, b),
-            offset: offset + 1,
-            depth,
-            total: total + 1,
-        },
-        Move::Grows => Reader {
-            stand: Stand::Number,
-            code: with_digit(code, b),
-            offset: offset + 1,
-            depth,
-            total,
-        },
-        Move::Opens => Reader {
+// Why a text is refused, and the offset of the byte that cannot continue it, or of its end.
+#[derive(Clone, Copy, PartialEq, Eq)]
+pub struct BadText {
+    pub fault: Fault,
+    pub offset: usize,
+}
+
+impl Reader {
+    // Before the first byte.
+    #[tactic(auto, unfolding(meaning::specs::Reader::at_start))]
+    pub fn start() -> Reader
+        ensures { reader_of result ≡ at_start }
+    {
+        Reader {
             stand: Stand::Begun,
-            code,
-            offset: offset + 1,
-            depth: depth + 1,
-            total: total + 1,
-        },
-        Move::Closes => Reader {
-            stand: Stand::Closed,
-            code,
-            offset: offset + 1,
-            depth: depth - 1,
-            total,
-        },
-        Move::Parts => Reader {
-            stand: Stand::Spaced,
-            code,
-            offset: offset + 1,
-            depth,
-            total,
-        },
+            offset: 0,
+            depth: 0,
+            total: 0,
+        }
     }
-}
 
-// What the byte b does.
-pub fn judge_byte(r: Reader, b: u8) -> Move
-    requires { CanRead r }
-    ensures { (move_of result r.code b ≡ judge (stand_of r.stand r.code) r.depth (is_full (reader_of r)) b)
-        × CanGo (move_of result r.code b) b r }
-{
-    let stand = r.stand;
-    judge(stand, r.code, r.depth, meaning::TERMS_LIMIT <= r.total, b)
-}
-
-// Whether a text may end where the reader stands; and with no bracket open.
-fn may_end(stand: Stand) -> bool
-    ensures { MayEnd stand result }
-{
-    match stand {
-        Stand::Begun => true,
-        Stand::Spaced => false,
-        Stand::Number => true,
-        Stand::Closed => true,
-        Stand::Stopped(_) => false,
+    // What the byte b does.
+    pub fn judge(self, b: u8) -> Result<Move, Fault>
+        ensures { Judged self b result }
+    {
+        judge(
+            self.stand,
+            self.depth,
+            meaning::TERMS_LIMIT <= self.total,
+            b,
+        )
     }
-}
 
-pub fn is_whole(stand: Stand, depth: usize) -> bool
-    ensures { IsWhole stand depth result }
-{
-    if may_end(stand) {
-        return depth == 0;
+    // What it leaves.
+    pub fn after(self, m: Move) -> Reader
+        requires { CanGo m self }
+        ensures { reader_of result ≡ moved (move_of m) (reader_of self) }
+    {
+        let r = Reader {
+            offset: self.offset + 1,
+            ..self
+        };
+        match m {
+            Move::Begins(code) => Reader {
+                stand: Stand::Number(code),
+                total: r.total + 1,
+                ..r
+            },
+            Move::Grows(code) => Reader {
+                stand: Stand::Number(code),
+                ..r
+            },
+            Move::Opens => Reader {
+                stand: Stand::Begun,
+                depth: r.depth + 1,
+                total: r.total + 1,
+                ..r
+            },
+            Move::Closes => Reader {
+                stand: Stand::Closed,
+                depth: r.depth - 1,
+                ..r
+            },
+            Move::Parts => Reader {
+                stand: Stand::Spaced,
+                ..r
+            },
+        }
     }
-    false
-}
 
-// Why a text may not end where the reader stands.
-pub fn stop_fault(stand: Stand) -> Fault
-    ensures { StopsFor stand result }
-{
-    match stand {
-        Stand::Begun => Fault::NotText,
-        Stand::Spaced => Fault::NotText,
-        Stand::Number => Fault::NotText,
-        Stand::Closed => Fault::NotText,
-        Stand::Stopped(fault) => fault,
+    // A text that is refused here.
+    pub fn refuse(self, fault: Fault) -> BadText
+        ensures { result ≡ record { fault = fault; offset = self.offset } }
+    {
+        BadText {
+            fault,
+            offset: self.offset,
+        }
     }
-}
 
-// Whether a byte has stopped the reader: no further one changes anything.
-pub fn is_stopped(stand: Stand) -> bool
-    ensures { IsStopped stand result }
-{
-    match stand {
-        Stand::Begun => false,
-        Stand::Spaced => false,
-        Stand::Number => false,
-        Stand::Closed => false,
-        Stand::Stopped(_) => true,
+    // The end of the text: the number of its terms, unless a term must come or a bracket is open.
+    #[tactic(auto, unfolding(meaning::specs::Reader::is_whole, meaning::specs::Reader::stop_verdict))]
+    pub fn finish(self) -> Result<usize, BadText>
+        ensures { Finds (reader_of self) result }
+    {
+        if matches!(self.stand, Stand::Spaced) || self.depth != 0 {
+            Err(self.refuse(Fault::NotText))
+        } else {
+            Ok(self.total)
+        }
     }
-}
-
-// What reading a text finds: the number of its terms on all levels; or its refusal, with the offset.
-#[derive(Clone, Copy)]
-pub enum Found {
-    Whole(usize),
-    Bad(Fault, usize),
-}
-
-// The end of the text.
-pub fn finish(r: Reader) -> Found
-    ensures { Finds (reader_of r) result }
-{
-    let stand = r.stand;
-    if is_whole(stand, r.depth) {
-        return Found::Whole(r.total);
-    }
-    Found::Bad(stop_fault(stand), r.offset)
 }

@@ -6,7 +6,9 @@
 --   lent_parts                         what the program lends is enough for the batch and its lines
 -- Assumes nothing.
 use mathlib.Core.Path.{◌≡◌, refl, sym, ap, ap₂, ◌∙◌}
-use mathlib.Core.List.{List, [], ◌++◌}
+use mathlib.Core.List.{List, ◌++◌}
+use Rattle.std.specs.Prelude.{Result, Ok, Err}
+use Rattle.std.specs.Result.{result_unwrap_or}
 use Prim.Native.Nat.{ℕ, ◌+◌, ◌*◌, ◌/◌, ◌≤◌}
 use native.Mathlib.Omega.{arith}
 use lib.ListN.{length, take, replicate, length-replicate}
@@ -25,33 +27,33 @@ use Rattle.serve.specs.Lines.{top_line}
 use Rattle.serve.specs.Needs.{BatchFits, CallsFit, program_answers}
 use Rattle.store.specs.Answers.{made_in}
 use Rattle.calls.specs.Answers.{ran_in}
-use Rattle.store.specs.declared.Made.{Made}
-use Rattle.store.specs.declared.Made.TheVariants as made
-use Rattle.calls.specs.declared.Ran as ran
-use Rattle.calls.specs.declared.Ran.TheVariants.{Ended, Refused, BadCalls, ShortAnswers}
+use Rattle.store.specs.declared.BadLength.{BadLength}
+use Rattle.calls.specs.declared.NotRun.{NotRun}
+use Rattle.calls.specs.declared.NotRun.TheVariants as not_run
 
 -- ---- what an answer's case says apart from the words and the answers
 
-pub made_top : (m : Made) (ws : List ℕ) → (made_in m ws).top ≡ (made_in m []).top
-made_top (made.Ready t) ws = refl
-made_top made.BadLength ws = refl
+made_top : (m : Result ℕ BadLength) (ws : List ℕ) → (made_in m ws).top ≡ result_unwrap_or m 0
+made_top (Ok t) ws = refl
+made_top (Err e) ws = refl
 
-made_words : (m : Made) (ws : List ℕ) → (made_in m ws).words ≡ ws
-made_words (made.Ready t) ws = refl
-made_words made.BadLength ws = refl
+made_words : (m : Result ℕ BadLength) (ws : List ℕ) → (made_in m ws).words ≡ ws
+made_words (Ok t) ws = refl
+made_words (Err e) ws = refl
 
-pub ran_top : (r : ran.Ran) (ws : List ℕ) (top : ℕ) (answers : List ℕ)
-    → (ran_in r ws top answers).top ≡ (ran_in r [] top []).top
-ran_top (Ended t) ws top answers = refl
-ran_top (Refused u) ws top answers = refl
-ran_top BadCalls ws top answers = refl
-ran_top ShortAnswers ws top answers = refl
+ran_top : (r : Result ℕ NotRun) (ws : List ℕ) (top : ℕ) (answers : List ℕ)
+    → (ran_in r ws top answers).top ≡ result_unwrap_or r top
+ran_top (Ok t) ws top answers = refl
+ran_top (Err (not_run.Unsound u)) ws top answers = refl
+ran_top (Err not_run.BadCalls) ws top answers = refl
+ran_top (Err not_run.ShortAnswers) ws top answers = refl
 
-ran_answers : (r : ran.Ran) (ws : List ℕ) (top : ℕ) (answers : List ℕ) → (ran_in r ws top answers).answers ≡ answers
-ran_answers (Ended t) ws top answers = refl
-ran_answers (Refused u) ws top answers = refl
-ran_answers BadCalls ws top answers = refl
-ran_answers ShortAnswers ws top answers = refl
+ran_answers : (r : Result ℕ NotRun) (ws : List ℕ) (top : ℕ) (answers : List ℕ)
+    → (ran_in r ws top answers).answers ≡ answers
+ran_answers (Ok t) ws top answers = refl
+ran_answers (Err (not_run.Unsound u)) ws top answers = refl
+ran_answers (Err not_run.BadCalls) ws top answers = refl
+ran_answers (Err not_run.ShortAnswers) ws top answers = refl
 
 -- ---- the whole
 
@@ -60,16 +62,16 @@ module _ (ws cs out : List ℕ) (l : BatchFits ws cs out) where
   unfolding fresh_in
   fresh_done = rw (yes_length first_heap_cell (length ws) l.store)
 
-  module _ (m : Made) (ws' : List ℕ) (e : made_in m ws' ≡ fresh_in first_heap_cell ws) where
+  module _ (m : Result ℕ BadLength) (ws' : List ℕ) (e : made_in m ws' ≡ fresh_in first_heap_cell ws) where
     fresh_words : ws' ≡ fresh first_heap_cell (capacity ws)
     fresh_words = sym (made_words m ws') ∙ ap (λ (d : Done). d.words) (e ∙ fresh_done)
 
-    fresh_top : (made_in m []).top ≡ first_heap_cell
+    fresh_top : result_unwrap_or m 0 ≡ first_heap_cell
     fresh_top = sym (made_top m ws') ∙ ap (λ (d : Done). d.top) (e ∙ fresh_done)
 
     -- what is left by the calls, run where the fresh store is
-    pub run_output : (r : ran.Ran) (ws'' out' : List ℕ) (t t' : ℕ) → t ≡ (made_in m []).top
-        → ran_in r ws'' t out' ≡ batch first_heap_cell ws' t cs out → t' ≡ (ran_in r [] t []).top
+    pub run_output : (r : Result ℕ NotRun) (ws'' out' : List ℕ) (t t' : ℕ) → t ≡ result_unwrap_or m 0
+        → ran_in r ws'' t out' ≡ batch first_heap_cell ws' t cs out → t' ≡ result_unwrap_or r t
         → lines_of out' ++ top_line t' ≡ output first_heap_cell (capacity ws) cs
     unfolding output written
     run_output r ws'' out' t t' p q u =

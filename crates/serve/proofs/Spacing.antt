@@ -1,22 +1,28 @@
 -- What the lines of the output are made of, and how many bytes they take. In order:
 --   line_fields             two fields are a line
 --   lines_next, lines_none  the lines of the answers, one after the other
+--   lines_cut               a line of which a byte does not fit
 --   refusal_short           the bytes of a refusal
 --   report_fits             the bytes of lines and the last one
---   front                   what a pen wrote that had room
+--   front_ok, front         what was written where there was room
+--   first_ok, both_front    the same of bytes and those behind them
 -- Assumes nothing.
 use mathlib.Core.Path.{◌≡◌, refl}
+use mathlib.Core.Bool.{true}
 use mathlib.Core.List.{List, [], ◌∷◌, ◌++◌, append_assoc}
-use Prim.Native.Nat.{ℕ, suc, ◌+◌, ◌*◌, ◌^◌, ◌≤◌, ◌<◌}
+use Rattle.std.specs.Prelude.{Result, Ok, IsOk}
+use Rattle.std.specs.Result.{result_unwrap_or}
+use Rattle.std.specs.Simd.{first_chunks}
+use Prim.Native.Nat.{ℕ, zero, suc, ◌+◌, ◌*◌, ◌/◌, ◌^◌, ◌≤◌, ◌<◌}
 use native.Mathlib.Omega.{arith}
 use lib.ListN.{length, get_or, drop, length-append, length-drop}
 use lib.Seq.{drop-cons}
 use Rattle.octets.specs.Decimal.{decimal}
-use Rattle.octets.specs.Space.{Space, blank, write}
-use Rattle.octets.specs.Pens.{space}
-use Rattle.octets.specs.declared.writing.Pen.{Pen}
+use Rattle.octets.specs.Space.{Space, up_to, blank, write}
+use Rattle.octets.specs.Places.{space}
+use Rattle.octets.specs.declared.writing.Full.{Full}
 use Rattle.octets.proofs.Decimals.{length_one, word_digits, long_digits}
-use Rattle.octets.proofs.Spaces.{write_step, pen_fits}
+use Rattle.octets.proofs.Spaces.{write_then, write_step, write_cut, place_fits}
 use Rattle.meaning.specs.Program.{lines_of, refusal, written}
 use Rattle.serve.specs.Front.{Front}
 use Rattle.serve.specs.Lines.{top_line}
@@ -39,14 +45,39 @@ lines_drop answers i h =
     rw (e, drop-cons answers i 0 (omega arith), ← f, drop-cons answers (i + 1) 0 h)
     (line_rest (get_or answers i 0) (get_or answers (i + 1) 0) (drop (suc (i + 1)) answers))
 
--- the loop over the answers: one line more, and the end
-pub lines_next : (answers : List ℕ) (i : ℕ) (s s' x : Space) → i + 1 < length answers
-    → s' ≡ write (lines_of (get_or answers i 0 ∷ get_or answers (i + 1) 0 ∷ [])) s
-    → write (lines_of (drop i answers)) s ≡ x → write (lines_of (drop (i + 2) answers)) s' ≡ x
-lines_next answers i s s' x h e f =
-    write_step (lines_of (get_or answers i 0 ∷ get_or answers (i + 1) 0 ∷ [])) (lines_of (drop (i + 2) answers)) s s' x
-    e
-    (rw (lines_drop answers i h) at f)
+-- a pair of the answers
+pair_at : (answers : List ℕ) (k i : ℕ) (none : List ℕ) → k ≡ length answers / 2 → i < k
+    → get_or (first_chunks 2 k answers) i none ≡ get_or answers (2 * i) 0 ∷ get_or answers (2 * i + 1) 0 ∷ []
+pair_at [] k i none e h = absurd (omega arith)
+pair_at (s ∷ []) k i none e h = absurd (omega arith)
+pair_at (s ∷ v ∷ answers) zero i none e h = absurd (omega arith)
+pair_at (s ∷ v ∷ answers) (suc k) zero none e h = refl
+pair_at (s ∷ v ∷ answers) (suc k) (suc i) none e h =
+    let p : 2 * suc i ≡ suc (suc (2 * i)) = omega arith in
+    let q : 2 * suc i + 1 ≡ suc (suc (2 * i + 1)) = omega arith in
+    rw (q, p) (pair_at answers k i none (omega arith) (omega arith))
+
+-- the loop over the pairs: the line of a pair, and those after it
+module _ (answers : List ℕ) (pairs : List (List ℕ)) (e : pairs ≡ first_chunks 2 (length answers / 2) answers)
+    (n : length pairs ≡ length answers / 2) (i : ℕ) where
+  abbrev pair_line : List ℕ
+  pair_line = let pair = get_or pairs i [] in lines_of (get_or pair 0 0 ∷ get_or pair 1 0 ∷ [])
+
+  module _ (h : i < length pairs) where
+    pair_rest : lines_of (drop (2 * i) answers) ≡ pair_line ++ lines_of (drop (2 * (i + 1)) answers)
+    pair_rest =
+        let k : 2 * (i + 1) ≡ 2 * i + 2 = omega arith in
+        rw (e, pair_at answers (length answers / 2) i [] refl (omega arith), k)
+        (lines_drop answers (2 * i) (omega arith))
+
+    pub lines_next : (s s' x : Space) → s' ≡ write pair_line s → write (lines_of (drop (2 * i) answers)) s ≡ x
+        → write (lines_of (drop (2 * (i + 1)) answers)) s' ≡ x
+    lines_next s s' x f g = write_step pair_line (lines_of (drop (2 * (i + 1)) answers)) s s' x f (rw pair_rest at g)
+
+    -- or a byte of it that does not fit
+    pub lines_cut : (s t x : Space) → t.short ≡ true → t ≡ write pair_line s
+        → write (lines_of (drop (2 * i) answers)) s ≡ x → t ≡ x
+    lines_cut s t x q f g = write_cut pair_line (lines_of (drop (2 * (i + 1)) answers)) s t x q f (rw pair_rest at g)
 
 lines_few : (answers : List ℕ) → length answers ≤ 1 → lines_of answers ≡ []
 lines_few [] h = refl
@@ -97,9 +128,23 @@ pub report_fits : (answers : List ℕ) (top room : ℕ) → ((i : ℕ) → get_o
 report_fits answers top room h g f =
     simp length-append (omega (arith, lines_bound answers h, top_line_bound top g))
 
--- what a pen wrote that had room stands at the start
-pub front : (xs out out' : List ℕ) (p : Pen) → length xs ≤ length out → space out' p ≡ write xs (blank out)
-    → Front out xs out' p.place
-front xs out out' p h e =
-    let f = pen_fits xs out out' p h e in
-    rw f.1 (refl, f.0)
+-- what was written where there was room stands at the start, whatever the answer is else
+module _ (xs out out' : List ℕ) (r : Result ℕ Full) (h : length xs ≤ length out)
+    (e : space out' r ≡ write xs (blank out)) where
+  front_ok : IsOk r
+  front_ok = let f = place_fits xs out out' r h e in rw (f.0) refl
+
+  front : (none : ℕ) → Front out xs out' (result_unwrap_or r none)
+  front none = let f = place_fits xs out out' r h e in rw (f.0) (refl, f.1)
+
+-- the same of bytes and those behind them, written one after the other
+module _ (xs ys out : List ℕ) (h : length (xs ++ ys) ≤ length out) (out' : List ℕ) (r : Result ℕ Full)
+    (e : space out' r ≡ write xs (blank out)) where
+  pub first_ok : IsOk r
+  first_ok = front_ok xs out out' r (omega (arith, h, length-append xs ys)) e
+
+  pub both_front : (place : ℕ) → r ≡ Ok place → (out'' : List ℕ) (r' : Result ℕ Full)
+      → space out'' r' ≡ write ys (up_to out' place) → Front out (xs ++ ys) out'' (result_unwrap_or r' place)
+  both_front place k out'' r' f =
+      front (xs ++ ys) out out'' r' h
+      (write_then xs ys (blank out) (up_to out' place) (space out'' r') (rw k at e) f) place

@@ -1,4 +1,5 @@
 -- What the contracts of this crate cite beside the definitions of `meaning`. Assumes nothing.
+pub mod Faults
 pub mod Front
 pub mod Lines
 pub mod Needs

@@ -6,8 +6,7 @@ mod running;
 mod writing;
 
 ghost use Rattle.std.specs.Prelude.{◌≡◌};
-ghost use Rattle.meaning.specs.Limits.{first_heap_cell};
-ghost use Rattle.meaning.specs.Program.{input_fault};
+ghost use Rattle.serve.specs.Faults.{fault_number, Tested};
 ghost use Rattle.serve.specs.Serves.{Serves};
 
 use meaning::{PROGRAM_BYTES, PROGRAM_CELLS};
@@ -19,37 +18,50 @@ const ANSWERS: usize = (PROGRAM_BYTES - 4) / 8;
 // that 11 bytes do for one; `top `, a number of at most twenty digits and the line's end are 25.
 pub const OUTPUT: usize = 11 * ANSWERS + 25;
 
-// What is wrong with an input: 1 for its capacity, then 4 for its length, else 0.
-fn input_fault(input: &[u8]) -> usize
-    ensures { result ≡ input_fault first_heap_cell input.now }
+// What is wrong with an input, with the number of its refusal.
+#[derive(Clone, Copy)]
+enum Fault {
+    Capacity = 1,
+    Length = 4,
+}
+
+impl From<Fault> for usize {
+    ghost from_gives = { λ fault n. n ≡ fault_number fault };
+
+    fn from(fault: Fault) -> usize {
+        fault as usize
+    }
+}
+
+// The capacity that an input names, if nothing is wrong with it: the capacity is tested first, then the length.
+fn capacity_of(input: &[u8]) -> Result<usize, Fault>
+    ensures { Tested input.now result }
 {
     if input.len() < 4 {
-        return 1; // no capacity
+        return Err(Fault::Capacity); // none
     }
     let cells = octets::reading::word(input, 0) as usize;
     if cells < meaning::FIRST_HEAP_CELL {
-        return 1; // too few cells
+        return Err(Fault::Capacity); // too few cells
     }
     if PROGRAM_CELLS < cells {
-        return 1; // too many cells
+        return Err(Fault::Capacity); // too many cells
     }
     if PROGRAM_BYTES < input.len() {
-        return 4; // too many calls
+        return Err(Fault::Length); // too many calls
     }
     if (input.len() - 4) % 16 != 0 {
-        return 4; // a broken call
+        return Err(Fault::Length); // a broken call
     }
-    0
+    Ok(cells)
 }
 
 // Writes what the program has to write to the start of `out`, leaves the rest of it, and gives the number of bytes.
 pub fn serve(input: &[u8], out: &mut [u8; OUTPUT]) -> usize
     ensures { Serves input.now out.old result out.new }
 {
-    let wrong = input_fault(input);
-    if wrong != 0 {
-        return writing::refuse(out, wrong);
+    match capacity_of(input) {
+        Ok(cells) => running::serve_calls(cells, input, out),
+        Err(fault) => writing::refuse(out, usize::from(fault)),
     }
-    let cells = octets::reading::word(input, 0) as usize;
-    running::serve_calls(cells, input, out)
 }

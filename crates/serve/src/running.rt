@@ -4,37 +4,12 @@ ghost use Rattle.octets.specs.Little.{words_of};
 ghost use Rattle.meaning.specs.Limits.{first_heap_cell};
 ghost use Rattle.meaning.specs.Sound.{capacity};
 ghost use Rattle.meaning.specs.Program.{lines_of, output};
-ghost use Rattle.store.specs.Answers.{made_in};
-ghost use Rattle.calls.specs.Answers.{ran_in};
 ghost use Rattle.serve.specs.Front.{Front};
 ghost use Rattle.serve.specs.Lines.{top_line};
 ghost use Rattle.serve.specs.Needs.{BatchFits, CallsFit, InputFits};
 
 use crate::{ANSWERS, writing};
-use calls::Ran;
 use meaning::{PROGRAM_BYTES, PROGRAM_CELLS};
-use store::Made;
-
-// The `top` that goes with an answer.
-fn top_made(made: Made) -> usize
-    ensures { result ≡ (made_in made []).top }
-{
-    match made {
-        Made::Ready(top) => top,
-        Made::BadLength => 0,
-    }
-}
-
-fn top_ran(ran: Ran, top: usize) -> usize
-    ensures { result ≡ (ran_in ran [] top []).top }
-{
-    match ran {
-        Ran::Ended(last) => last,
-        Ran::Refused(_) => top,
-        Ran::BadCalls => top,
-        Ran::ShortAnswers => top,
-    }
-}
 
 // Makes the store, runs the calls and gives the last `top`. Neither refuses: what is lent is as they ask.
 fn run_fresh(ws: &mut [u32], calls: &[u32], answers: &mut [u32]) -> usize
@@ -42,8 +17,8 @@ fn run_fresh(ws: &mut [u32], calls: &[u32], answers: &mut [u32]) -> usize
     ensures { lines_of answers.new ++ top_line result
         ≡ output first_heap_cell (capacity ws.old) calls.now }
 {
-    let top = top_made(store::fresh(ws));
-    top_ran(calls::run(ws, top, calls, answers), top)
+    let top = store::fresh(ws).unwrap_or(0);
+    calls::run(ws, top, calls, answers).unwrap_or(top)
 }
 
 // The same, and the lines of it.

@@ -3,25 +3,24 @@
 -- Assumes nothing.
 use mathlib.Core.Path.{◌≡◌, refl, sym, ap, ◌∙◌}
 use mathlib.Core.List.{List}
+use Rattle.std.specs.Prelude.{Result, Ok, Err}
 use Prim.Native.Nat.{ℕ, ◌-◌}
 use lib.ListN.{take, drop}
 use Rattle.meaning.specs.Verdicts.{Verdict, Done, on_zero, if_sound}
 use Rattle.meaning.specs.Look.{Span, look}
 use Rattle.store.specs.Answers.{verdict_of, made_in}
 use Rattle.store.specs.Unique.{VerdictsDiffer, OneCheck, OneFresh, OneSpan, OneLook, LookAtSpan}
-use Rattle.store.specs.declared.Checked.{Checked}
-use Rattle.store.specs.declared.Checked.TheVariants as checked
-use Rattle.store.specs.declared.Made.{Made}
-use Rattle.store.specs.declared.Made.TheVariants as made
+use Rattle.store.specs.declared.Unsound.{Unsound}
+use Rattle.store.specs.declared.BadLength.{BadLength}
 use Rattle.store.specs.declared.Span as span
 use Rattle.store.proofs.Refusals.{unsound_of, unsound_of_back, if_sound_refusal}
 
-abbrev checked_of : Verdict → Checked
-checked_of v = if_sound v checked.Sound (checked.Refused (unsound_of v))
+abbrev checked_of : Verdict → Result (Unit {0}) Unsound
+checked_of v = if_sound v (Ok tt) (Err (unsound_of v))
 
-checked_back : (r : Checked) → checked_of (verdict_of r) ≡ r
-checked_back checked.Sound = refl
-checked_back (checked.Refused u) = if_sound_refusal u _ _ ∙ ap checked.Refused (unsound_of_back u)
+checked_back : (r : Result (Unit {0}) Unsound) → checked_of (verdict_of r) ≡ r
+checked_back (Ok s) = refl
+checked_back (Err u) = if_sound_refusal u _ _ ∙ ap Err (unsound_of_back u)
 
 pub verdicts_differ : VerdictsDiffer
 verdicts_differ r r' e = sym (checked_back r) ∙ ap checked_of e ∙ checked_back r'
@@ -29,16 +28,16 @@ verdicts_differ r r' e = sym (checked_back r) ∙ ap checked_of e ∙ checked_ba
 pub one_check : OneCheck
 one_check ws top r r' p q = verdicts_differ r r' (p ∙ sym q)
 
-abbrev made_of : Done → Made
-made_of d = on_zero d.verdict.status (made.Ready d.top) made.BadLength
+abbrev made_of : Done → Result ℕ BadLength
+made_of d = on_zero d.verdict.status (Ok d.top) (Err (record {}))
 
-made_back : (r : Made) (vs : List ℕ) → made_of (made_in r vs) ≡ r
-made_back (made.Ready t) vs = refl
-made_back made.BadLength vs = refl
+made_back : (r : Result ℕ BadLength) (vs : List ℕ) → made_of (made_in r vs) ≡ r
+made_back (Ok t) vs = refl
+made_back (Err e) vs = refl
 
-words_back : (r : Made) (vs : List ℕ) → (made_in r vs).words ≡ vs
-words_back (made.Ready t) vs = refl
-words_back made.BadLength vs = refl
+words_back : (r : Result ℕ BadLength) (vs : List ℕ) → (made_in r vs).words ≡ vs
+words_back (Ok t) vs = refl
+words_back (Err e) vs = refl
 
 pub one_fresh : OneFresh
 one_fresh ws r r' vs vs' p q =

@@ -1,26 +1,23 @@
 -- Where a register's cells lie, by the tests of `span`.
 -- Assumes nothing.
 use mathlib.Core.Path.{◌≡◌, refl, sym, ◌∙◌}
-use mathlib.Core.Bool.{false}
 use mathlib.Core.List.{List}
 use Prim.Native.Nat.{ℕ, ◌+◌, ◌*◌, ◌≤◌, ◌<◌}
 use native.Mathlib.Omega.{arith}
-use lib.Dec.{eqb}
 use lib.ListN.{length}
 use Rattle.meaning.specs.Sound.{at, Sound, start, size}
 use Rattle.meaning.specs.Check.{check}
 use Rattle.meaning.specs.Look.{span_of, look_span}
 use Rattle.meaning.proofs.look.Looking.{span_register, run_fits}
 use Rattle.meaning.proofs.look.Looking as looking
-use Rattle.store.specs.Answers.{verdict_of}
-use Rattle.store.specs.declared.Checked.{Checked}
-use Rattle.store.proofs.Sounds.{if_sound_no}
+use Rattle.store.specs.Answers.{refusal_of}
+use Rattle.store.specs.declared.Unsound.{Unsound}
+use Rattle.store.proofs.Sounds.{found_refused}
 
 module _ (F : ℕ) (ws : List ℕ) (top i : ℕ) where
-  pub span_unsound : (found : Checked) → verdict_of found ≡ check F ws top → eqb (verdict_of found).status 0 ≡ false
-      → look_span F ws top i ≡ record { from = 0; to = 0 }
+  pub span_unsound : (u : Unsound) → refusal_of u ≡ check F ws top → look_span F ws top i ≡ record { from = 0; to = 0 }
   unfolding look_span span_of
-  span_unsound found q e = if_sound_no F ws top found q _ _ e
+  span_unsound u e = sym (found_refused F ws top u _ (λ v. record { from = 0; to = 0 }) e)
 
   module _ (s : Sound F ws top) where
     pub span_none : F ≤ i → look_span F ws top i ≡ record { from = 0; to = 0 }

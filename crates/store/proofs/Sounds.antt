@@ -1,68 +1,39 @@
 -- What the answer of the check says of the store, for those that go on only where it is sound. In order:
 --   first_heap_cell_pos                 there is a register
---   sound_no                          where the test of `is_sound` fails, the status is not 0
---   sound_iff                         it passes exactly for a sound store
---   if_sound_no                        what depends on the check, where the test fails
---   found_sound, found_refused        the arms of a `match` on the answer of the check
+--   found_sound, found_refused        the arms of a `match` or a `?` on the answer of the check
 --   register_bracketed, heap_termed   a sound store's registers and heap cells may be read
 --   register_inside, heap_inside      their words lie in the store
 -- Assumes nothing.
-use mathlib.Core.Path.{◌≡◌, sym, ap, ◌∙◌}
-use mathlib.Core.Logic.{◌≢◌, ◌↔◌}
-use mathlib.Core.Bool.{Bool, true, false}
+use mathlib.Core.Path.{◌≡◌, sym, ap}
 use mathlib.Core.List.{List}
 use Prim.Native.Nat.{ℕ, ◌+◌, ◌*◌, ◌≤◌, ◌<◌}
 use native.Mathlib.Omega.{arith}
-use lib.Dec.{eqb, lit<}
+use lib.Dec.{lit<}
 use lib.ListN.{length}
-use borrow.Author.Tests.{eqb-true, eqb-false, eq-eqb}
 use Rattle.meaning.specs.Limits.{first_heap_cell, limit}
 use Rattle.meaning.specs.Sound.{Sound}
-use Rattle.meaning.specs.Verdicts.{Verdict, if_sound}
+use Rattle.meaning.specs.Verdicts.{Verdict, only, if_sound}
 use Rattle.meaning.specs.Check.{check}
-use Rattle.meaning.proofs.check.Checking.{sound_check, check_sound, on_zero_no}
+use Rattle.meaning.proofs.check.Checking.{check_sound}
 use Rattle.meaning.proofs.sound.Cells.{register_rule, heap_rule}
-use Rattle.store.specs.Answers.{refusal_of, verdict_of}
+use Rattle.store.specs.Answers.{refusal_of}
 use Rattle.store.specs.Holds.{Bracketed, Termed}
 use Rattle.store.specs.declared.Unsound.{Unsound}
-use Rattle.store.specs.declared.Checked.{Checked}
-use Rattle.store.specs.declared.Checked.TheVariants as checked
 use Rattle.store.proofs.Refusals.{if_sound_refusal}
 
 pub first_heap_cell_pos : 0 < first_heap_cell
 first_heap_cell_pos = lit< tt
 
--- `found` is the answer of `check`, and the test is that of `is_sound`
-module _ (F : ℕ) (ws : List ℕ) (top : ℕ) (found : Checked) (q : verdict_of found ≡ check F ws top) where
-  abbrev zero? : Bool
-  zero? = eqb (verdict_of found).status 0
+-- in the arms of a `match` or a `?` on the answer of `check`, what the arm knows of it is the premise
+module _ (F : ℕ) (ws : List ℕ) (top : ℕ) where
+  -- `Ok`: the store is sound
+  pub found_sound : only 0 ≡ check F ws top → Sound F ws top
+  found_sound e = check_sound F ws top (ap (λ (v : Verdict). v.status) (sym e))
 
-  status : (verdict_of found).status ≡ (check F ws top).status
-  status = ap (λ (v : Verdict). v.status) q
-
-  status_zero : zero? ≡ true → (check F ws top).status ≡ 0
-  status_zero e = sym status ∙ eqb-true (verdict_of found).status 0 e
-
-  pub sound_no : zero? ≡ false → (check F ws top).status ≢ 0
-  sound_no e z = eqb-false (verdict_of found).status 0 e (status ∙ z)
-
-  pub sound_iff : (zero? ≡ true) ↔ Sound F ws top
-  sound_iff = (
-    λ e. check_sound F ws top (status_zero e),
-    λ s. eq-eqb (verdict_of found).status 0 (status ∙ ap (λ (v : Verdict). v.status) (sound_check F ws top s)),
-  )
-
-  pub if_sound_no : {A : Type 0} (x y : A) → zero? ≡ false → if_sound (check F ws top) x y ≡ y
-  if_sound_no x y e = on_zero_no (check F ws top).status x y (sound_no e)
-
-  -- the arms of a `match` on the answer: the store is sound
-  pub found_sound : found ≡ checked.Sound → Sound F ws top
-  found_sound e = sound_iff.0 (ap (λ (x : Checked). eqb (verdict_of x).status 0) e)
-
-  -- or it is refused, and what depends on the check is what the refusal gives
-  pub found_refused : {A : Type 0} {u : Unsound} (x : A) (f : Verdict → A) → found ≡ checked.Refused u
+  -- `Err`: it is refused, and what depends on the check is what the refusal gives
+  pub found_refused : {A : Type 0} (u : Unsound) (x : A) (f : Verdict → A) → refusal_of u ≡ check F ws top
       → f (refusal_of u) ≡ if_sound (check F ws top) x (f (check F ws top))
-  found_refused {u = u} x f e = rw (← q, e) (sym (if_sound_refusal u x (f (refusal_of u))))
+  found_refused u x f e = rw (← e) (sym (if_sound_refusal u x (f (refusal_of u))))
 
 -- a sound store's cells may be read
 module _ (ws : List ℕ) (top : ℕ) (s : Sound first_heap_cell ws top) where

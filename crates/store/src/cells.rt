@@ -1,15 +1,19 @@
-// The rules of one cell, over its two words and the first heap cell of its store: as tests, and by number. A test that
-// a pass over many cells makes has no branch, so that the compiler can test several cells at a time.
+// The rules of one cell, over its two words and the first heap cell of its store: as tests, and as the first rule that
+// is broken. A test that a pass over many cells makes compiles to no branch, so that several are tested at a time.
 ghost use Rattle.std.specs.Prelude.{◌≡◌, ◌↔◌, true, ◌≤◌, ◌<◌, ◌^◌};
 ghost use Rattle.meaning.specs.Limits.{code_test};
 ghost use Rattle.meaning.specs.Sound.{IsBracket, IsTerm};
 ghost use Rattle.meaning.specs.Check.{bracket_rule, below_rule, broken_rule};
+ghost use Rattle.store.specs.Answers.{broken_number};
+
+use super::Rule;
 
 // Whether a is a symbol's code.
+#[tactic(auto, unfolding(meaning::specs::Limits::code_test))]
 pub fn is_code(a: u32) -> bool
     ensures { result ≡ code_test a }
 {
-    (meaning::LEAST_CODE <= a) & (a <= meaning::CODE_LIMIT)
+    (meaning::LEAST_CODE..=meaning::CODE_LIMIT).contains(&a)
 }
 
 // Whether a and b are the words of a bracket: empty, or with ends from `first` on and below `bound`. What is left of b
@@ -47,49 +51,36 @@ pub fn cell_ok(a: u32, b: u32, c: usize, first: usize, top: usize) -> bool
     (a == 0) & (b == 0)
 }
 
-// The rules of a cell by number (SCOPE 1.6), and 0 for a cell that breaks none.
-const KEPT: u32 = 0;
-
-const STRAY_BIT: u32 = 1;
-
-const NOT_BRACKET: u32 = 2;
-
-const BAD_EMPTY: u32 = 3;
-
-const BAD_SYMBOL: u32 = 4;
-
-const BAD_ENDS: u32 = 5;
-
-const BEYOND_TOP: u32 = 6;
-
 // The rule that a bracket with the ends a and r breaks, where they lie from `first` on and below `bound`.
-fn bracket_rule(a: usize, r: usize, first: usize, bound: usize) -> u32
-    ensures { result ≡ bracket_rule first bound a r }
+#[tactic(auto, unfolding(meaning::specs::Check::bracket_rule))]
+fn bracket_rule(a: usize, r: usize, first: usize, bound: usize) -> Option<Rule>
+    ensures { broken_number result ≡ bracket_rule first bound a r }
 {
     if r == 0 {
         if a == 0 {
-            return KEPT;
+            return None;
         }
-        return BAD_EMPTY;
+        return Some(Rule::BadEmpty);
     }
     if (first <= a) & (a <= r) & (r < bound) {
-        return KEPT;
+        return None;
     }
-    BAD_ENDS
+    Some(Rule::BadEnds)
 }
 
 // The rule that the words a and b of cell c below `top` break, without a stray bit in b.
-fn below_rule(a: u32, b: u32, c: usize, first: usize, top: usize) -> u32
-    ensures { result ≡ below_rule first top c a b }
+#[tactic(auto, unfolding(meaning::specs::Check::below_rule))]
+fn below_rule(a: u32, b: u32, c: usize, first: usize, top: usize) -> Option<Rule>
+    ensures { broken_number result ≡ below_rule first top c a b }
 {
     if b < words::EMPTY {
         if c < first {
-            return NOT_BRACKET;
+            return Some(Rule::NotBracket);
         }
         if is_code(a) & (b == 0) {
-            return KEPT;
+            return None;
         }
-        return BAD_SYMBOL;
+        return Some(Rule::BadSymbol);
     }
     let r = (b - words::EMPTY) as usize;
     if c < first {
@@ -99,17 +90,18 @@ fn below_rule(a: u32, b: u32, c: usize, first: usize, top: usize) -> u32
 }
 
 // The first rule that the words a and b break as those of cell c: a register, an occupied heap cell, or a free one.
-pub fn broken_rule(a: u32, b: u32, c: usize, first: usize, top: usize) -> u32
-    ensures { result ≡ broken_rule first top c a b }
+#[tactic(auto, unfolding(meaning::specs::Check::broken_rule))]
+pub fn broken_rule(a: u32, b: u32, c: usize, first: usize, top: usize) -> Option<Rule>
+    ensures { broken_number result ≡ broken_rule first top c a b }
 {
     if words::is_stray(b) {
-        return STRAY_BIT;
+        return Some(Rule::StrayBit);
     }
     if c < top {
         return below_rule(a, b, c, first, top);
     }
     if (a == 0) & (b == 0) {
-        return KEPT;
+        return None;
     }
-    BEYOND_TOP
+    Some(Rule::BeyondTop)
 }

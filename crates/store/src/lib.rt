@@ -2,103 +2,97 @@
 // cell of a sound store holds. The numbers of SCOPE 5.1 that an answer stands for are in specs/Answers.antt.
 #![tactic(auto)]
 
-ghost use Rattle.std.specs.Prelude.{◌≡◌, ◌+◌, ◌*◌, ◌≤◌, ◌<◌, eqb, length, take};
+ghost use Rattle.std.specs.Prelude.{◌≡◌, ◌+◌, ◌*◌, ◌≤◌, ◌<◌, length, take};
 ghost use Rattle.meaning.specs.Limits.{first_heap_cell};
 ghost use Rattle.meaning.specs.Sound.{at};
 ghost use Rattle.meaning.specs.Check.{length_test, top_test};
 ghost use Rattle.meaning.specs.Fresh.{empty_registers};
-ghost use Rattle.store.specs.Answers.{verdict_of, Placed, Checks, Makes, Looks};
+ghost use Rattle.store.specs.Answers.{rule_number, Placed, Checks, Makes, Looks};
 ghost use Rattle.store.specs.Holds.{Bracketed, Termed, RunIs, TermIs};
 
 pub mod cells;
 mod passes;
+pub mod register;
+
+use register::Register;
+
+// The rules of a cell, with their numbers (SCOPE 1.6).
+#[derive(Clone, Copy, PartialEq, Eq)]
+pub enum Rule {
+    StrayBit = 1,
+    NotBracket = 2,
+    BadEmpty = 3,
+    BadSymbol = 4,
+    BadEnds = 5,
+    BeyondTop = 6,
+}
+
+impl From<Rule> for u32 {
+    ghost from_gives = { λ rule n. n ≡ rule_number rule };
+
+    fn from(rule: Rule) -> u32 {
+        rule as u32
+    }
+}
 
 // Why a store is unsound: its length, its `top`, or its first damaged cell, with the rule that this breaks. Every
 // answer that may refuse a store holds this as the check found it.
-#[derive(Clone, Copy)]
+#[derive(Clone, Copy, PartialEq, Eq)]
 pub enum Unsound {
     BadLength,
     BadTop,
-    Damaged(usize, u32),
+    Damaged(usize, Rule),
 }
 
-// What the check finds.
-#[derive(Clone, Copy)]
-pub enum Checked {
-    Sound,
-    Refused(Unsound),
-}
-
+#[tactic(auto, unfolding(meaning::specs::Check::length_test, meaning::specs::Limits::limit))]
 fn length_ok(n: usize) -> bool
     ensures { result ≡ length_test first_heap_cell n }
 {
-    if n % 2 != 0 {
-        return false;
-    }
-    if n < 2 * meaning::FIRST_HEAP_CELL {
-        return false;
-    }
-    n <= 2 * meaning::LIMIT
+    n % 2 == 0 && (2 * meaning::FIRST_HEAP_CELL..=2 * meaning::LIMIT).contains(&n)
 }
 
+#[tactic(auto, unfolding(meaning::specs::Check::top_test))]
 fn top_ok(top: usize, cells: usize) -> bool
     ensures { result ≡ top_test first_heap_cell cells top }
 {
-    if top < meaning::FIRST_HEAP_CELL {
-        return false;
-    }
-    top <= cells
+    (meaning::FIRST_HEAP_CELL..=cells).contains(&top)
 }
 
 // The length, then `top`, then the cells. Passes that are never left find a sound store sound. In any other a scan from
-// the lowest address up leaves at the first damaged cell, with its rule.
-pub fn check(ws: &[u32], top: usize) -> Checked
+// the lowest address up leaves by `break` at the first damaged cell, with its rule.
+pub fn check(ws: &[u32], top: usize) -> Result<(), Unsound>
     ensures { Checks ws.now top result }
 {
     if !length_ok(ws.len()) {
-        return Checked::Refused(Unsound::BadLength);
+        return Err(Unsound::BadLength);
     }
     let cells = ws.len() / 2;
     if !top_ok(top, cells) {
-        return Checked::Refused(Unsound::BadTop);
+        return Err(Unsound::BadTop);
     }
     if passes::all_ok(ws, top) {
-        return Checked::Sound;
+        return Ok(());
     }
-    let mut c: usize = 0;
-    loop {
-        if cells <= c {
-            break Checked::Sound;
+    'scan: {
+        for c in 0..cells {
+            let broken = cells::broken_rule(
+                words::first_word(ws, c),
+                words::second_word(ws, c),
+                c,
+                meaning::FIRST_HEAP_CELL,
+                top,
+            );
+            if let Some(rule) = broken {
+                break 'scan Err(Unsound::Damaged(c, rule));
+            }
         }
-        let rule = cells::broken_rule(
-            words::first_word(ws, c),
-            words::second_word(ws, c),
-            c,
-            meaning::FIRST_HEAP_CELL,
-            top,
-        );
-        if rule != 0 {
-            break Checked::Refused(Unsound::Damaged(c, rule));
-        }
-        c += 1;
+        Ok(())
     }
 }
 
-pub fn is_sound(found: Checked) -> bool
-    ensures { result ≡ eqb (verdict_of found).status 0 }
-{
-    match found {
-        Checked::Sound => true,
-        Checked::Refused(_) => false,
-    }
-}
-
-// What making a fresh store answers: its `top`, or that the slice has no length that a store may have.
-#[derive(Clone, Copy)]
-pub enum Made {
-    Ready(usize),
-    BadLength,
-}
+// No fresh store can be made in the slice: its length is none that a store may have.
+#[derive(Clone, Copy, PartialEq, Eq)]
+pub struct BadLength;
 
 // Every register becomes empty.
 fn empty_registers(ws: &mut [u32])
@@ -110,16 +104,16 @@ fn empty_registers(ws: &mut [u32])
     }
 }
 
-// A fresh store, written into a slice of an allowed length. Any other slice is left as it is.
-pub fn fresh(ws: &mut [u32]) -> Made
+// A fresh store, written into a slice of an allowed length; gives its `top`. Any other slice is left as it is.
+pub fn fresh(ws: &mut [u32]) -> Result<usize, BadLength>
     ensures { Makes ws.old result ws.new }
 {
     if !length_ok(ws.len()) {
-        return Made::BadLength;
+        return Err(BadLength);
     }
     empty_registers(ws);
     words::zero_from(ws, 2 * meaning::FIRST_HEAP_CELL);
-    Made::Ready(meaning::FIRST_HEAP_CELL)
+    Ok(meaning::FIRST_HEAP_CELL)
 }
 
 // The contents of a bracket: `size` cells from `start` on, or 0 and 0 where it is empty.
@@ -175,13 +169,10 @@ pub struct Span {
 pub fn look_span(ws: &[u32], top: usize, register: usize) -> Span
     ensures { Placed first_heap_cell ws.now top register result }
 {
-    if !is_sound(check(ws, top)) {
+    let (Ok(()), Some(register)) = (check(ws, top), Register::new(register)) else {
         return Span { from: 0, to: 0 };
-    }
-    if meaning::FIRST_HEAP_CELL <= register {
-        return Span { from: 0, to: 0 };
-    }
-    let held = run_at(ws, register);
+    };
+    let held = run_at(ws, register.cell());
     let from = 2 * held.start;
     let to = from + 2 * held.size;
     Span { from, to }
@@ -192,8 +183,6 @@ pub fn look_span(ws: &[u32], top: usize, register: usize) -> Span
 pub fn look(ws: &[u32], top: usize, register: usize) -> &[u32]
     ensures { Looks ws.entry top register result }
 {
-    let place = look_span(ws, top, register);
-    let from = place.from;
-    let to = place.to;
+    let Span { from, to } = look_span(ws, top, register);
     &ws[from..to]
 }

@@ -1,18 +1,19 @@
 -- A text that is written as far as it goes is printed as the definition says. In order:
---   deep_ended, short_ended, whole_ended   what comes of a page, by how the text ended
+--   page_ended                             what comes of a page, by the answer that goes with it
+--   deep_ended, short_ended                the same of a page that stopped
 --   Fate, fate                             the first trouble, and the page that it leaves
 --   ended_printed                          a text written into a whole space
---   register_printed                       so of a register's expression
---   zeroed                                 a refusal
+--   register_prints                        so is a register's expression
 -- Assumes nothing.
 use mathlib.Core.Path.{◌≡◌, refl, sym, ap, ◌∙◌}
 use mathlib.Core.Logic.{◌⊎◌, inl, inr}
 use mathlib.Core.Bool.{Bool, true, false, cond, true≢false}
 use mathlib.Core.List.{List, [], ◌∷◌, ◌++◌}
+use Rattle.std.specs.Prelude.{Result, Ok, Err}
 use Prim.Native.Nat.{ℕ, ◌+◌, ◌-◌, ◌≤◌, ◌<◌}
 use native.Mathlib.Omega.{arith}
 use lib.Dec.{eqb}
-use lib.ListN.{length, take, drop, set, length-set, length-append, length-drop}
+use lib.ListN.{length, drop, set, length-set, length-append, length-drop}
 use lib.Seq.{take_at}
 use borrow.Author.Tests.{eqb-true, eqb-false}
 use Rattle.octets.specs.Space as space
@@ -22,34 +23,38 @@ use Rattle.octets.proofs.Final.{write_fits, write_short}
 use Rattle.meaning.specs.Limits.{first_heap_cell, depth_limit}
 use Rattle.meaning.specs.Sound.{at, Sound}
 use Rattle.meaning.specs.Meaning.{run, term_at, meaning}
-use Rattle.meaning.specs.Verdicts.{Verdict, only}
-use Rattle.meaning.specs.Text.{text, left_after, too_deep, trouble, Printed, unprinted, printed}
+use Rattle.meaning.specs.Verdicts.{only}
+use Rattle.meaning.specs.Text.{text, left_after, too_deep, trouble, unprinted, printed}
 use Rattle.meaning.proofs.Lists.{lt_or_ge}
-use Rattle.meaning.proofs.text.Printing.{whole, troubled}
+use Rattle.meaning.proofs.text.Printing.{whole, troubled, print_register}
 use Rattle.store.specs.Holds.{RunIs}
 use Rattle.store.specs.declared.Run.{Run}
-use Rattle.text.specs.Page.{Page, blank, plain, halted, stopped, next, writes, ended}
+use Rattle.text.specs.Answers.{printed_in, Prints}
+use Rattle.text.specs.declared.writers.Stop.{Stop}
+use Rattle.text.specs.declared.writers.Stop.TheVariants.{ShortSpace, TooDeep}
+use Rattle.text.specs.Page.{Page, reached, plain, halted, stopped, next, writes, ended}
+use Rattle.text.specs.Page.{page, as_printed, zeroed}
 use Rattle.text.proofs.Pages.{writes_stopped}
 use Rattle.text.proofs.Steps.{stop_here, register_is}
 
--- ---- what comes of a page; v is the space as it was zeroed
+-- ---- what comes of a page
 
-module _ (g : Page) (v : List ℕ) where
-  pub deep_ended : g.deep ≡ true → v ≡ filled (length g.space.bytes) []
-      → ◌≡◌ {A = Printed} (record { verdict = only 21; size = 0; space = v }) (ended g)
-  unfolding ended
-  deep_ended d e = rw (d, e) refl
+-- zeros behind the text, or everywhere
+pub page_ended : (out : List ℕ) (r : Result ℕ Stop)
+    → printed_in (as_printed r) (zeroed (as_printed r) out) ≡ ended (page out r)
+unfolding ended
+page_ended out (Ok n) = refl
+page_ended out (Err (ShortSpace place)) = refl
+page_ended out (Err (TooDeep place)) = refl
 
-  pub short_ended : g.deep ≡ false → g.space.short ≡ true → v ≡ filled (length g.space.bytes) []
-      → ◌≡◌ {A = Printed} (record { verdict = only 22; size = 0; space = v }) (ended g)
+module _ (g : Page) where
+  deep_ended : g.deep ≡ true → ended g ≡ unprinted (only 21) (length g.space.bytes)
   unfolding ended
-  short_ended d h e = rw (d, h, e) refl
+  deep_ended d = rw d refl
 
-  pub whole_ended : g.deep ≡ false → g.space.short ≡ false
-      → v ≡ filled (length g.space.bytes) (take g.space.place g.space.bytes)
-      → ◌≡◌ {A = Printed} (record { verdict = only 0; size = g.space.place; space = v }) (ended g)
+  short_ended : g.deep ≡ false → g.space.short ≡ true → ended g ≡ unprinted (only 22) (length g.space.bytes)
   unfolding ended
-  whole_ended d h e = rw (d, h, e) refl
+  short_ended d h = rw (d, h) refl
 
 -- ---- the first trouble
 
@@ -155,10 +160,10 @@ module _ (t out : List ℕ) where
       omega (arith, length-append t (drop (length t) out), length-drop (length t) out) in
       rw (write_fits t out h, k, take_at t (drop (length t) out) (length t) refl) refl
 
-  ended_printed : ended (writes depth_limit t (blank out)) ≡ printed t n
+  ended_printed : ended (writes depth_limit t (reached out 0)) ≡ printed t n
   ended_printed =
-      go (trouble depth_limit (n - 0) t) (writes depth_limit t (blank out)) refl
-      (writes_length depth_limit t (blank out))
+      go (trouble depth_limit (n - 0) t) (writes depth_limit t (reached out 0)) refl
+      (writes_length depth_limit t (reached out 0))
       (fate depth_limit t (space.blank out) refl (omega arith))
     where
       z : n - 0 ≡ n
@@ -168,20 +173,17 @@ module _ (t out : List ℕ) where
           → Fate (write t (space.blank out)) s g → ended g ≡ printed t n
       go s g q k (all e) = ended_whole (fits e) ∙ sym (whole t n (rw z at q))
       go s g q k (deep d) =
-          sym (deep_ended g (filled n []) d (rw k refl)) ∙ sym (troubled t n (rw z at q))
+          deep_ended g d ∙ rw k (sym (troubled t n (rw z at q)))
       go s g q k (short d e) =
-          sym (short_ended g (filled n []) d e (rw k refl)) ∙ sym (troubled t n (rw z at q))
+          short_ended g d e ∙ rw k (sym (troubled t n (rw z at q)))
 
 -- a register's expression, written from the start of the space
-pub register_printed : (ws : List ℕ) (top i : ℕ) (r : Run) (out : List ℕ) (g : Page)
+pub register_prints : (ws : List ℕ) (top i : ℕ) (r : Run) (out out' : List ℕ) (end : Result ℕ Stop)
     → Sound first_heap_cell ws top → i < first_heap_cell → RunIs r (at ws i)
-    → g ≡ writes depth_limit (text (run (term_at ws) r.start r.size)) (blank out)
-    → ended g ≡ printed (text (meaning ws i)) (length out)
-register_printed ws top i r out g s h k w =
+    → page out' end ≡ writes depth_limit (text (run (term_at ws) r.start r.size)) (reached out 0)
+    → Prints ws top i out (as_printed end) (zeroed (as_printed end) out')
+register_prints ws top i r out out' end s h k w =
     let t = text (run (term_at ws) r.start r.size) in
-    rw (register_is ws top s i h r k) (ap ended w ∙ ended_printed t out)
-
--- refused, with the space as it was zeroed
-pub zeroed : (v : Verdict) (n : ℕ) {out : List ℕ} → out ≡ filled n []
-    → ◌≡◌ {A = Printed} (record { verdict = v; size = 0; space = out }) (unprinted v n)
-zeroed v n e = ap {B = Printed} (λ (x : List ℕ). record { verdict = v; size = 0; space = x }) e
+    let m : text (meaning ws i) ≡ t = ap text (register_is ws top s i h r k) in
+    page_ended out' end ∙ (ap ended w ∙ (ended_printed t out
+    ∙ rw (← m) (sym (print_register first_heap_cell ws top i (length out) s h))))

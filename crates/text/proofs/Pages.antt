@@ -1,7 +1,8 @@
 -- Laws of a text that is written byte by byte. In order:
 --   next_plain, next_open, next_deep      one byte, by whether it opens a bracket
 --   left_plain, left_close, left_open     how many more brackets may be open after it
---   writes_stopped, stopped_short         nothing more is written
+--   plain_same, writes_stopped            nothing more is written
+--   stopped_short                         where a text stopped
 --   writes_plain, _space, _digits         bytes that are no brackets
 --   writes_close, _open, _deep            brackets
 --   Apart                                 what is written behind a text has as many brackets to open as the text had
@@ -56,7 +57,7 @@ module _ (g : Page) (h : g.space.short ≡ true) where
   unfolding stopped
   stopped_same = rw h refl
 
-  plain_same : (b : ℕ) → plain b g ≡ g
+  pub plain_same : (b : ℕ) → plain b g ≡ g
   plain_same b = rw (put_short g.space b h) refl
 
   next_same : (left b : ℕ) → next left b g ≡ g

@@ -1,17 +1,25 @@
 -- What the term writer and the expression writer do, step by step; t has the terms of the cells. In order:
---   with_space, stop_short, stop_here                a page by its space;  the end before a bracket
---   gap_none, gap_one                                the space before a term
+--   with_space, stop_here                            a page by its space;  the end before a bracket
+--   passed_on, page_short                            the answer that `?` passes on;  nothing more is written after it
 --   symbol_written, deep_stopped, bracket_written    a term: a symbol, a bracket that is one too many, any other
+--   open_stopped, inside_stopped                     a bracket in which a text stopped
 --   unwritten, finished                              what is left of an expression where i of its terms are written,
 --                                                    and the page once it is
---   begun, one_more, left_stopped, left_none         the loop over its cells
+--   one_more, left_stopped                           the loop over its cells: one term more, and the end
+--   gap_stopped, term_stopped                        a text that stopped before a term, or in one
 --   term_filled, symbol_arm, bracket_arm             the term of a cell in a sound store, by the arms of a `match`
 --   register_within, register_is                     the cells of a register, and what it denotes
+--   register_none, register_some                     whether there is such a register
 -- Assumes nothing.
 use mathlib.Core.Path.{◌≡◌, refl, sym, ap, ◌∙◌, subst}
 use mathlib.Core.Logic.{◌≢◌}
 use mathlib.Core.Bool.{Bool, true, false, true≢false}
 use mathlib.Core.List.{List, [], ◌∷◌, ◌++◌}
+use Rattle.std.specs.Prelude.{Result, Err, Option, Some, None, MatchOption}
+use Rattle.std.specs.Option.{ok_or}
+use Rattle.std.proofs.lemmas.Option.{MatchOption-at_some}
+use Rattle.std.specs.Result.{IsErrAnd}
+use Rattle.std.proofs.lemmas.Result.{err_from_is_err_and}
 use Prim.Native.Nat.{ℕ, zero, suc, ◌+◌, ◌-◌, ◌≤◌, ◌<◌}
 use native.Mathlib.Omega.{arith}
 use Rattle.octets.specs.Decimal.{decimal}
@@ -29,10 +37,15 @@ use Rattle.store.specs.Holds.{RunIs, is_code, TermIs}
 use Rattle.store.specs.declared.Term.{Term}
 use Rattle.store.specs.declared.Term.TheVariants.{Symbol, Bracket}
 use Rattle.store.specs.declared.Run.{Run}
+use Rattle.store.specs.declared.register.Register.{Register}
 use Rattle.store.proofs.Sounds.{first_heap_cell_pos}
 use Rattle.store.proofs.Held.{symbol_is, bracket_is}
-use Rattle.text.specs.Page.{Page, plain, written, halted, stopped, between, writes, Within}
-use Rattle.text.proofs.Pages.{writes_stopped, writes_space, writes_digits, writes_deep, writes_bracket}
+use Rattle.text.specs.Page.{Page, page, plain, written, halted, stopped, between, writes, Within}
+use Rattle.text.specs.declared.NoText.{NoText}
+use Rattle.text.specs.declared.NoText.TheVariants.{NoRegister}
+use Rattle.text.specs.declared.writers.Stop.{Stop}
+use Rattle.text.specs.declared.writers.Stop.TheVariants.{ShortSpace, TooDeep}
+use Rattle.text.proofs.Pages.{plain_same, writes_stopped, writes_space, writes_digits, writes_deep, writes_bracket}
 use Rattle.text.proofs.Pages.{writes_text}
 
 -- ---- a page by its space
@@ -41,22 +54,19 @@ pub with_space : (d : Bool) {s s' : Space} → s ≡ s'
     → ◌≡◌ {A = Page} (record { space = s; deep = d }) (record { space = s'; deep = d })
 with_space d e = ap {B = Page} (λ (s : Space). record { space = s; deep = d }) e
 
-pub stop_short : (g : Page) → g.space.short ≡ true → g ≡ stopped g
-unfolding stopped
-stop_short g e = rw e refl
-
 pub stop_here : (g : Page) → g.space.short ≡ false → halted g ≡ stopped g
 unfolding stopped
 stop_here g e = rw e refl
 
--- ---- the space before a term
+-- ---- the answer that `?` passes on, and that nothing more is written after it
 
-pub gap_none : (i : ℕ) (g : Page) → i ≡ 0 → g ≡ between i g
-gap_none i g e = rw e refl
+pub passed_on : (out : List ℕ) (r : Result ℕ Stop) (stop : Stop) → IsErrAnd r (λ y. y ≡ stop)
+    → page out r ≡ page out (Err stop)
+passed_on out r stop h = let p = err_from_is_err_and r h in rw (p.1, p.2) refl
 
-pub gap_one : (i : ℕ) (g g' : Page) → i ≢ 0 → g' ≡ plain 32 g → g' ≡ between i g
-gap_one zero g g' n e = absurd (n refl)
-gap_one (suc i) g g' n e = e
+pub page_short : (out : List ℕ) (stop : Stop) → (page out (Err stop)).space.short ≡ true
+page_short out (ShortSpace place) = refl
+page_short out (TooDeep place) = refl
 
 -- ---- a term
 
@@ -75,6 +85,15 @@ module _ (left : ℕ) (x : Expr) (g : Page) where
       let s : left ≡ suc (left - 1) = omega (arith, n) in
       subst (λ (m : ℕ). g₃ ≡ writes m (text x) g) (sym s)
       (rw (e, writes_bracket (text i) [] (left - 1) g (writes_text i)) (r ∙ rw (q, p) refl))
+
+  pub open_stopped : (i : Expr) (g₁ : Page) → x ≡ parens i nothing → left ≢ 0 → g₁.space.short ≡ true → g₁ ≡ plain 40 g
+      → g₁ ≡ writes left (text x) g
+  open_stopped i g₁ e n h p =
+      bracket_written i g₁ g₁ g₁ e n p (sym (writes_stopped g₁ h (left - 1) (text i))) (sym (plain_same g₁ h 41))
+
+  pub inside_stopped : (i : Expr) (g₁ g₂ : Page) → x ≡ parens i nothing → left ≢ 0 → g₂.space.short ≡ true
+      → g₁ ≡ plain 40 g → g₂ ≡ writes (left - 1) (text i) g₁ → g₂ ≡ writes left (text x) g
+  inside_stopped i g₁ g₂ e n h p q = bracket_written i g₁ g₂ g₂ e n p q (sym (plain_same g₂ h 41))
 
 -- ---- the loop over the cells of an expression
 
@@ -98,9 +117,6 @@ module _ (left : ℕ) (t : ℕ → Expr) (l n : ℕ) where
   abbrev pub finished : ℕ → Page → Page
   finished i g = writes left (unwritten i (run t (l + i) (n - i))) g
 
-  pub begun : (g : Page) → finished 0 g ≡ writes left (text (run t l n)) g
-  begun g = let e : l + 0 ≡ l = omega arith in let f : n - 0 ≡ n = omega arith in rw (e, f) refl
-
   pub one_more : (i : ℕ) (g g₁ g₂ x : Page) → i < n → 0 < terms (t (l + i)) → g₁ ≡ between i g
       → g₂ ≡ writes left (text (t (l + i))) g₁ → finished i g ≡ x → finished (i + 1) g₂ ≡ x
   one_more i g g₁ g₂ x h s p q k =
@@ -112,12 +128,14 @@ module _ (left : ℕ) (t : ℕ → Expr) (l n : ℕ) where
   pub left_stopped : (i : ℕ) (g x : Page) → g.space.short ≡ true → finished i g ≡ x → g ≡ x
   left_stopped i g x h k = sym (writes_stopped g h left (unwritten i (run t (l + i) (n - i)))) ∙ k
 
-  pub left_none : (i : ℕ) (g x : Page) → n ≤ i → finished i g ≡ x → g ≡ x
-  left_none i g x h k = let e : n - i ≡ 0 = omega arith in go i (rw e at k)
-    where
-      go : (j : ℕ) → writes left (unwritten j nothing) g ≡ x → g ≡ x
-      go zero k = k
-      go (suc j) k = k
+  pub term_stopped : (i : ℕ) (g g₁ g₂ x : Page) → i < n → 0 < terms (t (l + i)) → g₂.space.short ≡ true
+      → g₁ ≡ between i g → g₂ ≡ writes left (text (t (l + i))) g₁ → finished i g ≡ x → g₂ ≡ x
+  term_stopped i g g₁ g₂ x h s w p q k = left_stopped (i + 1) g₂ x w (one_more i g g₁ g₂ x h s p q k)
+
+  pub gap_stopped : (i : ℕ) (g g₁ x : Page) → i < n → 0 < terms (t (l + i)) → g₁.space.short ≡ true
+      → g₁ ≡ between i g → finished i g ≡ x → g₁ ≡ x
+  gap_stopped i g g₁ x h s w p k =
+      term_stopped i g g₁ g₁ x h s w p (sym (writes_stopped g₁ w left (text (t (l + i))))) k
 
 -- ---- the cells of a sound store
 
@@ -166,3 +184,16 @@ module _ (ws : List ℕ) (top : ℕ) (s : Sound first_heap_cell ws top) where
         go (code a) = refl
         go empty = refl
         go (ends x y) = refl
+
+-- ---- whether there is such a register
+
+abbrev Answered : Option Register → ℕ → Type 0
+Answered o n = MatchOption o (first_heap_cell ≤ n) (λ r. r.cell ≡ n)
+
+pub register_none : (o : Option Register) (n : ℕ) (why : NoText) → Answered o n → Err why ≡ ok_or o NoRegister
+    → (first_heap_cell ≤ n) × (why ≡ NoRegister)
+register_none None n why h e = (h, cc)
+register_none (Some r) n why h e = absurd (cc)
+
+pub register_some : (o : Option Register) (n : ℕ) (r : Register) → Answered o n → o ≡ Some r → r.cell ≡ n
+register_some o n r h e = MatchOption-at_some (first_heap_cell ≤ n) (λ (x : Register). x.cell ≡ n) r e h

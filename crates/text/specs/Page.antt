@@ -1,32 +1,34 @@
 -- A text space that is written from left to right up to the first trouble: what the writers do, byte by byte. In order:
---   Page, page, blank         the space, and whether it stopped before a bracket that is one too many
+--   Page, reached             the space, and whether it stopped before a bracket that is one too many
 --   plain, written            a byte;  bytes that are no brackets
 --   halted, stopped           the end before such a bracket, and unless a byte before it did not fit
 --   next, writes              a byte of a text, by whether it opens a bracket;  a text
 --   between                   the space before a term
 --   ended                     what comes of a text that is written as far as it goes
+--   page                      the page that the writers leave, by their answer
+--   stopped_by, as_printed    that answer as printing's
+--   zeroed                    the bytes that are left
 --   Within                    which cells an expression may have
 -- Assumes nothing.
 use Rattle.std.specs.Prelude.{Bool, true, false, cond, List, [], ◌∷◌, ℕ, zero, suc, ◌+◌, ◌≤◌, ◌<◌, length, take}
-use Rattle.octets.specs.Space as space
-use Rattle.octets.specs.Space.{Space, put_byte, write, filled}
+use Rattle.std.specs.Prelude.{Result, Ok, Err}
+use Rattle.octets.specs.Space.{Space, up_to, put_byte, write, filled}
 use Rattle.meaning.specs.Limits.{first_heap_cell}
 use Rattle.meaning.specs.Verdicts.{only}
 use Rattle.meaning.specs.Text.{left_after, too_deep, Printed, unprinted}
-use Rattle.text.specs.declared.writers.Progress.{Progress}
+use Rattle.text.specs.declared.NoText.{NoText}
+use Rattle.text.specs.declared.NoText.TheVariants as no_text
+use Rattle.text.specs.declared.writers.Stop.{Stop}
+use Rattle.text.specs.declared.writers.Stop.TheVariants.{ShortSpace, TooDeep}
 
 -- where the text stands, and whether it stopped before a bracket that is one too many
 pub record Page : Type 0 where
   pub space : Space
   pub deep : Bool
 
--- the bytes that are lent, and how far the text has come in them
-abbrev pub page : List ℕ → Progress → Page
-page out p = record { space = record { bytes = out; place = p.place; short = p.short }; deep = p.deep }
-
--- with nothing written yet
-abbrev pub blank : List ℕ → Page
-blank out = record { space = space.blank out; deep = false }
+-- written up to a place, with every byte so far
+abbrev pub reached : List ℕ → ℕ → Page
+reached out place = record { space = up_to out place; deep = false }
 
 -- the next byte, where it fits
 abbrev pub plain : ℕ → Page → Page
@@ -36,10 +38,11 @@ plain b g = record { space = put_byte b g.space; deep = g.deep }
 abbrev pub written : List ℕ → Page → Page
 written xs g = record { space = write xs g.space; deep = g.deep }
 
--- the end before a bracket that is one too many; where a byte did not fit, that was the end
+-- the end before a bracket that is one too many
 abbrev pub halted : Page → Page
 halted g = record { space = record { bytes = g.space.bytes; place = g.space.place; short = true }; deep = true }
 
+-- the same, unless a byte before it did not fit: that was the end
 unfoldable pub stopped : Page → Page
 stopped g = cond g.space.short g (halted g)
 
@@ -64,6 +67,26 @@ ended g =
     cond g.deep (unprinted (only 21) n)
     (cond g.space.short (unprinted (only 22) n)
     (record { verdict = only 0; size = g.space.place; space = filled n (take g.space.place g.space.bytes) }))
+
+-- the page that the writers leave, by their answer
+abbrev pub page : List ℕ → Result ℕ Stop → Page
+page out (Ok place) = reached out place
+page out (Err (ShortSpace place)) = record { space = record { bytes = out; place = place; short = true }; deep = false }
+page out (Err (TooDeep place)) = halted (reached out place)
+
+-- the same as printing's answer: how far the text came, or why there is none
+abbrev pub stopped_by : Stop → NoText
+stopped_by (ShortSpace place) = no_text.ShortSpace
+stopped_by (TooDeep place) = no_text.TooDeep
+
+abbrev pub as_printed : Result ℕ Stop → Result ℕ NoText
+as_printed (Ok place) = Ok place
+as_printed (Err stop) = Err (stopped_by stop)
+
+-- the bytes with zeros behind the text, or everywhere where there is none
+abbrev pub zeroed : Result ℕ NoText → List ℕ → List ℕ
+zeroed (Ok n) out = filled (length out) (take n out)
+zeroed (Err why) out = filled (length out) []
 
 -- n cells from l on are occupied heap cells
 abbrev pub Within : ℕ → ℕ → ℕ → Type 0

@@ -4,49 +4,61 @@ use mathlib.Core.Bool.{cond}
 use mathlib.Core.List.{List}
 use Prim.Native.Nat.{ℕ}
 use lib.Dec.{ltb, eqb}
-use Rattle.meaning.specs.Verdicts.{Verdict, Done, on_zero}
+use Rattle.std.specs.Prelude.{Result, Ok, Err}
+use Rattle.meaning.specs.Verdicts.{Verdict, valued, Done, on_zero}
 use Rattle.store.proofs.Refusals.{unsound_of, unsound_of_back, refusal_by}
 use Rattle.store.specs.Answers.{refusal_of}
 use Rattle.store.specs.declared.Unsound.{Unsound}
+use Rattle.reader.specs.Readers.{fault_of}
+use Rattle.reader.specs.declared.judging.Fault.{Fault}
 use Rattle.reader.specs.declared.judging.Fault.TheVariants as fault
 use Rattle.typing.specs.Answers.{typed_in}
 use Rattle.typing.specs.Unique.{OneType}
-use Rattle.typing.specs.declared.Typed.{Typed}
-use Rattle.typing.specs.declared.Typed.TheVariants as typed
+use Rattle.typing.specs.declared.NotTyped.{NotTyped}
+use Rattle.typing.specs.declared.NotTyped.TheVariants as no
 
 -- by the status s: 0, a number of the check's, 13, 16, 20, 21 and 23
-abbrev answer_by : Verdict → ℕ → ℕ → Typed
-answer_by v t s =
-    on_zero s (typed.Done t)
-    (cond (ltb s 13) (typed.Refused (unsound_of v))
-    (cond (eqb s 13) (typed.BadText fault.NoCode v.value)
-    (cond (eqb s 16) (typed.NoRoom t)
-    (cond (eqb s 20) typed.NoRegister
-    (cond (eqb s 21) (typed.BadText fault.TooDeep v.value)
-    (cond (eqb s 24) (typed.BadText fault.TooMany v.value) (typed.BadText fault.NotText v.value)))))))
+abbrev bad_text : Fault → Verdict → Result ℕ NotTyped
+bad_text f v = Err (no.BadText (record { fault = f; offset = v.value }))
 
-abbrev answer_of : Done → Typed
+abbrev answer_by : Verdict → ℕ → ℕ → Result ℕ NotTyped
+answer_by v t s =
+    on_zero s (Ok t)
+    (cond (ltb s 13) (Err (no.Unsound (unsound_of v)))
+    (cond (eqb s 13) (bad_text fault.NoCode v)
+    (cond (eqb s 16) (Err (no.NoRoom t))
+    (cond (eqb s 20) (Err no.NoRegister)
+    (cond (eqb s 21) (bad_text fault.TooDeep v)
+    (cond (eqb s 24) (bad_text fault.TooMany v) (bad_text fault.NotText v)))))))
+
+abbrev answer_of : Done → Result ℕ NotTyped
 answer_of x = answer_by x.verdict x.top x.verdict.status
 
-refusal_back : (v : Verdict) (t : ℕ) (u : Unsound) → answer_by v t (refusal_of u).status ≡ typed.Refused (unsound_of v)
-refusal_back v t = refusal_by (answer_by v t) (typed.Refused (unsound_of v)) refl refl refl
+refusal_back : (v : Verdict) (t : ℕ) (u : Unsound)
+    → answer_by v t (refusal_of u).status ≡ Err (no.Unsound (unsound_of v))
+refusal_back v t = refusal_by (answer_by v t) (Err (no.Unsound (unsound_of v))) refl refl refl
 
-answer_back : (r : Typed) (top : ℕ) (vs : List ℕ) → answer_of (typed_in r top vs) ≡ r
-answer_back (typed.Done t) top vs = refl
-answer_back (typed.Refused u) top vs = refusal_back (refusal_of u) top u ∙ ap typed.Refused (unsound_of_back u)
-answer_back typed.NoRegister top vs = refl
-answer_back (typed.BadText fault.NoCode at) top vs = refl
-answer_back (typed.BadText fault.TooDeep at) top vs = refl
-answer_back (typed.BadText fault.TooMany at) top vs = refl
-answer_back (typed.BadText fault.NotText at) top vs = refl
-answer_back (typed.NoRoom t) top vs = refl
+fault_back : (f : Fault) (at t : ℕ)
+    → answer_by (valued (fault_of f) at) t (fault_of f) ≡ Err (no.BadText (record { fault = f; offset = at }))
+fault_back fault.NoCode at t = refl
+fault_back fault.TooDeep at t = refl
+fault_back fault.NotText at t = refl
+fault_back fault.TooMany at t = refl
 
-pub words_back : (r : Typed) (top : ℕ) (vs : List ℕ) → (typed_in r top vs).words ≡ vs
-words_back (typed.Done t) top vs = refl
-words_back (typed.Refused u) top vs = refl
-words_back typed.NoRegister top vs = refl
-words_back (typed.BadText f at) top vs = refl
-words_back (typed.NoRoom t) top vs = refl
+answer_back : (r : Result ℕ NotTyped) (top : ℕ) (vs : List ℕ) → answer_of (typed_in r top vs) ≡ r
+answer_back (Ok t) top vs = refl
+answer_back (Err (no.Unsound u)) top vs =
+    refusal_back (refusal_of u) top u ∙ ap (λ (x : Unsound). Err (no.Unsound x)) (unsound_of_back u)
+answer_back (Err no.NoRegister) top vs = refl
+answer_back (Err (no.BadText e)) top vs = fault_back e.fault e.offset top
+answer_back (Err (no.NoRoom t)) top vs = refl
+
+pub words_back : (r : Result ℕ NotTyped) (top : ℕ) (vs : List ℕ) → (typed_in r top vs).words ≡ vs
+words_back (Ok t) top vs = refl
+words_back (Err (no.Unsound u)) top vs = refl
+words_back (Err no.NoRegister) top vs = refl
+words_back (Err (no.BadText e)) top vs = refl
+words_back (Err (no.NoRoom t)) top vs = refl
 
 pub one_type : OneType
 one_type ws top d bs r r' vs vs' p q =

@@ -9,7 +9,8 @@ use mathlib.Core.Bool.{true, false, false≢true}
 use mathlib.Core.List.{List, [], ◌∷◌, ◌++◌, append_assoc}
 use Prim.Native.Nat.{ℕ, zero, suc, ◌+◌, ◌-◌, ◌≤◌, ◌<◌}
 use native.Mathlib.Omega.{arith}
-use lib.ListN.{length, drop, length-append}
+use lib.ListN.{length, length-append}
+use Rattle.std.proofs.Common.{Bor}
 use Rattle.meaning.specs.Expr.{Expr, nothing, symbol, parens, append, terms, first_term, less_first}
 use Rattle.meaning.specs.Sound.{Cell}
 use Rattle.octets.specs.Decimal.{decimal}
@@ -19,18 +20,17 @@ use Rattle.meaning.proofs.meaning.Terms.{append_append, append_nothing, terms_ap
 use Rattle.typing.specs.Cells.{LieFrom, LieBelow, Kept, Turned}
 use Rattle.typing.specs.Scanning.{goes_on}
 use Rattle.typing.specs.Laying.{Ends, Ready, LaidAs, TermLaidAs}
-use Rattle.typing.specs.declared.laying.Place.{Place}
 use Rattle.typing.proofs.Bytes.{decimal_goes_on}
 use Rattle.typing.proofs.Twos.{kept_all, kept_then, lie_append, lie_kept, wait_append, wait_kept}
 use Rattle.typing.proofs.Twos.{lie_turned}
 use Rattle.meaning.proofs.lay.Places.{own_length, deep_length, all_terms_append, after, own_append, deep_append}
 
-pub record Going (ws bs : List ℕ) (low high left : ℕ) (e : Expr) (rest vs : List ℕ) (next end wait : ℕ) : Type 0 where
+pub record Going (ws : List ℕ) (low high left : ℕ) (e : Expr) (rest vs next : List ℕ) (end wait : ℕ) : Type 0 where
   -- the terms that are laid or wait, and those to come
   pub done : Expr
   pub todo : Expr
   pub whole : e ≡ append done todo
-  pub bytes : drop next bs ≡ text todo ++ rest
+  pub bytes : next ≡ text todo ++ rest
   pub readable : Readable left todo
   -- the contents of brackets so far, and the cells that wait
   pub here : end ≡ low + length (deep_cells low done)
@@ -85,9 +85,9 @@ stops_nothing (parens i r) rest g = absurd (false≢true (sym g ∙ filled_goes_
 
 -- ---- turns
 
-pub begin : {ws bs : List ℕ} {at low high left : ℕ} {e : Expr} {rest : List ℕ} → Ready ws bs at low high left e rest
-    → Going ws bs low high left e rest ws at low high
-begin {ws} {bs} {low = low} {high = high} {e = e} r = record {
+pub begin : {ws bs : List ℕ} {low high left : ℕ} {e : Expr} {rest : List ℕ} → Ready ws bs low high left e rest
+    → Going ws low high left e rest ws bs low high
+begin {ws} {low = low} {high = high} {e = e} r = record {
   done = nothing;
   todo = e;
   whole = refl;
@@ -100,8 +100,8 @@ begin {ws} {bs} {low = low} {high = high} {e = e} r = record {
   kept = kept_all ws low high;
 }
 
-module _ {ws bs : List ℕ} {at low high left : ℕ} {e : Expr} {rest : List ℕ} (r : Ready ws bs at low high left e rest)
-    {vs : List ℕ} {next end wait : ℕ} (g : Going ws bs low high left e rest vs next end wait) where
+module _ {ws bs : List ℕ} {low high left : ℕ} {e : Expr} {rest : List ℕ} (r : Ready ws bs low high left e rest)
+    {vs next : List ℕ} {end wait : ℕ} (g : Going ws low high left e rest vs next end wait) where
   -- there is room for what is to come
   pub room : end + all_terms g.todo ≤ wait
   room =
@@ -115,7 +115,7 @@ module _ {ws bs : List ℕ} {at low high left : ℕ} {e : Expr} {rest : List ℕ
         g.there,
       )
 
-  pub ready_term : Ready vs bs next end wait left g.todo rest
+  pub ready_term : Ready vs next end wait left g.todo rest
   ready_term = record {
     bytes = g.bytes;
     over = r.over;
@@ -125,14 +125,15 @@ module _ {ws bs : List ℕ} {at low high left : ℕ} {e : Expr} {rest : List ℕ
     small = omega (arith, r.small, g.there);
   }
 
-  pub filled : goes_on (drop next bs) ≡ true → 0 < terms g.todo
+  pub filled : goes_on next ≡ true → 0 < terms g.todo
   filled h = goes_on_filled g.todo rest r.over (sym (ap goes_on g.bytes) ∙ h)
 
   pub end_low : low ≤ end
   end_low = omega (arith, g.here)
 
   -- one term more
-  module _ {us : List ℕ} {p : Place} (f : 0 < terms g.todo) (t : TermLaidAs vs bs end wait g.todo rest p us) where
+  module _ {us after-bytes : List ℕ} {after-end : ℕ} (f : 0 < terms g.todo)
+      (t : TermLaidAs vs end wait g.todo rest after-bytes after-end us) where
     abbrev x : Expr
     x = first_term g.todo
 
@@ -169,7 +170,7 @@ module _ {ws bs : List ℕ} {at low high left : ℕ} {e : Expr} {rest : List ℕ
         (λ c h k. t.kept.above c (omega (arith, g.there, own_count))) g.waits)
         (subst (λ (n : ℕ). LieBelow us n (own_cells end x)) w t.waits)
 
-    pub onward : Going ws bs low high left e rest us p.next p.end (wait - 1)
+    pub onward : Going ws low high left e rest us after-bytes after-end (wait - 1)
     onward = record {
       done = append g.done x;
       todo = less_first g.todo;
@@ -194,7 +195,7 @@ module _ {ws bs : List ℕ} {at low high left : ℕ} {e : Expr} {rest : List ℕ
     }
 
   -- the last term is done, and what waits is turned round
-  module _ {us : List ℕ} (h : goes_on (drop next bs) ≡ false) (t : Turned vs end high (high - wait) us) where
+  module _ {us : List ℕ} (h : goes_on next ≡ false) (t : Turned vs end high (high - wait) us) where
     none : g.todo ≡ nothing
     none = stops_nothing g.todo rest (sym (ap goes_on g.bytes) ∙ h)
 
@@ -216,10 +217,10 @@ module _ {ws bs : List ℕ} {at low high left : ℕ} {e : Expr} {rest : List ℕ
         (lie_kept vs us low (deep_cells low g.done) (λ c p q. t.kept.below c (omega (arith, g.here))) g.cells)
         turned
 
-    pub finish : LaidAs ws bs low high e rest
-        (record { next = next; end = end + (high - wait); terms = high - wait }) us
-    finish = record {
-      next = g.bytes ∙ ap (λ (y : Expr). text y ++ rest) none;
+    pub finish : (b : Bor (List ℕ)) → b.now ≡ next
+        → LaidAs ws low high e rest (record { rest = b; end = end + (high - wait); terms = high - wait }) us
+    finish b i = record {
+      next = i ∙ (g.bytes ∙ ap (λ (y : Expr). text y ++ rest) none);
       end = omega (arith, g.here, count, deep_length low g.done, ap all_terms all);
       count = count ∙ ap terms (sym all);
       cells = subst (λ (y : Expr). LieFrom us low (laid low y)) (sym all) cells_all;

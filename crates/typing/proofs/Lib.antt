@@ -1,7 +1,7 @@
 -- Laws that belong to no one function. In order:
 --   Twos      cells by their two words
 --   Turning   a run turned round, a pair of cells a turn
---   Bytes     the bytes of a text from some place on
+--   Bytes     the bytes of a text that are left
 --   Going     an expression laid term by term
 --   Terming   one term laid
 --   Whole     a whole text laid, by what reading finds

@@ -4,15 +4,13 @@
 --   begin, onward, finish    none has;  one pair more;  as many as the run has cells, or all there are
 -- Assumes nothing.
 use mathlib.Core.Path.{◌≡◌, refl, sym, ap, ◌∙◌}
-use mathlib.Core.Logic.{◌≢◌, ◌⊎◌, inl, inr}
+use mathlib.Core.Logic.{◌⊎◌, inl, inr}
 use mathlib.Core.List.{List}
 use Prim.Native.Nat.{ℕ, ◌+◌, ◌-◌, ◌*◌, ◌/◌, ◌≤◌, ◌<◌, min}
 use native.Mathlib.Omega.{arith}
 use native.Mathlib.Decide.{ℕ_discrete}
-use lib.ListN.{length}
 use Rattle.meaning.proofs.Lists.{lt_or_ge}
-use Rattle.typing.specs.Cells.{two, swapped, Kept, Turned}
-use Rattle.typing.proofs.Twos.{two_swapped_first, two_swapped_second, two_swapped_other, swapped_length}
+use Rattle.typing.specs.Cells.{two, Swapped, Kept, Turned}
 use Rattle.typing.proofs.Twos.{kept_all}
 
 -- where fewer pairs have changed places than the run has cells, all have but one cell in the middle
@@ -44,43 +42,28 @@ begin ws low high h = record {
 
 module _ (ws : List ℕ) (low high : ℕ) (vs : List ℕ) (i : ℕ) (k : Turning ws low high vs i) where
   -- one pair more
-  module _ (l : low + i + 1 < high - i) (r : 2 * high ≤ length ws) where
+  module _ (us : List ℕ) (l : low + i + 1 < high - i) (s : Swapped vs (low + i) (high - 1 - i) us) where
     abbrev a : ℕ
     a = low + i
 
     abbrev b : ℕ
     b = high - 1 - i
 
-    abbrev us : List ℕ
-    us = swapped vs a b
-
-    differ : a ≢ b
-    differ e = omega arith
-
-    in_a : 2 * a + 1 < length vs
-    in_a = omega (arith, k.kept.long)
-
-    in_b : 2 * b + 1 < length vs
-    in_b = omega (arith, k.kept.long)
-
-    other : (x : ℕ) → x ≢ a → x ≢ b → two us x ≡ two vs x
-    other = two_swapped_other vs a b
-
     at_a : two us a ≡ two ws b
-    at_a = two_swapped_first vs a b differ in_a in_b ∙ k.between b (omega arith) (omega arith)
+    at_a = s.first ∙ k.between b (omega arith) (omega arith)
 
     at_b : two us b ≡ two ws a
-    at_b = two_swapped_second vs a b differ in_a in_b ∙ k.between a (omega arith) (omega arith)
+    at_b = s.second ∙ k.between a (omega arith) (omega arith)
 
     down_more : (j : ℕ) → j < i + 1 → Dec (j ≡ i) → two us (low + j) ≡ two ws (high - 1 - j)
     down_more j h (yes e) = rw e at_a
     down_more j h (no n) =
-        other (low + j) (λ e. n (omega arith)) (λ e. omega (arith, n)) ∙ k.down j (omega (arith, n))
+        s.other (low + j) (λ e. n (omega arith)) (λ e. omega (arith, n)) ∙ k.down j (omega (arith, n))
 
     up_more : (j : ℕ) → j < i + 1 → Dec (j ≡ i) → two us (high - 1 - j) ≡ two ws (low + j)
     up_more j h (yes e) = rw e at_b
     up_more j h (no n) =
-        other (high - 1 - j) (λ e. omega (arith, n)) (λ e. n (omega arith)) ∙ k.up j (omega (arith, n))
+        s.other (high - 1 - j) (λ e. omega (arith, n)) (λ e. n (omega arith)) ∙ k.up j (omega (arith, n))
 
     pub onward : Turning ws low high us (i + 1)
     onward = record {
@@ -88,11 +71,11 @@ module _ (ws : List ℕ) (low high : ℕ) (vs : List ℕ) (i : ℕ) (k : Turning
       fits = omega arith;
       down = λ j h. down_more j h (ℕ_discrete j i);
       up = λ j h. up_more j h (ℕ_discrete j i);
-      between = λ c p q. other c (λ e. omega arith) (λ e. omega arith) ∙ k.between c (omega arith) (omega arith);
+      between = λ c p q. s.other c (λ e. omega arith) (λ e. omega arith) ∙ k.between c (omega arith) (omega arith);
       kept = record {
-        below = λ c h. other c (λ e. omega arith) (λ e. omega arith) ∙ k.kept.below c h;
-        above = λ c h. other c (λ e. omega arith) (λ e. omega arith) ∙ k.kept.above c h;
-        long = swapped_length vs a b ∙ k.kept.long;
+        below = λ c h. s.other c (λ e. omega arith) (λ e. omega arith) ∙ k.kept.below c h;
+        above = λ c h. s.other c (λ e. omega arith) (λ e. omega arith) ∙ k.kept.above c h;
+        long = s.long ∙ k.kept.long;
       };
     }
 

@@ -1,6 +1,6 @@
 -- Cells by their two words. In order:
 --   two_put_same, two_put_other                    a cell put, and the others
---   two_swapped_first .. swapped_length            two cells that change places
+--   swapped_words                                  two cells that change places
 --   kept_all, kept_then, kept_wide, kept_put       what is kept
 --   lie_append, lie_kept, wait_append, wait_kept   cells that lie upward, and that wait downward
 --   lie_turned                                     cells that waited, turned round
@@ -14,15 +14,16 @@ use Prim.Native.Nat.{ℕ, zero, suc, ◌+◌, ◌-◌, ◌*◌, ◌%◌, ◌≤�
 use native.Mathlib.Omega.{arith}
 use native.Mathlib.Decide.{ℕ_discrete}
 use lib.ListN.{length}
+use Rattle.std.specs.List.{SwappedAt}
 use Rattle.words.specs.Cell.{first_word, second_word, put_cell}
-use Rattle.words.proofs.Cells.{first_word_same, second_word_same, first_word_other, second_word_other, put_cell_length}
+use Rattle.words.proofs.Cells.{first_word_same, second_word_same, first_word_other, second_word_other}
 use Rattle.words.proofs.Cells.{words_ext}
 use Rattle.meaning.specs.Sound.{Cell, empty, ends, fst, snd}
 use Rattle.meaning.specs.Actions.{put}
 use Rattle.meaning.specs.Lay.{puts, last_below}
 use Rattle.meaning.proofs.Lists.{lt_or_ge}
 use Rattle.meaning.proofs.actions.Writing.{length_put}
-use Rattle.typing.specs.Cells.{Two, two, two_of, LieFrom, LieBelow, Kept, swapped}
+use Rattle.typing.specs.Cells.{Two, two, two_of, LieFrom, LieBelow, Kept, Swapped}
 
 abbrev pair : ℕ → ℕ → Two
 pair a b = record { first = a; second = b }
@@ -47,33 +48,25 @@ module _ (ws : List ℕ) (c : ℕ) (x : Cell) where
   unfolding put
   two_put_other y n = two_put_cell_other ws c (fst x) (snd x) y n
 
--- ---- two cells change places
+-- ---- two cells change places, a word at a time
 
-module _ (ws : List ℕ) (i j : ℕ) (n : i ≢ j) (hi : 2 * i + 1 < length ws) (hj : 2 * j + 1 < length ws) where
-  pub two_swapped_first : two (swapped ws i j) i ≡ two ws j
-  unfolding swapped two
-  two_swapped_first =
-      two_put_cell_other (put_cell ws i (first_word ws j) (second_word ws j)) j (first_word ws i) (second_word ws i) i n
-      ∙ two_put_cell_same ws i (first_word ws j) (second_word ws j) hi
-
-  pub two_swapped_second : two (swapped ws i j) j ≡ two ws i
-  unfolding swapped two
-  two_swapped_second =
-      two_put_cell_same (put_cell ws i (first_word ws j) (second_word ws j)) j (first_word ws i) (second_word ws i)
-      (omega (arith, put_cell_length ws i (first_word ws j) (second_word ws j)))
-
-module _ (ws : List ℕ) (i j : ℕ) where
-  pub two_swapped_other : (x : ℕ) → x ≢ i → x ≢ j → two (swapped ws i j) x ≡ two ws x
-  unfolding swapped
-  two_swapped_other x n m =
-      two_put_cell_other (put_cell ws i (first_word ws j) (second_word ws j)) j (first_word ws i) (second_word ws i) x m
-      ∙ two_put_cell_other ws i (first_word ws j) (second_word ws j) x n
-
-  pub swapped_length : length (swapped ws i j) ≡ length ws
-  unfolding swapped
-  swapped_length =
-      put_cell_length (put_cell ws i (first_word ws j) (second_word ws j)) j (first_word ws i) (second_word ws i)
-      ∙ put_cell_length ws i (first_word ws j) (second_word ws j)
+pub swapped_words : (ws vs us : List ℕ) (i j : ℕ) → SwappedAt ws vs (2 * i) (2 * j)
+    → SwappedAt vs us (2 * i + 1) (2 * j + 1) → length vs ≡ length ws → length us ≡ length vs → Swapped ws i j us
+unfolding two
+swapped_words ws vs us i j h k l m = record {
+  first = ap₂ pair
+      (k.2 (2 * i) 0 (λ e. omega arith) (λ e. omega arith) ∙ h.0 0)
+      (k.0 0 ∙ h.2 (2 * j + 1) 0 (λ e. omega arith) (λ e. omega arith));
+  second = ap₂ pair
+      (k.2 (2 * j) 0 (λ e. omega arith) (λ e. omega arith) ∙ h.1 0)
+      (k.1 0 ∙ h.2 (2 * i + 1) 0 (λ e. omega arith) (λ e. omega arith));
+  other = λ c n o. ap₂ pair
+      (k.2 (2 * c) 0 (λ e. omega arith) (λ e. omega arith)
+      ∙ h.2 (2 * c) 0 (λ e. n (omega arith)) (λ e. o (omega arith)))
+      (k.2 (2 * c + 1) 0 (λ e. n (omega arith)) (λ e. o (omega arith))
+      ∙ h.2 (2 * c + 1) 0 (λ e. omega arith) (λ e. omega arith));
+  long = m ∙ l;
+}
 
 -- ---- what is kept
 

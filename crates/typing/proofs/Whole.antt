@@ -1,8 +1,8 @@
 -- A whole text laid, and a text typed in by what the code finds. In order:
 --   text_ready, can_lay              a whole text may be laid where there is room for its terms
 --   text_long, text_small, text_laid what laying it leaves
---   found_whole, found_bad           what reading finds
 --   whole_text, type_whole, type_bad a text that is found whole, or refused
+--   register_none, register_some     whether there is such a register
 -- Assumes nothing.
 use mathlib.Core.Path.{◌≡◌, refl, sym, ap, ◌∙◌, subst}
 use mathlib.Core.Bool.{true, false}
@@ -10,6 +10,9 @@ use mathlib.Core.List.{List, [], append-nil}
 use Prim.Native.Nat.{ℕ, ◌+◌, ◌≤◌}
 use native.Mathlib.Omega.{arith}
 use lib.ListN.{length}
+use Rattle.std.specs.Prelude.{Err, Option, Some, None, MatchOption}
+use Rattle.std.specs.Option.{ok_or}
+use Rattle.std.proofs.lemmas.Option.{MatchOption-at_some}
 use Rattle.meaning.specs.Limits.{first_heap_cell, limit, depth_limit}
 use Rattle.meaning.specs.Expr.{Expr}
 use Rattle.meaning.specs.Verdicts.{Verdict, done, refused}
@@ -21,11 +24,8 @@ use Rattle.meaning.specs.Lay.{last_below, laid, puts, new_cells}
 use Rattle.meaning.specs.Typed.{typed_of}
 use Rattle.meaning.proofs.lay.Places.{laid_length, deep_length}
 use Rattle.meaning.proofs.reader.Forth.{text_of_read, reads_place}
+use Rattle.store.specs.declared.register.Register.{Register}
 use Rattle.build.specs.Room.{Roomy}
-use Rattle.reader.specs.Readers.{refused_at, Finds}
-use Rattle.reader.specs.declared.judging.Fault.{Fault}
-use Rattle.reader.specs.declared.Found.{Found}
-use Rattle.reader.specs.declared.Found.TheVariants.{Whole, Bad}
 use Rattle.typing.specs.Cells.{Kept}
 use Rattle.typing.specs.Laying.{Ready, LaidAs, IsLaid, CanLay, expr_of, IsText}
 use Rattle.typing.specs.declared.laying.Laid.{Laid}
@@ -37,7 +37,7 @@ module _ {ws bs : List ℕ} {top n : ℕ} (y : Roomy n ws top) (t : IsText bs n)
   abbrev e : Expr
   e = expr_of bs
 
-  pub text_ready : Ready ws bs 0 top (top + n) depth_limit e []
+  pub text_ready : Ready ws bs top (top + n) depth_limit e []
   text_ready = record {
     bytes = sym (append-nil (text e) ∙ t.bytes);
     over = tt;
@@ -47,11 +47,11 @@ module _ {ws bs : List ℕ} {top n : ℕ} (y : Roomy n ws top) (t : IsText bs n)
     small = omega (arith, y.1, y.0.allowed.small);
   }
 
-  pub can_lay : CanLay ws bs 0 top (top + n) depth_limit
+  pub can_lay : CanLay ws bs top (top + n) depth_limit
   can_lay = (e, [], text_ready)
 
-  module _ {vs : List ℕ} {l : Laid} (k : IsLaid ws bs 0 top (top + n) depth_limit l vs) where
-    m : LaidAs ws bs top (top + n) e [] l vs
+  module _ {vs : List ℕ} {l : Laid} (k : IsLaid ws bs top (top + n) depth_limit l vs) where
+    m : LaidAs ws top (top + n) e [] l vs
     m = k e [] text_ready
 
     pub text_long : length vs ≡ length ws
@@ -74,14 +74,6 @@ module _ {ws bs : List ℕ} {top n : ℕ} (y : Roomy n ws top) (t : IsText bs n)
     text_laid d p = rw (p, text_words, m.end, m.count) refl
 
 -- ---- what reading finds
-
--- the arms of a `match` on it
-module _ (r : Reader) (found : Found) (q : Finds r found) where
-  pub found_whole : {n : ℕ} → found ≡ Whole n → (is_whole r ≡ true) × (r.total ≡ n)
-  found_whole e = rw e at q
-
-  pub found_bad : {f : Fault} {at : ℕ} → found ≡ Bad f at → (is_whole r ≡ false) × (stop_verdict r ≡ refused_at f at)
-  found_bad e = rw e at q
 
 module _ (bs : List ℕ) where
   abbrev r : Reader
@@ -112,3 +104,15 @@ module _ (bs : List ℕ) where
         → refused ws top v ≡ typed_of first_heap_cell ws top d (reads blank bs)
     unfolding typed_of
     type_bad v w q = rw (ap is_whole place ∙ w, place, q) refl
+
+-- ---- the register
+
+pub register_none : {E : Type 0} (o : Option Register) (n : ℕ) (why none : E)
+    → MatchOption o (first_heap_cell ≤ n) (λ (r : Register). r.cell ≡ n) → Err why ≡ ok_or o none
+    → (first_heap_cell ≤ n) × (why ≡ none)
+register_none None n why none h e = (h, cc)
+register_none (Some r) n why none h e = absurd cc
+
+pub register_some : (o : Option Register) (n : ℕ) (r : Register)
+    → MatchOption o (first_heap_cell ≤ n) (λ (x : Register). x.cell ≡ n) → o ≡ Some r → r.cell ≡ n
+register_some o n r h e = MatchOption-at_some (first_heap_cell ≤ n) (λ (x : Register). x.cell ≡ n) r e h

@@ -1,6 +1,6 @@
 -- Cells by their two words: what is kept, what lies where, and a run turned round. Assumes nothing.
-use Rattle.std.specs.Prelude.{◌≡◌, List, [], ◌∷◌, ℕ, suc, ◌+◌, ◌-◌, ◌≤◌, ◌<◌, length}
-use Rattle.words.specs.Cell.{first_word, second_word, put_cell}
+use Rattle.std.specs.Prelude.{◌≡◌, ◌≢◌, List, [], ◌∷◌, ℕ, suc, ◌+◌, ◌-◌, ◌≤◌, ◌<◌, length}
+use Rattle.words.specs.Cell.{first_word, second_word}
 use Rattle.meaning.specs.Sound.{Cell, fst, snd}
 
 -- the two words of a cell of a store, and of a cell by what it is
@@ -30,8 +30,11 @@ pub record Kept (ws : List ℕ) (low high : ℕ) (ws' : List ℕ) : Type 0 where
   pub long : length ws' ≡ length ws
 
 -- cells i and j change places
-unfoldable pub swapped : List ℕ → ℕ → ℕ → List ℕ
-swapped ws i j = put_cell (put_cell ws i (first_word ws j) (second_word ws j)) j (first_word ws i) (second_word ws i)
+pub record Swapped (ws : List ℕ) (i j : ℕ) (ws' : List ℕ) : Type 0 where
+  pub first : two ws' i ≡ two ws j
+  pub second : two ws' j ≡ two ws i
+  pub other : (c : ℕ) → c ≢ i → c ≢ j → two ws' c ≡ two ws c
+  pub long : length ws' ≡ length ws
 
 -- the n cells from `low` on are those that were below `high`, the highest first
 pub record Turned (ws : List ℕ) (low high n : ℕ) (ws' : List ℕ) : Type 0 where

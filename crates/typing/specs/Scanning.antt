@@ -1,5 +1,5 @@
--- The bytes of a text from some place on. Assumes nothing.
-use Rattle.std.specs.Prelude.{Bool, false, cond, not, List, [], ◌∷◌, ℕ, eqb}
+-- The bytes of a text that are left. Assumes nothing.
+use Rattle.std.specs.Prelude.{◌≢◌, Bool, false, cond, not, List, [], ◌∷◌, ℕ, eqb}
 use Rattle.meaning.specs.Judge.{is_digit, with_digit}
 
 -- there is a byte, and it is no closing bracket
@@ -12,9 +12,10 @@ abbrev pub less_space : List ℕ → List ℕ
 less_space [] = []
 less_space (b ∷ bs) = cond (eqb b 32) bs (b ∷ bs)
 
-abbrev pub digit_next : List ℕ → Bool
-digit_next [] = false
-digit_next (b ∷ bs) = is_digit b
+-- no opening bracket comes next
+abbrev pub NoBracket : List ℕ → Type 0
+NoBracket [] = Unit {0}
+NoBracket (b ∷ bs) = b ≢ 40
 
 -- the code whose digits come next, after a; and what follows them
 abbrev pub code_at : ℕ → List ℕ → ℕ

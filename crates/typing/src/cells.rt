@@ -1,27 +1,19 @@
 // Cells of a store turned round in place, and a bracket around the last of them.
-ghost use Rattle.std.specs.Prelude.{◌≡◌, ◌+◌, ◌*◌, ◌≤◌, ◌<◌, min, length};
+ghost use Rattle.std.specs.Prelude.{◌≡◌, ◌+◌, ◌*◌, ◌≤◌, ◌<◌, length};
 ghost use Rattle.meaning.specs.Limits.{limit};
 ghost use Rattle.meaning.specs.Lay.{last_below};
 ghost use Rattle.meaning.specs.Actions.{put};
-ghost use Rattle.typing.specs.Cells.{swapped, Turned};
+ghost use Rattle.typing.specs.Cells.{Swapped, Turned};
 
-use build::cells::{copy_cell, put_empty, put_ends};
+use build::cells::{put_empty, put_ends};
 
 // Cells i and j change places.
 fn swap_cells(ws: &mut [u32], i: usize, j: usize)
     requires { (2 * i + 1 < length ws.old) × (2 * j + 1 < length ws.old) }
-    ensures { ws.new ≡ swapped ws.old i j }
+    ensures { Swapped ws.old i j ws.new }
 {
-    let first = words::first_word(ws, i);
-    let second = words::second_word(ws, i);
-    copy_cell(ws, i, j);
-    words::put_cell(ws, j, first, second);
-}
-
-fn smaller(a: usize, b: usize) -> usize
-    ensures { result ≡ min a b }
-{
-    if a < b { a } else { b }
+    ws.swap(2 * i, 2 * j);
+    ws.swap(2 * i + 1, 2 * j + 1);
 }
 
 // The n cells below `high` come to lie from `low` on, the highest first. Where the two runs overlap, all cells from
@@ -30,11 +22,8 @@ pub fn turn(ws: &mut [u32], low: usize, high: usize, n: usize)
     requires { (low + n ≤ high) × (2 * high ≤ length ws.old) }
     ensures { Turned ws.old low high n ws.new }
 {
-    let swaps = smaller(n, (high - low) / 2);
-    let mut i: usize = 0;
-    while i < swaps {
+    for i in 0..n.min((high - low) / 2) {
         swap_cells(ws, low + i, high - 1 - i);
-        i += 1;
     }
 }
 

@@ -8,68 +8,60 @@
 ghost use Rattle.typing.specs.Laying.{CanLay, CanLayTerm, IsLaid, TermIsLaid};
 
 use crate::cells::{put_last, turn};
-use crate::scanning::{goes_on, number, past_space};
+use crate::scanning::{goes_on, number, opened, past_bracket, past_space};
 use build::cells::put_symbol;
 
-// The byte after an expression's text, the cell after its cells, and the number of its own terms, which are the last of
-// those cells.
+// What is left behind an expression's text, the cell after its cells, and the number of its own terms, which are the
+// last of those cells.
 #[derive(Clone, Copy)]
-pub struct Laid {
-    pub next: usize,
+pub struct Laid<'a> {
+    pub rest: &'a [u8],
     pub end: usize,
     pub terms: usize,
 }
 
-// The expression whose text begins at byte `at`.
+// The expression whose text comes next.
 #[cycle(lay_lay_term)]
-pub fn lay(ws: &mut [u32], text: &[u8], at: usize, low: usize, high: usize, left: usize) -> Laid
-    requires { CanLay ws.old text.now at low high left }
-    ensures { IsLaid ws.old text.now at low high left result ws.new }
+pub fn lay<'a>(ws: &mut [u32], text: &'a [u8], low: usize, high: usize, left: usize) -> Laid<'a>
+    requires { CanLay ws.old text.now low high left }
+    ensures { IsLaid ws.old text.now low high left result ws.new }
 {
-    let mut next = at;
+    let mut rest = text;
     let mut end = low;
     let mut wait = high;
-    while goes_on(text, next) {
-        let place = lay_term(ws, text, next, end, wait, left);
-        next = place.next;
-        end = place.end;
+    while goes_on(rest) {
+        (rest, end) = lay_term(ws, rest, end, wait, left);
         wait -= 1;
     }
     let terms = high - wait;
     turn(ws, end, high, terms);
     Laid {
-        next,
+        rest,
         end: end + terms,
         terms,
     }
 }
 
-// The byte where the next term begins, or the expression ends; and the cell after those that are laid.
-#[derive(Clone, Copy)]
-pub struct Place {
-    pub next: usize,
-    pub end: usize,
-}
-
-// The term whose text begins at byte `at`: the contents of a bracket are laid, and the term's own cell waits.
+// The term whose text comes next: the contents of a bracket are laid, and the term's own cell waits. What is left where
+// the next term begins or the expression ends, and the cell after those that are laid.
 #[cycle(lay_lay_term)]
-fn lay_term(ws: &mut [u32], text: &[u8], at: usize, low: usize, high: usize, left: usize) -> Place
-    requires { CanLayTerm ws.old text.now at low high left }
-    ensures { TermIsLaid ws.old text.now at low high left result ws.new }
+fn lay_term<'a>(
+    ws: &mut [u32],
+    text: &'a [u8],
+    low: usize,
+    high: usize,
+    left: usize,
+) -> (&'a [u8], usize)
+    requires { CanLayTerm ws.old text.now low high left }
+    ensures { TermIsLaid ws.old text.now low high left result.0.now result.1 ws.new }
 {
     let own = high - 1;
-    if text[at] == b'(' {
-        let inner = lay(ws, text, at + 1, low, own, left - 1);
+    if let Some(within) = opened(text) {
+        let inner = lay(ws, within, low, own, left - 1);
         put_last(ws, own, inner.end, inner.terms);
-        return Place {
-            next: past_space(text, inner.next + 1),
-            end: inner.end,
-        };
+        return (past_bracket(inner.rest), inner.end);
     }
-    let n = number(text, at);
-    put_symbol(ws, own, n.code);
-    Place {
-        next: past_space(text, n.next),
-        end: low,
-    }
+    let (code, rest) = number(text);
+    put_symbol(ws, own, code);
+    (past_space(rest), low)
 }

@@ -1,58 +1,58 @@
-// The bytes of a text that has been read whole: what stands at a place of it, and where the next term stands.
-ghost use Rattle.std.specs.Prelude.{◌≡◌, ◌<◌, ◌^◌, drop};
-ghost use Rattle.typing.specs.Scanning.{goes_on, less_space, digit_next, code_at, less_digits};
+// The bytes of a text that has been read whole, as far as they are left: what comes next, and what is left behind it.
+ghost use Rattle.std.specs.Prelude.{◌≡◌, ◌∷◌, ◌<◌, ◌^◌, drop, MatchOption};
+ghost use Rattle.typing.specs.Scanning.{goes_on, less_space, NoBracket, code_at, less_digits};
 
-use reader::judging::{is_digit, with_digit};
+use reader::codes::{Code, with_digit};
 
-// Whether a term stands at byte `at`, and not a closing bracket or the end of the text.
-pub fn goes_on(text: &[u8], at: usize) -> bool
-    ensures { result ≡ goes_on (drop at text.now) }
+// Whether a term comes next, and not a closing bracket or the end of the text.
+pub fn goes_on(text: &[u8]) -> bool
+    ensures { result ≡ goes_on text.now }
 {
-    if at < text.len() {
-        return text[at] != b')';
-    }
-    false
+    matches!(text, [b, ..] if *b != b')')
 }
 
-// The byte after a space, if one stands at byte `at`.
-pub fn past_space(text: &[u8], at: usize) -> usize
-    ensures { drop result text.now ≡ less_space (drop at text.now) }
+// What follows a space, if one comes next.
+pub fn past_space(text: &[u8]) -> &[u8]
+    ensures { result.now ≡ less_space text.now }
 {
-    if at < text.len() {
-        if text[at] == b' ' {
-            return at + 1;
+    match text {
+        [b' ', rest @ ..] => rest,
+        _ => text,
+    }
+}
+
+// What follows an opening bracket, if one comes next.
+pub fn opened(text: &[u8]) -> Option<&[u8]>
+    ensures { MatchOption result (NoBracket text.now) (λ within. text.now ≡ 40 ∷ within.now) }
+{
+    match text {
+        [b'(', within @ ..] => Some(within),
+        _ => None,
+    }
+}
+
+// What follows the byte that comes next, which closes a bracket, and a space behind it.
+pub fn past_bracket(text: &[u8]) -> &[u8]
+    ensures { result.now ≡ less_space (drop 1 text.now) }
+{
+    match text {
+        [_, rest @ ..] => past_space(rest),
+        [] => text,
+    }
+}
+
+// The code whose digits come next, and what follows them.
+pub fn number(text: &[u8]) -> (u32, &[u8])
+    requires { code_at 0 text.now < 2 ^ 28 }
+    ensures code { result.0 ≡ code_at 0 text.now }
+    ensures rest { result.1.now ≡ less_digits text.now }
+{
+    let mut code = 0;
+    for (i, b) in text.iter().enumerate() {
+        if !b.is_ascii_digit() {
+            return (code, &text[i..]);
         }
+        code = with_digit(Code { value: code }, *b);
     }
-    at
-}
-
-// Whether a digit stands at byte `at`.
-fn digit_next(text: &[u8], at: usize) -> bool
-    ensures { result ≡ digit_next (drop at text.now) }
-{
-    if at < text.len() {
-        return is_digit(text[at]);
-    }
-    false
-}
-
-// A code, and the byte after its last digit.
-#[derive(Clone, Copy)]
-pub struct Scanned {
-    pub code: u32,
-    pub next: usize,
-}
-
-pub fn number(text: &[u8], at: usize) -> Scanned
-    requires { code_at 0 (drop at text.now) < 2 ^ 28 }
-    ensures { (result.code ≡ code_at 0 (drop at text.now))
-        × (drop result.next text.now ≡ less_digits (drop at text.now)) }
-{
-    let mut code: u32 = 0;
-    let mut next = at;
-    while digit_next(text, next) {
-        code = with_digit(code, text[next]);
-        next += 1;
-    }
-    Scanned { code, next }
+    (code, &text[text.len()..])
 }

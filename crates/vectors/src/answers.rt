@@ -1,105 +1,122 @@
 // SCOPE's numbers for the answers (5.1), in code: status, value, rule and `top`. Each function promises those of the
 // definition that gives them.
 ghost use Rattle.std.specs.Prelude.{◌≡◌};
+ghost use Rattle.meaning.specs.Verdicts.{only};
 ghost use Rattle.store.specs.Answers.{refusal_of, verdict_of};
+ghost use Rattle.store.specs.declared.Unsound.TheVariants as unsound;
+ghost use Rattle.calls.specs.Answers.{not_run_of};
 ghost use Rattle.vectors.specs.Answers.{verdict_is, IsMade, IsRan};
 
-use calls::Ran;
-use store::{Checked, Made, Unsound};
+use calls::NotRun;
+use std::fmt;
+use store::{BadLength, Unsound};
 
-// A status, the value that goes with it, the rule of a damaged cell, and `top` afterwards.
+// A status, the value that goes with it, and the rule of a damaged cell, 0 where there is none.
+#[derive(Clone, Copy)]
+pub struct Verdict {
+    pub status: u32,
+    pub value: usize,
+    pub rule: u32,
+}
+
+// A verdict, and `top` afterwards.
 #[derive(Clone, Copy)]
 pub struct Answer {
-    pub status: u64,
-    pub value: u64,
-    pub rule: u64,
+    pub verdict: Verdict,
     pub top: usize,
 }
 
-// Why a store is refused. `top` comes back as it came.
-fn refused(why: Unsound, top: usize) -> Answer
-    ensures { (verdict_is result ≡ refusal_of why) × (result.top ≡ top) }
-{
-    match why {
-        Unsound::BadLength => Answer {
-            status: 1,
-            value: 0,
-            rule: 0,
-            top,
-        },
-        Unsound::BadTop => Answer {
-            status: 2,
-            value: 0,
-            rule: 0,
-            top,
-        },
-        Unsound::Damaged(cell, rule) => Answer {
-            status: 3,
-            value: cell as u64,
-            rule: rule as u64,
-            top,
-        },
+impl fmt::Display for Verdict {
+    fn fmt<W: fmt::Write>(&self, f: &mut fmt::Formatter<W>) -> fmt::Result {
+        write!(f, "{} {} {}", self.status, self.value, self.rule)
     }
 }
 
-// The check. `top` comes back as it came.
-pub fn checked(found: Checked, top: usize) -> Answer
-    ensures { (verdict_is result ≡ verdict_of found) × (result.top ≡ top) }
+impl fmt::Display for Answer {
+    fn fmt<W: fmt::Write>(&self, f: &mut fmt::Formatter<W>) -> fmt::Result {
+        let Verdict { status, value, .. } = self.verdict;
+        write!(f, "{status} {value} top {}", self.top)
+    }
+}
+
+impl Verdict {
+    fn only(status: u32) -> Verdict
+        ensures { verdict_is result ≡ only status }
+    {
+        Verdict {
+            status,
+            value: 0,
+            rule: 0,
+        }
+    }
+}
+
+// Why a store is refused.
+impl From<Unsound> for Verdict {
+    ghost from_gives = { λ why v. verdict_is v ≡ refusal_of why };
+
+    fn from(why: Unsound) -> Verdict {
+        match why {
+            Unsound::BadLength => Verdict::only(1),
+            Unsound::BadTop => Verdict::only(2),
+            Unsound::Damaged(cell, rule) => Verdict {
+                status: 3,
+                value: cell,
+                rule: rule.into(),
+            },
+        }
+    }
+}
+
+// The check.
+pub fn checked(found: Result<(), Unsound>) -> Verdict
+    ensures { verdict_is result ≡ verdict_of found }
 {
     match found {
-        Checked::Sound => Answer {
-            status: 0,
-            value: 0,
-            rule: 0,
-            top,
-        },
-        Checked::Refused(why) => refused(why, top),
+        Ok(()) => Verdict::only(0),
+        Err(why) => why.into(),
     }
 }
 
-// A fresh store.
-pub fn made(m: Made) -> Answer
-    ensures { IsMade result m }
-{
-    match m {
-        Made::Ready(top) => Answer {
-            status: 0,
-            value: 0,
-            rule: 0,
-            top,
-        },
-        Made::BadLength => Answer {
-            status: 1,
-            value: 0,
-            rule: 0,
-            top: 0,
-        },
+impl From<BadLength> for Verdict {
+    ghost from_gives = { λ why v. verdict_is v ≡ refusal_of unsound.BadLength };
+
+    fn from(_: BadLength) -> Verdict {
+        Unsound::BadLength.into()
     }
+}
+
+// Why a batch is refused.
+impl From<NotRun> for Verdict {
+    ghost from_gives = { λ why v. verdict_is v ≡ not_run_of why };
+
+    fn from(why: NotRun) -> Verdict {
+        match why {
+            NotRun::Unsound(why) => why.into(),
+            NotRun::BadCalls => Verdict::only(4),
+            NotRun::ShortAnswers => Verdict::only(5),
+        }
+    }
+}
+
+// A fresh store. Where there is none, `top` is 0.
+pub fn made(fresh: Result<usize, BadLength>) -> Answer
+    ensures { IsMade result fresh }
+{
+    let (verdict, top) = match fresh {
+        Ok(top) => (Verdict::only(0), top),
+        Err(why) => (why.into(), 0),
+    };
+    Answer { verdict, top }
 }
 
 // A batch that was handed `top`.
-pub fn ran(b: Ran, top: usize) -> Answer
-    ensures { IsRan result b top }
+pub fn ran(batch: Result<usize, NotRun>, top: usize) -> Answer
+    ensures { IsRan result batch top }
 {
-    match b {
-        Ran::Ended(last) => Answer {
-            status: 0,
-            value: 0,
-            rule: 0,
-            top: last,
-        },
-        Ran::Refused(why) => refused(why, top),
-        Ran::BadCalls => Answer {
-            status: 4,
-            value: 0,
-            rule: 0,
-            top,
-        },
-        Ran::ShortAnswers => Answer {
-            status: 5,
-            value: 0,
-            rule: 0,
-            top,
-        },
-    }
+    let (verdict, top) = match batch {
+        Ok(last) => (Verdict::only(0), last),
+        Err(why) => (why.into(), top),
+    };
+    Answer { verdict, top }
 }

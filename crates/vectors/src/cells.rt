@@ -1,89 +1,78 @@
 // The rules of one cell, in a store that has three symbols on its heap and one free cell.
-use crate::{SMALL, show};
+use crate::{FIRST, SMALL, answers};
 use meaning::{CODE_LIMIT, FIRST_HEAP_CELL, LEAST_CODE};
+use std::io;
+use words::EMPTY;
 
-const FIRST: u32 = FIRST_HEAP_CELL as u32;
+const TOP: usize = FIRST_HEAP_CELL + 3;
 
-const EMPTY: u32 = words::EMPTY;
+// The last heap cell, the first free one, and the last register.
+const LAST: usize = TOP - 1;
+
+const FREE: usize = TOP;
+
+const REGISTER: usize = FIRST_HEAP_CELL - 1;
 
 // The two words of a cell of the slice; nothing where it has no such cell.
 pub fn put(ws: &mut [u32], cell: usize, a: u32, b: u32) {
     if cell < ws.len() / 2 {
-        ws[2 * cell] = a;
-        ws[2 * cell + 1] = b;
+        words::put_cell(ws, cell, a, b);
     }
 }
 
-fn put_symbol(ws: &mut [u32], c: usize, top: usize) {
-    if c < top {
-        put(ws, c, 65, 0);
-    }
-}
-
-// A symbol in each heap cell of a small store that is below `top`.
+// A symbol in each heap cell of the slice that is below `top`.
 pub fn fill(ws: &mut [u32], top: usize) {
-    put_symbol(ws, FIRST_HEAP_CELL, top);
-    put_symbol(ws, FIRST_HEAP_CELL + 1, top);
-    put_symbol(ws, FIRST_HEAP_CELL + 2, top);
-    put_symbol(ws, FIRST_HEAP_CELL + 3, top);
+    for cell in FIRST_HEAP_CELL..top.min(ws.len() / 2) {
+        words::put_cell(ws, cell, 65, 0);
+    }
 }
 
-fn row(cell: usize, a: u32, b: u32) {
+fn row(rt: &HostRuntime, cell: usize, a: u32, b: u32) -> io::Result<()> {
     let mut ws = [0u32; 2 * SMALL];
-    store::fresh(&mut ws);
-    fill(&mut ws, FIRST_HEAP_CELL + 3);
+    let _ = store::fresh(&mut ws);
+    fill(&mut ws, TOP);
     put(&mut ws, cell, a, b);
-    show::named(b"cell", cell as u64);
-    show::number(a as u64);
-    show::number(b as u64);
-    show::check(b": check", &ws, FIRST_HEAP_CELL + 3);
+    let found = answers::checked(store::check(&ws, TOP));
+    println!(rt; "cell {cell} {a} {b}: check {found}")
 }
 
-// The last heap cell as a bracket: P6, and each end one too far.
-fn brackets() {
-    row(FIRST_HEAP_CELL + 2, FIRST, EMPTY + FIRST + 1);
-    row(FIRST_HEAP_CELL + 2, FIRST, EMPTY + FIRST + 2);
-    row(FIRST_HEAP_CELL + 2, FIRST + 1, EMPTY + FIRST);
-    row(FIRST_HEAP_CELL + 2, FIRST + 1, EMPTY + FIRST + 1);
-    row(FIRST_HEAP_CELL + 2, FIRST - 1, EMPTY + FIRST + 1);
-}
+// A cell, and the words that are put there.
+const ROWS: [(usize, u32, u32); 26] = [
+    // the last heap cell as a bracket: P6, and each end one too far
+    (LAST, FIRST, EMPTY + FIRST + 1),
+    (LAST, FIRST, EMPTY + FIRST + 2),
+    (LAST, FIRST + 1, EMPTY + FIRST),
+    (LAST, FIRST + 1, EMPTY + FIRST + 1),
+    (LAST, FIRST - 1, EMPTY + FIRST + 1),
+    // empty, and nearly; then with used, the left or the right chain
+    (LAST, 0, EMPTY),
+    (LAST, 1, EMPTY),
+    (LAST, FIRST, EMPTY + (1 << 30) + FIRST),
+    (LAST, FIRST, EMPTY + (1 << 29) + FIRST),
+    (LAST, FIRST, EMPTY + (1 << 28) + FIRST),
+    // the last heap cell as a symbol, and the first free cell
+    (LAST, CODE_LIMIT, 0),
+    (LAST, CODE_LIMIT + 1, 0),
+    (LAST, LEAST_CODE, 0),
+    (LAST, LEAST_CODE - 1, 0),
+    (LAST, 0, 1),
+    (FREE, 1, 0),
+    (FREE, 0, 1),
+    (FREE, 0, EMPTY),
+    (FREE, 0, 1 << 28),
+    // the first register and the last; a used bit goes before what else is wrong
+    (0, 0, 0),
+    (0, 65, 0),
+    (0, 65, 1 << 30),
+    (0, 0, EMPTY),
+    (REGISTER, FIRST, EMPTY + FIRST + 2),
+    (REGISTER, FIRST, EMPTY + FIRST + 3),
+    (REGISTER, FIRST, EMPTY),
+];
 
-// Empty, and nearly; then with used, the left or the right chain.
-fn flags() {
-    row(FIRST_HEAP_CELL + 2, 0, EMPTY);
-    row(FIRST_HEAP_CELL + 2, 1, EMPTY);
-    row(FIRST_HEAP_CELL + 2, FIRST, EMPTY + 1073741824 + FIRST);
-    row(FIRST_HEAP_CELL + 2, FIRST, EMPTY + 536870912 + FIRST);
-    row(FIRST_HEAP_CELL + 2, FIRST, EMPTY + 268435456 + FIRST);
-}
-
-// The last heap cell as a symbol, and the first free cell.
-fn symbols() {
-    row(FIRST_HEAP_CELL + 2, CODE_LIMIT, 0);
-    row(FIRST_HEAP_CELL + 2, CODE_LIMIT + 1, 0);
-    row(FIRST_HEAP_CELL + 2, LEAST_CODE, 0);
-    row(FIRST_HEAP_CELL + 2, LEAST_CODE - 1, 0);
-    row(FIRST_HEAP_CELL + 2, 0, 1);
-    row(FIRST_HEAP_CELL + 3, 1, 0);
-    row(FIRST_HEAP_CELL + 3, 0, 1);
-    row(FIRST_HEAP_CELL + 3, 0, EMPTY);
-    row(FIRST_HEAP_CELL + 3, 0, 268435456);
-}
-
-// The first register and the last; a used bit goes before what else is wrong.
-fn registers() {
-    row(0, 0, 0);
-    row(0, 65, 0);
-    row(0, 65, 1073741824);
-    row(0, 0, EMPTY);
-    row(FIRST_HEAP_CELL - 1, FIRST, EMPTY + FIRST + 2);
-    row(FIRST_HEAP_CELL - 1, FIRST, EMPTY + FIRST + 3);
-    row(FIRST_HEAP_CELL - 1, FIRST, EMPTY);
-}
-
-pub fn rows() {
-    brackets();
-    flags();
-    symbols();
-    registers();
+pub fn rows(rt: &HostRuntime) -> io::Result<()> {
+    for (cell, a, b) in ROWS {
+        row(rt, cell, a, b)?;
+    }
+    Ok(())
 }

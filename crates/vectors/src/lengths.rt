@@ -1,50 +1,57 @@
 // Store lengths, a fresh store in each, and `top`.
-use crate::{SMALL, answers, cells, show};
+use crate::{SMALL, answers, cells};
 use meaning::{FIRST_HEAP_CELL, LIMIT};
+use std::io;
 
-const WORDS: usize = 2 * LIMIT + 2;
-
-// A fresh store, and the check of what it leaves.
-fn fresh_row(ws: &mut [u32]) {
-    show::named(b"length", ws.len() as u64);
-    let made = answers::made(store::fresh(ws));
-    show::named(b": fresh", made.status);
-    show::named(b" top", made.top as u64);
-    show::check(b", check", ws, FIRST_HEAP_CELL);
-}
-
-fn length_row(n: usize) {
-    let mut buffer = [0u32; WORDS];
-    if n <= WORDS {
-        fresh_row(&mut buffer[..n]);
-    }
+// A fresh store in so many words, and the check of what it leaves.
+fn length_row(rt: &HostRuntime, length: usize) -> io::Result<()> {
+    let mut ws = vec![in rt.alloc(); 0u32; length]?;
+    let made = answers::made(store::fresh(ws.as_mut_slice()));
+    let found = answers::checked(store::check(ws.as_slice(), FIRST_HEAP_CELL));
+    let status = made.verdict.status;
+    let top = made.top;
+    println!(rt; "length {length}: fresh {status} top {top}, check {found}")
 }
 
 // A store of symbols up to `top`, and zeros from there on.
-fn top_row(top: usize) {
+fn top_row(rt: &HostRuntime, top: usize) -> io::Result<()> {
     let mut ws = [0u32; 2 * SMALL];
-    store::fresh(&mut ws);
+    let _ = store::fresh(&mut ws);
     cells::fill(&mut ws, top);
-    show::named(b"top", top as u64);
-    show::named(b" of", SMALL as u64);
-    show::check(b": check", &ws, top);
+    let found = answers::checked(store::check(&ws, top));
+    println!(rt; "top {top} of {SMALL}: check {found}")
 }
 
-pub fn lengths() {
-    length_row(0);
-    length_row(2 * FIRST_HEAP_CELL - 2);
-    length_row(2 * FIRST_HEAP_CELL);
-    length_row(2 * FIRST_HEAP_CELL + 1);
-    length_row(2 * LIMIT);
-    length_row(2 * LIMIT + 1);
-    length_row(2 * LIMIT + 2);
+fn lengths(rt: &HostRuntime) -> io::Result<()> {
+    for length in [
+        0,
+        2 * FIRST_HEAP_CELL - 2,
+        2 * FIRST_HEAP_CELL,
+        2 * FIRST_HEAP_CELL + 1,
+        2 * LIMIT,
+        2 * LIMIT + 1,
+        2 * LIMIT + 2,
+    ] {
+        length_row(rt, length)?;
+    }
+    Ok(())
 }
 
-pub fn tops() {
-    top_row(0);
-    top_row(FIRST_HEAP_CELL - 1);
-    top_row(FIRST_HEAP_CELL);
-    top_row(SMALL);
-    top_row(SMALL + 1);
-    top_row(18446744073709551615);
+fn tops(rt: &HostRuntime) -> io::Result<()> {
+    for top in [
+        0,
+        FIRST_HEAP_CELL - 1,
+        FIRST_HEAP_CELL,
+        SMALL,
+        SMALL + 1,
+        usize::MAX,
+    ] {
+        top_row(rt, top)?;
+    }
+    Ok(())
+}
+
+pub fn rows(rt: &HostRuntime) -> io::Result<()> {
+    lengths(rt)?;
+    tops(rt)
 }

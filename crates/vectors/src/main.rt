@@ -11,22 +11,30 @@ mod batches;
 mod cells;
 mod inputs;
 mod lengths;
-mod numbers;
 mod show;
 mod stores;
 mod tables;
 
-// The cells of a small store: its heap has four.
-const SMALL: usize = meaning::FIRST_HEAP_CELL + 4;
+use meaning::FIRST_HEAP_CELL;
+use std::io;
 
-fn main() {
-    lengths::lengths();
-    lengths::tops();
-    cells::rows();
-    batches::lists();
-    batches::operands();
-    batches::terms();
-    batches::room();
-    stores::rows();
-    inputs::rows();
+// The cells of a small store: its heap has four.
+const SMALL: usize = FIRST_HEAP_CELL + 4;
+
+// The first heap cell and a small store's capacity as words.
+const FIRST: u32 = FIRST_HEAP_CELL as u32;
+
+const CAPACITY: u32 = SMALL as u32;
+
+fn rows(rt: &HostRuntime) -> io::Result<()> {
+    lengths::rows(rt)?;
+    cells::rows(rt)?;
+    batches::rows(rt)?;
+    stores::rows(rt)?;
+    inputs::rows(rt)
+}
+
+// A row that cannot be written is lost, and so is each one after it. The program ends with 0 all the same.
+fn main(rt: HostRuntime) {
+    let _ = rows(&rt);
 }

@@ -1,49 +1,15 @@
-// Text and numbers on standard output. A row shows several things; each is one call here, since what a check takes
-// grows faster than the calls of a function.
-use crate::answers;
-use crate::answers::Answer;
+// Words as a row shows them.
+use std::fmt;
 
-// The number of standard output.
-const STDOUT: i32 = 1;
+// Each word, and a space before it.
+#[derive(Clone, Copy)]
+pub struct Words<'a>(pub &'a [u32]);
 
-pub fn text(s: &[u8]) {
-    io::write_all(STDOUT, s);
-}
-
-// A space and a number.
-pub fn number(n: u64) {
-    io::write_all(STDOUT, b" ");
-    io::print_decimal(STDOUT, n);
-}
-
-// A name and a number.
-pub fn named(name: &[u8], n: u64) {
-    text(name);
-    number(n);
-}
-
-pub fn end() {
-    io::write_all(STDOUT, b"\n");
-}
-
-pub fn words(ws: &[u32]) {
-    let mut i: usize = 0;
-    while i < ws.len() {
-        number(ws[i] as u64);
-        i += 1;
+impl fmt::Display for Words<'_> {
+    fn fmt<W: fmt::Write>(&self, f: &mut fmt::Formatter<W>) -> fmt::Result {
+        for word in self.0 {
+            write!(f, " {word}")?;
+        }
+        Ok(())
     }
-}
-
-// A name with a status and a value.
-pub fn verdict(name: &[u8], a: Answer) {
-    named(name, a.status);
-    number(a.value);
-}
-
-// What the check finds, with the rule of a damaged cell, to the end of a row.
-pub fn check(name: &[u8], ws: &[u32], top: usize) {
-    let found = answers::checked(store::check(ws, top), top);
-    verdict(name, found);
-    number(found.rule);
-    end();
 }

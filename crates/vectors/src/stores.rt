@@ -1,101 +1,90 @@
 // Stores that no batch makes: P2 and P3, looks, and stores that are refused.
 use crate::batches::batch;
-use crate::{cells, show};
+use crate::show::Words;
+use crate::{FIRST, cells};
 use meaning::FIRST_HEAP_CELL;
-
-const FIRST: u32 = FIRST_HEAP_CELL as u32;
-
-const EMPTY: u32 = words::EMPTY;
+use std::io;
+use words::EMPTY;
 
 // P2's heap has seven cells; one is free.
 const CELLS: usize = FIRST_HEAP_CELL + 8;
 
-// P2's symbols, with a dead one below them.
-fn lay_symbols(ws: &mut [u32]) {
-    cells::put(ws, FIRST_HEAP_CELL, 70, 0);
-    cells::put(ws, FIRST_HEAP_CELL + 1, 65, 0);
-    cells::put(ws, FIRST_HEAP_CELL + 2, 66, 0);
-    cells::put(ws, FIRST_HEAP_CELL + 3, 67, 0);
-    cells::put(ws, FIRST_HEAP_CELL + 4, 68, 0);
+const TOP: usize = CELLS - 1;
+
+// P2: register 0, the symbols, with a dead one below them, and the brackets.
+const P2: [(usize, u32, u32); 8] = [
+    (0, FIRST + 5, EMPTY + FIRST + 6),
+    (FIRST_HEAP_CELL, 70, 0),
+    (FIRST_HEAP_CELL + 1, 65, 0),
+    (FIRST_HEAP_CELL + 2, 66, 0),
+    (FIRST_HEAP_CELL + 3, 67, 0),
+    (FIRST_HEAP_CELL + 4, 68, 0),
+    (FIRST_HEAP_CELL + 5, FIRST + 2, EMPTY + FIRST + 4),
+    (FIRST_HEAP_CELL + 6, FIRST + 1, EMPTY + FIRST + 3),
+];
+
+fn lay(ws: &mut [u32]) {
+    for (cell, a, b) in P2 {
+        cells::put(ws, cell, a, b);
+    }
 }
 
-// And its brackets.
-fn lay_brackets(ws: &mut [u32]) {
-    cells::put(ws, FIRST_HEAP_CELL + 5, FIRST + 2, EMPTY + FIRST + 4);
-    cells::put(ws, FIRST_HEAP_CELL + 6, FIRST + 1, EMPTY + FIRST + 3);
-    cells::put(ws, 0, FIRST + 5, EMPTY + FIRST + 6);
-}
-
-fn look(ws: &[u32], top: usize, register: usize) {
-    show::named(b"look at", register as u64);
-    show::text(b":");
-    show::words(store::look(ws, top, register));
-    show::end();
+fn look(rt: &HostRuntime, ws: &[u32], top: usize, register: usize) -> io::Result<()> {
+    let found = Words(store::look(ws, top, register));
+    println!(rt; "look at {register}:{found}")
 }
 
 // One call on the store as it stands, with an answer word more than it takes, each 7 before.
-fn call(name: &[u8], ws: &mut [u32], top: usize, words: &[u32]) -> usize {
-    let mut space = [7u32; 3];
-    batch(name, ws, top, words, &mut space)
+fn call(
+    rt: &HostRuntime,
+    name: &str,
+    ws: &mut [u32],
+    top: usize,
+    words: &[u32; 4],
+) -> io::Result<usize> {
+    batch(rt, name, ws, top, words, &mut [7; 3])
 }
 
 // COLLECT, and a look at register 0.
-fn collect(name: &[u8], ws: &mut [u32], top: usize) -> usize {
-    let words = [11, 0, 0, 0];
-    let last = call(name, ws, top, &words);
-    look(ws, last, 0);
-    last
+fn collect(rt: &HostRuntime, name: &str, ws: &mut [u32], top: usize) -> io::Result<usize> {
+    let last = call(rt, name, ws, top, &[11, 0, 0, 0])?;
+    look(rt, ws, last, 0)?;
+    Ok(last)
 }
 
 // P2, collected and collected again.
-fn collects(ws: &mut [u32]) -> usize {
-    look(ws, FIRST_HEAP_CELL + 7, 0);
-    let top = collect(b"P2", ws, FIRST_HEAP_CELL + 7);
-    look(ws, top, 1);
-    collect(b"P3", ws, top)
+fn collects(rt: &HostRuntime, ws: &mut [u32]) -> io::Result<usize> {
+    look(rt, ws, TOP, 0)?;
+    let top = collect(rt, "P2", ws, TOP)?;
+    look(rt, ws, top, 1)?;
+    collect(rt, "P3", ws, top)
 }
 
 // The last register, none, and the words.
-fn looks(ws: &[u32], top: usize) {
-    look(ws, top, FIRST_HEAP_CELL - 1);
-    look(ws, top, FIRST_HEAP_CELL);
-    look(ws, top, 18446744073709551615);
-    show::text(b"words:");
-    show::words(ws);
-    show::end();
-}
-
-fn last_register(ws: &mut [u32], top: usize) {
-    let words = [1, FIRST - 1, 0, 0];
-    call(b"the last register", ws, top, &words);
-    looks(ws, top);
-}
-
-fn clear(ws: &mut [u32], top: usize) {
-    let words = [0, 0, 0, 0];
-    call(b"CLEAR 0", ws, top, &words);
+fn looks(rt: &HostRuntime, ws: &[u32], top: usize) -> io::Result<()> {
+    for register in [FIRST_HEAP_CELL - 1, FIRST_HEAP_CELL, usize::MAX] {
+        look(rt, ws, top, register)?;
+    }
+    let all = Words(ws);
+    println!(rt; "words:{all}")
 }
 
 // A free cell in use, which the look and the batch refuse; then a `top` that is too small, too large, and the largest.
-fn refused(ws: &mut [u32], top: usize) {
-    cells::put(ws, FIRST_HEAP_CELL + 7, 1, 0);
-    look(ws, top, 0);
-    clear(ws, top);
-    clear(ws, FIRST_HEAP_CELL - 1);
-    clear(ws, CELLS + 1);
-    clear(ws, 18446744073709551615);
+fn refused(rt: &HostRuntime, ws: &mut [u32], last: usize) -> io::Result<()> {
+    cells::put(ws, TOP, 1, 0);
+    look(rt, ws, last, 0)?;
+    for top in [last, FIRST_HEAP_CELL - 1, CELLS + 1, usize::MAX] {
+        call(rt, "CLEAR 0", ws, top, &[0; 4])?;
+    }
+    Ok(())
 }
 
-fn row(ws: &mut [u32]) {
-    lay_symbols(ws);
-    lay_brackets(ws);
-    let top = collects(ws);
-    last_register(ws, top);
-    refused(ws, top);
-}
-
-pub fn rows() {
+pub fn rows(rt: &HostRuntime) -> io::Result<()> {
     let mut ws = [0u32; 2 * CELLS];
-    store::fresh(&mut ws);
-    row(&mut ws);
+    let _ = store::fresh(&mut ws);
+    lay(&mut ws);
+    let top = collects(rt, &mut ws)?;
+    call(rt, "the last register", &mut ws, top, &[1, FIRST - 1, 0, 0])?;
+    looks(rt, &ws, top)?;
+    refused(rt, &mut ws, top)
 }

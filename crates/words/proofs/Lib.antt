@@ -4,4 +4,3 @@ pub mod Masks
 pub mod Plain
 pub mod Cells
 mod Fields
-mod Zeroing

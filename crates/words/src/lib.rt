@@ -1,6 +1,6 @@
 // A cell's two words. This is the only crate that knows which bit says what: the second word is taken apart and put
-// together here, by masks and shifts, and the cells of a lent slice are read, written and zeroed here. The mark, bit
-// 30, is never set: it is 0 between calls, and the collector needs none.
+// together here, by masks and shifts, and the cells of a lent slice are read and written here. The mark, bit 30, is
+// never set: it is 0 between calls, and the collector needs none.
 #![tactic(auto)]
 
 ghost use Rattle.std.specs.Prelude.{◌≡◌, true, false, ◌++◌, ◌+◌, ◌-◌, ◌*◌, ◌≤◌, ◌<◌, ◌^◌, length, take, replicate};
@@ -39,6 +39,7 @@ pub fn is_stray(w: u32) -> bool
     (w & USED != 0) | (w & LEFT_CHAIN != 0) | (w & RIGHT_CHAIN != 0)
 }
 
+#[tactic(auto, unfolding(crate::specs::Second::decode))]
 pub fn right_end(w: u32) -> u32
     ensures { result ≡ (decode w).ri }
 {
@@ -121,9 +122,5 @@ pub fn zero_from(ws: &mut [u32], from: usize)
     ensures { ws.new
         ≡ take from ws.old ++ replicate (length ws.old - from) 0 }
 {
-    let mut i = from;
-    while i < ws.len() {
-        ws[i] = 0;
-        i += 1;
-    }
+    ws[from..].fill(0);
 }

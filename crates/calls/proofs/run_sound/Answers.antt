@@ -16,8 +16,8 @@ returns-then-answers-used c =
     sym (short_answers_lem first_heap_cell c.args.ws.now c.args.top c.args.calls.now c.args.answers.now
     (sym c.calls_ok.ensures ∙ c.if-not-calls_ok.false) c.if-answers-used.true)
 
-pub run_calls-end-requires : goal.run_calls-end-requires
-run_calls-end-requires c = (
+pub run_calls-requires : goal.run_calls-requires
+run_calls-requires c = (
   c.requires,
   (calls_yes _ (sym c.calls_ok.ensures ∙ c.if-not-calls_ok.false)).whole,
   c.if-answers-used.false,
@@ -26,6 +26,6 @@ run_calls-end-requires c = (
 pub returns : goal.returns
 returns c =
     sym (filled c.args.ws.now c.args.top c.args.calls.now c.args.answers.now
-    c.run_calls-end.new.answers (sym c.calls_ok.ensures ∙ c.if-not-calls_ok.false)
+    c.run_calls.new.answers (sym c.calls_ok.ensures ∙ c.if-not-calls_ok.false)
     c.if-answers-used.false
-    c.run_calls-end.ensures (search rules) c.zero_from.ensures)
+    c.run_calls.ensures (search rules) c.zero_from.ensures)

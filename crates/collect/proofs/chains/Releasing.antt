@@ -164,7 +164,6 @@ module _ {s₀ : List ℕ} {m w to low₀ : ℕ} where
       pub record Taken : Type 0 where
         pub m_in : 2 * m + 1 < length s
         pub k_in : 2 * a + 1 < length s
-        pub k_small : a < 2 ^ 28
         pub apart : a ≢ m
         pub small : to < 2 ^ 28
         pub short : first_word s a ≤ to
@@ -187,7 +186,6 @@ module _ {s₀ : List ℕ} {m w to low₀ : ℕ} where
           record {
             m_in = omega (arith, m_room g t, o.same);
             k_in = omega (arith, f.room, low-k, n.is, o.same);
-            k_small = omega (arith, f.room, f.len, limit_fits, low-k, n.is);
             apart = far;
             small = omega (arith, t.goes, place_up g p m t.live, f.room, f.len, limit_fits);
             short = omega (arith, t.goes, sp.0, num);

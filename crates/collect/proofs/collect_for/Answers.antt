@@ -5,7 +5,7 @@ use native.Mathlib.Omega.{arith}
 use Rattle.meaning.specs.Limits.{first_heap_cell}
 use Rattle.meaning.specs.Collected.{collected_top}
 use Rattle.meaning.proofs.sound.Cells.{limit_fits}
-use Rattle.collect.proofs.Wanted.{low_top, too_few, enough, at_once}
+use Rattle.collect.proofs.Wanted.{low_top, at_once}
 use Rattle.collect.proofs.collect_for.Goals as goal
 use Rattle.collect.proofs.collect_for.Goals.{After-live-low}
 
@@ -34,21 +34,3 @@ pub overflow_sub-top : goal.overflow_sub-top
 overflow_sub-top c =
     let l = low_is (goal.at.overflow_sub-top c).After-live-low in
     omega (arith, l, low_top c.args.ws.now c.args.top c.args.wanted c.requires)
-
-pub returns-then-top-low : goal.returns-then-top-low
-returns-then-top-low c = (
-  too_few c.args.ws.now c.args.top c.args.wanted c.requires _ c.if-top-low.true
-      c.live-low.ensures.0,
-  low_is (goal.at.returns-then-top-low c).After-live-low,
-)
-
-pub collect_sound-requires-2 : goal.collect_sound-requires-2
-collect_sound-requires-2 c = rw c.live-low.ensures.0 c.requires
-
-pub returns : goal.returns
-returns c =
-    let g = rw c.live-low.ensures.0 at c.collect_sound-2.ensures in (
-      enough c.args.ws.now c.args.top c.args.wanted c.requires _
-          (omega (arith, g.1, low_is (goal.at.returns c).After-live-low, c.if-top-low.false)) g.0,
-      g.1,
-    )

@@ -4,7 +4,7 @@
 --   down_dead   the loop after an unreached cell;  down_room  what fits;  down_pred  the cell above the next
 -- Assumes nothing.
 use mathlib.Core.Path.{◌≡◌, refl, sym, ◌∙◌, ap, subst}
-use mathlib.Core.Bool.{Bool, true, false, cond}
+use mathlib.Core.Bool.{true, false, cond}
 use mathlib.Core.List.{List}
 use Prim.Native.Nat.{ℕ, suc, ◌+◌, ◌-◌, ◌*◌, ◌^◌, ◌≤◌, ◌<◌}
 use native.Mathlib.Omega.{arith}
@@ -36,14 +36,14 @@ unfolding mended
 mended_late g j b p e = ltb-true (pos g (g.ri b)) j (rw (lt-leb j (pos g b) p) at e)
 
 -- the registers have had their turn
-pub record Registered (g : Heap) (s : List ℕ) (top : ℕ) (packs : Bool) : Type 0 where
+pub record Registered (g : Heap) (s : List ℕ) (top : ℕ) (lifts : ℕ → ℕ → Type 0) : Type 0 where
   pub phase : Sweeping g s g.F
   pub ends : g.T ≡ top
-  pub mode : g.packs ≡ packs
+  pub up : (dead d : ℕ) → lifts dead d → d ≡ cond g.packs dead 0
 
-pub registered : {s s₁ : List ℕ} {top : ℕ} {packs : Bool} → HoldsRegisters s s₁ → (g : Heap) → Begun g s top packs
-    → Registered g s₁ top packs
-registered h g b = record { phase = h g b.phase; ends = b.ends; mode = b.mode }
+pub registered : {s s₁ : List ℕ} {top : ℕ} {lifts : ℕ → ℕ → Type 0} → HoldsRegisters s s₁ → (g : Heap)
+    → Begun g s top lifts → Registered g s₁ top lifts
+registered h g b = record { phase = h g b.phase; ends = b.ends; up = b.up }
 
 -- the heap cells from c up have had their turn, none below is known, and `dead` of them are unreached
 pub record Down (g : Heap) (s : List ℕ) (dead c : ℕ) : Type 0 where
@@ -53,12 +53,12 @@ pub record Down (g : Heap) (s : List ℕ) (dead c : ℕ) : Type 0 where
   pub known : Known g (turns g c) (turns g c) c c
   pub gone : dead + c + g.new g.T ≡ g.T + g.new c
 
-pub record Descending (s₁ : List ℕ) (top : ℕ) (packs : Bool) (s : List ℕ) (dead c : ℕ) : Type 0 where
+pub record Descending (s₁ : List ℕ) (top : ℕ) (lifts : ℕ → ℕ → Type 0) (s : List ℕ) (dead c : ℕ) : Type 0 where
   pub same : length s ≡ length s₁
-  pub at : (g : Heap) → Registered g s₁ top packs → Down g s dead c
+  pub at : (g : Heap) → Registered g s₁ top lifts → Down g s dead c
 
-module _ {s₁ : List ℕ} {top : ℕ} {packs : Bool} where
-  pub down_start : Descending s₁ top packs s₁ 0 top
+module _ {s₁ : List ℕ} {top : ℕ} {lifts : ℕ → ℕ → Type 0} where
+  pub down_start : Descending s₁ top lifts s₁ 0 top
   down_start = record {
     same = refl;
     at = λ g t.
@@ -84,8 +84,8 @@ module _ {s₁ : List ℕ} {top : ℕ} {packs : Bool} where
           let k = pos_heap g (g.ri b) (omega arith) e.2 in
           omega (arith, mended_late g g.F b q z)
 
-  pub down_end : {s : List ℕ} {dead c : ℕ} → Descending s₁ top packs s dead c → c ≤ first_heap_cell
-      → {s₀ : List ℕ} → HoldsRegisters s₀ s₁ → Sweeps s₀ s top packs dead
+  pub down_end : {s : List ℕ} {dead c : ℕ} → Descending s₁ top lifts s dead c → c ≤ first_heap_cell
+      → {s₀ : List ℕ} → HoldsRegisters s₀ s₁ → Sweeps s₀ s top lifts dead
   down_end {s} {dead} {c} r le h g b =
       let d = r.at g (registered h g b) in
       let p = b.phase.frame.proper in
@@ -96,13 +96,13 @@ module _ {s₁ : List ℕ} {top : ℕ} {packs : Bool} where
       )
 
   -- the loop's cell as the one above the next
-  pub down_pred : {s : List ℕ} {dead c : ℕ} → first_heap_cell < c → Descending s₁ top packs s dead c
-      → Descending s₁ top packs s dead (suc (c - 1))
+  pub down_pred : {s : List ℕ} {dead c : ℕ} → first_heap_cell < c → Descending s₁ top lifts s dead c
+      → Descending s₁ top lifts s dead (suc (c - 1))
   down_pred {s} {dead} {c} lt r =
-      subst (λ (x : ℕ). Descending s₁ top packs s dead x) (let e : c ≡ suc (c - 1) = omega arith in e) r
+      subst (λ (x : ℕ). Descending s₁ top lifts s dead x) (let e : c ≡ suc (c - 1) = omega arith in e) r
 
-  module _ {s : List ℕ} {dead c : ℕ} (r : Descending s₁ top packs s dead (suc c)) (lt : first_heap_cell < suc c) where
-    module _ (g : Heap) (t : Registered g s₁ top packs) where
+  module _ {s : List ℕ} {dead c : ℕ} (r : Descending s₁ top lifts s dead (suc c)) (lt : first_heap_cell < suc c) where
+    module _ (g : Heap) (t : Registered g s₁ top lifts) where
       abbrev k : Down g s dead (suc c)
       k = r.at g t
 
@@ -133,18 +133,18 @@ module _ {s₁ : List ℕ} {top : ℕ} {packs : Bool} where
       alive : {v : ℕ} → v ≡ second_word s c → (decode v).lc ≡ true → g.live c ≡ true
       alive e q = is_live g p c (suc c) (cell s) undone (sym (chain_is g c phase e) ∙ q)
 
-      head : {v d : ℕ} → v ≡ second_word s c → (decode v).lc ≡ true → d ≡ cond packs dead 0 → Head g s c v d
-      head e q l = record {
+      head : {v d : ℕ} → v ≡ second_word s c → (decode v).lc ≡ true → lifts dead d → Head g s c v d
+      head {d = d} e q l = record {
         phase = phase;
         low = heap_c.0;
         high = heap_c.1;
         chain = q;
         word = e;
-        goes = place_lift g p c dead (alive e q) k.gone ∙ rw (t.mode, l) refl;
+        goes = place_lift g p c dead (alive e q) k.gone ∙ sym (ap (λ (x : ℕ). c + x) (t.up dead d l));
         known = known;
       }
 
-    pub down_room : (g : Heap) → Registered g s₁ top packs → (2 * c + 1 < length s) × (dead ≤ 2 ^ 28)
+    pub down_room : (g : Heap) → Registered g s₁ top lifts → (2 * c + 1 < length s) × (dead ≤ 2 ^ 28)
     down_room g t =
         let f = (phase g t).frame in
         let n = new_bound g f.proper (suc c) (omega (arith, heap_c g t)) (k g t).high in (
@@ -153,12 +153,12 @@ module _ {s₁ : List ℕ} {top : ℕ} {packs : Bool} where
         )
 
     module _ {v : ℕ} (e : v ≡ second_word s c) where
-      pub down_head : (g : Heap) → Registered g s₁ top packs → (decode v).lc ≡ true → {d : ℕ} → d ≡ cond packs dead 0
+      pub down_head : (g : Heap) → Registered g s₁ top lifts → (decode v).lc ≡ true → {d : ℕ} → lifts dead d
           → AtHead s c v d
       down_head g t q l = (g, head g t e q l)
 
-      pub down_known : (decode v).lc ≡ true → {d : ℕ} → d ≡ cond packs dead 0 → {s' : List ℕ} {c' : ℕ}
-          → length s' ≡ length s → Passes s s' c v d c' → Descending s₁ top packs s' dead c'
+      pub down_known : (decode v).lc ≡ true → {d : ℕ} → lifts dead d → {s' : List ℕ} {c' : ℕ}
+          → length s' ≡ length s → Passes s s' c v d c' → Descending s₁ top lifts s' dead c'
       down_known q l {s'} {c'} len w = record {
         same = len ∙ r.same;
         at = λ g t.
@@ -177,11 +177,11 @@ module _ {s₁ : List ℕ} {top : ℕ} {packs : Bool} where
             };
       }
 
-      pub down_less : (g : Heap) → Registered g s₁ top packs → (decode v).lc ≡ true → {d : ℕ} → d ≡ cond packs dead 0
+      pub down_less : (g : Heap) → Registered g s₁ top lifts → (decode v).lc ≡ true → {d : ℕ} → lifts dead d
           → {s' : List ℕ} {c' : ℕ} → Passes s s' c v d c' → c' ≤ c
       down_less g t q l w = (w g (head g t e q l)).high
 
-      pub down_dead : (decode v).lc ≡ false → Descending s₁ top packs s (dead + 1) c
+      pub down_dead : (decode v).lc ≡ false → Descending s₁ top lifts s (dead + 1) c
       down_dead q = record {
         same = r.same;
         at = λ g t.

@@ -1,6 +1,6 @@
 -- The loop over the cells that become known, one after the other. In order:
 --   chain_is    the chain flag of the cell whose turn it is;  known_none  what is known of none
---   run_turn    the first turn;  run_within  what it leaves;  run_start  the loop there;  run_end  the loop left
+--   run_turn    the first turn;  run_within  what it leaves;  run_end  the loop left
 --   run_next    the next turn;   run_again  the loop after it
 --   run_place, run_room  what fits;  run_pred  the loop's cell as the one above the next
 -- Assumes nothing.
@@ -119,9 +119,6 @@ module _ {s₀ : List ℕ} {c₀ w d : ℕ} where
 -- ---- the next turn
 
 module _ {s₁ : List ℕ} {c₀ d low₁ : ℕ} where
-  pub run_start : Running s₁ c₀ d low₁ s₁ low₁ c₀
-  run_start = record { same = refl; at = λ g h. h }
-
   -- the loop's cell as the one above the next
   pub run_pred : {s : List ℕ} {low c : ℕ} → low < c → Running s₁ c₀ d low₁ s low c
       → Running s₁ c₀ d low₁ s low (suc (c - 1))

@@ -1,18 +1,17 @@
--- A cell put down in its turn: what `stand` leaves, what it is asked for, and the phase after it; a reached cell's
--- turn; the loop over the registers. In order:
---   stood_held, stood_laid            what `stand` leaves: the cell linked, if it has contents, else as it is
+-- A cell put down in its turn: what `stand` is asked for, and the phase after it; a reached cell's turn; the loop over
+-- the registers. In order:
 --   frame_on                          the frame of a phase holds for any words as long
 --   can_stand, has_stood              in a cell's turn: what `stand` is asked for, and the phase after it
 --   turn_small                        a reached cell's new address fits 28 bits
 --   turn_stands, turn_over            a reached cell's turn, its chain undone: it may stand, and the phase after it
---   Registers                         r registers are done;  registers_start  none is;  registers_end  all are
---   registers_room, registers_stand   the next one lies within the words, and may stand;  registers_again  it has
+--   Registers                         r registers are done;  registers_end  all are
+--   registers_stand                   the next one may stand;  registers_again  it has
 -- Assumes nothing.
 use mathlib.Core.Path.{◌≡◌, refl, sym, ◌∙◌, ap, subst}
 use mathlib.Core.Logic.{◌≢◌}
-use mathlib.Core.Bool.{Bool, true, false, cond, ◌&&◌, ◌||◌, true≢false, false≢true}
+use mathlib.Core.Bool.{Bool, true, false, cond, ◌&&◌, ◌||◌}
 use mathlib.Core.List.{List}
-use Prim.Native.Nat.{ℕ, zero, suc, ◌+◌, ◌*◌, ◌^◌, ◌≤◌, ◌<◌}
+use Prim.Native.Nat.{ℕ, zero, suc, ◌+◌, ◌^◌, ◌≤◌, ◌<◌}
 use native.Mathlib.Omega.{arith}
 use native.Mathlib.Decide.{dec_lt}
 use lib.Dec.{ltb, eqb}
@@ -27,7 +26,7 @@ use Rattle.collect.specs.Heap.{Heap, holder, Proper, pos, turn, place}
 use Rattle.collect.specs.Chain.{last, sweep_cell, old_cell, SweptTo}
 use Rattle.collect.specs.Step.{Linked, Laid}
 use Rattle.collect.specs.Phases.{Frame, Sweeping, Turn}
-use Rattle.collect.specs.Passes.{Linkable, Links, Standable, Stood, MyTurn, Releases, Turned, Untouched}
+use Rattle.collect.specs.Passes.{Linkable, Standable, Stood, MyTurn, Releases, Turned, Untouched}
 use Rattle.collect.specs.Passes.{HoldsRegisters}
 use Rattle.collect.proofs.heap.Order.{pos_reg, holder_full, holder_live, pos_holder, ri_other}
 use Rattle.collect.proofs.heap.Places.{place_own, place_up}
@@ -35,18 +34,6 @@ use Rattle.collect.proofs.heap.Spots.{later_l, spot_ahead}
 use Rattle.collect.proofs.turn.Turning.{own, turn_held, turn_laid, known_on}
 use Rattle.collect.proofs.turn.Telling.{reg_undone}
 use Rattle.collect.proofs.Puts.{cell_put, cell_put_other}
-
--- ---- what `stand` leaves
-
-module _ {s : List ℕ} {m a w : ℕ} where
-  pub stood_held : {s' : List ℕ} → full_word w ≡ true → Links s s' m a w → Stood s s' m a w
-  stood_held f k = record { held = λ e. k; laid = λ e. absurd (true≢false (sym f ∙ e)) }
-
-  pub stood_laid : {s' : List ℕ} → full_word w ≡ false → Standable s m a w → s' ≡ put_cell s m a w → Stood s s' m a w
-  stood_laid f o e = record {
-    held = λ t. absurd (false≢true (sym f ∙ t));
-    laid = λ t. rw e (record { at = cell_put s m a w o.m_in; rest = λ c n. cell_put_other s m a w c n });
-  }
 
 -- ---- a turn
 
@@ -206,17 +193,11 @@ pub record Registers (s₀ s : List ℕ) (r : ℕ) : Type 0 where
   pub same : length s ≡ length s₀
   pub at : (g : Heap) → Sweeping g s₀ 0 → Sweeping g s r
 
-pub registers_start : {s₀ : List ℕ} → Registers s₀ s₀ 0
-registers_start = record { hi = omega arith; same = refl; at = λ g t. t }
-
 pub registers_end : {s₀ s : List ℕ} {r : ℕ} → Registers s₀ s r → first_heap_cell ≤ r → HoldsRegisters s₀ s
 registers_end {s = s} {r = r} w le g t =
     subst (λ (x : ℕ). Sweeping g s x) (let q : r ≡ g.F = omega (arith, w.hi, t.frame.first) in q) (w.at g t)
 
 module _ {s₀ s : List ℕ} {r : ℕ} (w : Registers s₀ s r) (lt : r < first_heap_cell) where
-  pub registers_room : Untouched s₀ → 2 * r + 1 < length s
-  registers_room o = omega (arith, o.1.frame.room, o.1.frame.proper.FT, o.1.frame.first, w.same)
-
   module _ {a v : ℕ} (ea : a ≡ first_word s r) (ev : v ≡ second_word s r) where
     low : (g : Heap) → Sweeping g s₀ 0 → r < g.F
     low g t = omega (arith, t.frame.first)

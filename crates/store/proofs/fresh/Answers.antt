@@ -1,5 +1,5 @@
 -- `store::fresh` meets its contract. Assumes nothing.
-use mathlib.Core.Path.{◌≡◌, sym, ◌∙◌}
+use mathlib.Core.Path.{◌≡◌, sym}
 use mathlib.Core.Bool.{true}
 use native.Mathlib.Omega.{arith}
 use lib.ListN.{length}
@@ -12,11 +12,11 @@ use Rattle.store.proofs.fresh.Goals as goal
 use Rattle.store.proofs.fresh.Goals.{Else-not-length_ok}
 
 long : (c : Else-not-length_ok) → length_test first_heap_cell (length c.args.ws.now) ≡ true
-long c = sym c.length_ok.ensures ∙ c.if-not-length_ok.false
+long c = sym c.if-not-length_ok.ensures
 
 pub returns-then-not-length_ok : goal.returns-then-not-length_ok
 returns-then-not-length_ok c =
-    sym (fresh_refused first_heap_cell _ (sym c.length_ok.ensures ∙ c.if-not-length_ok.true))
+    sym (fresh_refused first_heap_cell _ (sym c.if-not-length_ok.ensures))
 
 pub empty_registers-requires : goal.empty_registers-requires
 empty_registers-requires c =

@@ -9,7 +9,7 @@ use Rattle.store.proofs.look.Goals as goal
 pub returns : goal.returns
 unfolding look
 returns c =
-    let e = c.look_span-place.ensures.0 in (
+    let e = c.look_span-from.ensures.0 in (
       ap (λ (s : Span). take (s.to - s.from) (drop s.from c.args.ws.now)) e,
       (refl, omega (arith, ap (λ (s : Span). s.from) e)),
     )

@@ -1,10 +1,6 @@
 -- `build::cells::copy_cells` meets its contract. Assumes nothing.
-use Prim.Native.Nat.{◌-◌}
 use Rattle.meaning.proofs.actions.Copying.{Copying}
 use Rattle.build.proofs.cells.copy_cells.Given as goal
 
 abbrev pub invariant-loop-i : goal.invariant-loop-i
 invariant-loop-i l = Copying l.initial.ws l.c l.x l.n l.ws l.i
-
-abbrev pub decreases-loop-i : goal.decreases-loop-i
-decreases-loop-i l = l.n - l.i

@@ -11,6 +11,3 @@ returns c =
     let s = c.requires in
     let g = c.collect_sound.ensures in
     gained s (omega (arith, s.high, c.if-n-cells.false)) g.0 g.1
-
-pub overflow_sub-cells : goal.overflow_sub-cells
-overflow_sub-cells c = omega (arith, c.requires.high)

@@ -1,32 +1,25 @@
 -- `calls::sharing::head` meets its contract. Assumes nothing.
-use mathlib.Core.Path.{sym, ◌∙◌}
+use Rattle.std.proofs.lemmas.Result.{err_from_is_err_and}
+use mathlib.Core.Path.{sym}
 use native.Mathlib.Omega.{arith}
 use Rattle.meaning.specs.Actions.{head}
-use Rattle.store.proofs.Registers.{readable, first_in}
-use Rattle.calls.proofs.Firsts.{on_empty_lem, on_full}
+use Rattle.store.proofs.Registers.{run_below}
+use Rattle.calls.proofs.Firsts.{refused_empty, on_full}
 use Rattle.calls.proofs.sharing.head.Goals as goal
 
-pub run_at-run-requires : goal.run_at-run-requires
-run_at-run-requires c =
-    let r = readable c.requires.0 c.requires.2 in
-    record { c_in_bounds = r.0; bracketed = r.1 }
-
-pub returns-then-run-eq0 : goal.returns-then-run-eq0
+pub returns-in_err-terms : goal.returns-in_err-terms
 unfolding head
-returns-then-run-eq0 c =
-    let p = c.run_at-run in
-    c.refused.ensures _
-    ∙ sym (on_empty_lem c.args.a p.result c.requires.0 c.requires.2 p.ensures _ c.if-run-eq0.true)
+returns-in_err-terms c =
+    let p = err_from_is_err_and c.from_residual.result c.from_residual.ensures.1 in
+    refused_empty c.args.a.cell c.requires c.args.a.below p c.in_err-terms.ensures _
 
-pub put_ends-requires : goal.put_ends-requires
-put_ends-requires c =
-    let p = c.run_at-run in
-    let f = first_in c.args.a p.result c.requires.0 c.requires.2 p.ensures c.if-run-eq0.false in
-    record { c_in_bounds = omega arith; l_le_r = (omega arith, omega arith) }
+pub put_ends-requires-clause-l_le_r : goal.put_ends-requires-clause-l_le_r
+put_ends-requires-clause-l_le_r c =
+    let b = run_below c.args.a.cell c.requires.1 c.args.a.below in
+    (omega arith, omega (arith, b, c.in_ok-terms.ensures.0))
 
 pub returns : goal.returns
 unfolding head
-returns c =
-    let p = c.run_at-run in
-    simp c.put_ends.ensures (c.done.ensures _
-    ∙ sym (on_full c.args.a p.result c.requires.0 c.requires.2 p.ensures _ c.if-run-eq0.false))
+returns c t =
+    rw (c.put_ends.ensures, c.cell.ensures)
+    (sym (on_full c.args.a.cell c.requires c.args.a.below c.in_ok-terms.terms c.in_ok-terms.ensures t _))

@@ -1,46 +1,34 @@
 -- `calls::sharing::open_first` meets its contract. Assumes nothing.
-use mathlib.Core.Path.{sym, ◌∙◌}
+use Rattle.std.proofs.lemmas.Result.{err_from_is_err_and}
+use mathlib.Core.Path.{sym}
 use native.Mathlib.Omega.{arith}
 use Rattle.meaning.specs.Actions.{open_first}
-use Rattle.store.proofs.Registers.{readable, first_in}
-use Rattle.calls.proofs.Firsts.{first_readable, on_empty_lem, open_symbol_lem, open_bracket_lem}
+use Rattle.calls.proofs.Firsts.{refused_empty, readable, open_symbol_lem, open_bracket_lem}
 use Rattle.calls.proofs.sharing.open_first.Goals as goal
 
-pub run_at-run-requires : goal.run_at-run-requires
-run_at-run-requires c =
-    let r = readable c.requires.0 c.requires.2 in
-    record { c_in_bounds = r.0; bracketed = r.1 }
-
-pub returns-then-run-eq0 : goal.returns-then-run-eq0
+pub returns-in_err-terms : goal.returns-in_err-terms
 unfolding open_first
-returns-then-run-eq0 c =
-    let p = c.run_at-run in
-    c.refused.ensures _
-    ∙ sym (on_empty_lem c.args.a p.result c.requires.0 c.requires.2 p.ensures _ c.if-run-eq0.true)
+returns-in_err-terms c =
+    let p = err_from_is_err_and c.from_residual.result c.from_residual.ensures.1 in
+    refused_empty c.args.a.cell c.requires c.args.a.below p c.in_err-terms.ensures _
 
 pub term_at-requires : goal.term_at-requires
 term_at-requires c =
-    let r = let p = c.run_at-run in
-    first_readable c.args.a p.result c.requires.0 c.requires.2 p.ensures c.if-run-eq0.false in
+    let r = readable c.args.a.cell c.requires c.args.a.below c.in_ok-terms.terms c.in_ok-terms.ensures in
     record { c_in_bounds = r.0; termed = r.1 }
 
 pub copy_cell-requires : goal.copy_cell-requires
 copy_cell-requires c =
-    let p = c.run_at-run in
-    let f = first_in c.args.a p.result c.requires.0 c.requires.2 p.ensures c.if-run-eq0.false in
-    (omega arith, omega arith)
+    let r = readable c.args.a.cell c.requires c.args.a.below c.in_ok-terms.terms c.in_ok-terms.ensures in
+    (omega arith, r.0)
 
 pub returns-in-Symbol : goal.returns-in-Symbol
-returns-in-Symbol c =
-    let p = c.run_at-run in
-    c.refused-in-Symbol.ensures _
-    ∙ sym (open_symbol_lem c.args.a p.result c.requires.0 c.requires.2 p.ensures c.if-run-eq0.false
-    c.term_at.ensures c.args.d c.in-Symbol.is)
+returns-in-Symbol c t =
+    sym (open_symbol_lem c.args.a.cell c.requires c.args.a.below c.in_ok-terms.terms c.in_ok-terms.ensures
+    c.term_at.ensures t c.args.d.cell c.in-Symbol.is)
 
 pub returns-in-Bracket : goal.returns-in-Bracket
-returns-in-Bracket c =
-    let p = c.run_at-run in
-    simp c.copy_cell.ensures
-    (c.done.ensures _
-    ∙ sym (open_bracket_lem c.args.a p.result c.requires.0 c.requires.2 p.ensures c.if-run-eq0.false
-    c.term_at.ensures c.args.d c.in-Bracket.is))
+returns-in-Bracket c t =
+    rw (c.copy_cell.ensures, c.cell.ensures)
+    (sym (open_bracket_lem c.args.a.cell c.requires c.args.a.below c.in_ok-terms.terms c.in_ok-terms.ensures
+    c.term_at.ensures t c.args.d.cell c.in-Bracket.is))

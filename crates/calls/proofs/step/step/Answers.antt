@@ -1,15 +1,15 @@
 -- `calls::step::step` meets its contract. Assumes nothing.
+use Rattle.std.proofs.lemmas.Result.{err_from_is_err_and}
 use mathlib.Core.Path.{sym, ◌∙◌}
-use Rattle.meaning.proofs.call.Performing.{step_refused, step_performed}
+use Rattle.calls.proofs.Performing.{refused_by, performed}
 use Rattle.calls.proofs.step.step.Goals as goal
 
-pub returns-then-wrong-ne0 : goal.returns-then-wrong-ne0
-returns-then-wrong-ne0 c =
-    c.refused.ensures _
-    ∙ sym (step_refused c.args.ws.now c.args.top c.args.o c.args.d c.args.a c.args.b
-    c.fault-wrong.ensures c.if-wrong-ne0.true)
+pub returns-in_err-operation : goal.returns-in_err-operation
+returns-in_err-operation c =
+    let p = err_from_is_err_and c.from_residual.result c.from_residual.ensures.1 in
+    rw (p.1, p.2) (sym (refused_by c.args.ws.now c.args.top.now c.args.call _ c.in_err-operation.ensures))
 
 pub returns : goal.returns
 returns c =
-    c.perform.ensures ∙ sym (step_performed c.args.ws.now c.args.top c.args.o
-    c.args.d c.args.a c.args.b c.fault-wrong.ensures c.if-wrong-ne0.false)
+    let k = c.in_ok-operation.ensures in
+    c.perform.ensures ∙ sym (performed c.args.ws.now c.args.top.now c.args.call _ k.0 k.1)

@@ -15,10 +15,6 @@ first_word-first-requires c = release_room c.requires
 pub loop-k-init : goal.loop-k-init
 loop-k-init c = rw c.first_word-first.ensures release_start
 
-pub overflow_cast-k : goal.overflow_cast-k
-overflow_cast-k c =
-    omega (arith, (took (goal.at.overflow_cast-k c).In-loop-k).k_small)
-
 pub first_word-n-requires : goal.first_word-n-requires
 first_word-n-requires c =
     (took (goal.at.first_word-n-requires c).In-loop-k).k_in
@@ -48,17 +44,14 @@ loop-k-smaller c =
     release_less c.loop-k.invariant (sym c.has_left_chain.ensures ∙ c.loop-k-test.true)
     c.take_right_link-second.result c.with_right_end.result c.first_word-n.ensures
     c.second_word-b.ensures c.right_end-first.ensures c.take_right_link-second.ensures
-    c.with_right_end.ensures c.put_cell.ensures c.smaller-low.ensures c.requires
+    c.with_right_end.ensures c.put_cell.ensures c.min-low.ensures c.requires
 
 pub loop-k-preserved : goal.loop-k-preserved
 loop-k-preserved c =
     release_again c.loop-k.invariant (sym c.has_left_chain.ensures ∙ c.loop-k-test.true)
     c.take_right_link-second.result c.with_right_end.result c.first_word-n.ensures
     c.second_word-b.ensures c.right_end-first.ensures c.take_right_link-second.ensures
-    c.with_right_end.ensures c.put_cell.ensures c.smaller-low.ensures
+    c.with_right_end.ensures c.put_cell.ensures c.min-low.ensures
 
 pub returns : goal.returns
 returns c = release_end c.loop-k.invariant (sym c.has_left_chain.ensures ∙ c.loop-k-test.false)
-
-pub shape_of-ws : goal.shape_of-ws
-shape_of-ws c = c.loop-k.invariant.same

@@ -5,12 +5,6 @@ use Rattle.words.proofs.Laws.{ri_lt}
 use Rattle.collect.proofs.lower.Laying.{lays_full, lays_other}
 use Rattle.collect.proofs.lower.lay.Goals as goal
 
-pub overflow_sub-a : goal.overflow_sub-a
-overflow_sub-a c = (c.requires.far (sym c.is_full.ensures ∙ c.if-is_full.true)).0
-
-pub overflow_sub-right_end : goal.overflow_sub-right_end
-overflow_sub-right_end c = rw c.right_end.ensures (c.requires.far (sym c.is_full.ensures ∙ c.if-is_full.true)).1
-
 pub bracket_to-requires : goal.bracket_to-requires
 bracket_to-requires c = omega (arith, c.right_end.ensures, ri_lt c.args.w)
 

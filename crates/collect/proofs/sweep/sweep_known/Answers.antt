@@ -1,14 +1,10 @@
-use mathlib.Core.Path.{◌∙◌}
 use native.Mathlib.Omega.{arith}
-use Rattle.collect.proofs.sweep.Running.{run_turn, run_place, run_within, run_start, run_pred, run_room}
+use Rattle.collect.proofs.sweep.Running.{run_turn, run_place, run_within, run_pred, run_room}
 use Rattle.collect.proofs.sweep.Running.{run_next, run_again, run_end}
 use Rattle.collect.proofs.sweep.sweep_known.Goals as goal
 
 pub overflow_add-c : goal.overflow_add-c
 overflow_add-c c = let k = run_place c.requires in omega (arith, k.1)
-
-pub overflow_add-c-2 : goal.overflow_add-c-2
-overflow_add-c-2 c = let k = run_place c.requires in omega (arith, k.0)
 
 pub turn-low-requires : goal.turn-low-requires
 turn-low-requires c = run_turn c.requires
@@ -36,11 +32,5 @@ loop-low-preserved c =
     run_again (run_pred c.loop-low-test.true c.loop-low.invariant) (omega arith) c.second_word-w.ensures
     c.turn-low-in-loop-low.auto.ws c.turn-low-in-loop-low.ensures
 
-pub shape_of-ws : goal.shape_of-ws
-shape_of-ws c = c.loop-low.invariant.same ∙ c.turn-low.auto.ws
-
 pub returns : goal.returns
 returns c = run_end c.turn-low.ensures c.loop-low.invariant c.loop-low-test.false
-
-pub loop-low-init : goal.loop-low-init
-loop-low-init c = run_start

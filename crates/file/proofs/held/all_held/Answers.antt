@@ -1,54 +1,38 @@
-use mathlib.Core.Path.{refl, sym, ◌∙◌}
-use Prim.Native.Nat.{◌+◌}
-use native.Mathlib.Nat.{add-sub_cancel_left}
-use native.Mathlib.Omega.{arith}
-use borrow.Author.Tests.{not-true, not-false}
-use Rattle.meaning.specs.Sound.{at}
-use Rattle.meaning.proofs.sound.Cells.{limit_fits}
-use Rattle.file.specs.Body.{store_in}
+use Rattle.std.proofs.Common.{◌≡◌, ◌-◌, min, sym, ◌∙◌, arith}
+use Rattle.file.specs.declared.held.TheConstants.{WINDOW}
+use Rattle.file.specs.Images.{top_in, cell_in}
 use Rattle.file.proofs.Windowed.{turn, stop, finish}
 use Rattle.file.proofs.held.all_held.Goals as goal
 
-pub loop-w-preserved : goal.loop-w-preserved
-loop-w-preserved c =
-    let part = c.part_held-part in
-    let args = c.args in
-    let k = at (store_in args.first args.n args.body.now) in
-    let h = part.ensures.within in
-    let e = sym part.ensures.held ∙ not-false _ c.if-not-part.false in (
-      h,
-      turn k (args.first + args.n) (args.first + args.n) c.loop-w.w part.result.cells h e
-          ∙ c.loop-w.invariant.1,
-    )
+pub returns-then-not-window_held : goal.returns-then-not-window_held
+returns-then-not-window_held c =
+    let i = c.args.image.now in
+    let top = top_in i in
+    let n = min WINDOW (top - c.loop-start.start) in
+    sym (stop (cell_in i) top top c.loop-start.start n (omega arith)
+    (sym c.window_held.ensures ∙ c.if-not-window_held.true))
+    ∙ c.loop-start.invariant
 
-pub overflow_add-w : goal.overflow_add-w
-overflow_add-w c = omega (arith, c.part_held-part.ensures.within, c.requires.few, limit_fits)
+pub loop-start-preserved : goal.loop-start-preserved
+loop-start-preserved c =
+    let i = c.args.image.now in
+    let top = top_in i in
+    let e : min WINDOW (top - c.loop-start.start) ≡ WINDOW = omega arith in
+    turn (cell_in i) top top c.loop-start.start WINDOW (omega arith)
+    (rw e at (sym c.window_held.ensures ∙ c.if-not-window_held.false))
+    ∙ c.loop-start.invariant
 
-pub returns-then-top-w : goal.returns-then-top-w
-returns-then-top-w c =
-    let args = c.args in
-    let k = at (store_in args.first args.n args.body.now) in
-    let top = args.first + args.n in
-    sym (finish k top top c.loop-w.w (omega arith)) ∙ c.loop-w.invariant.1
+pub returns : goal.returns
+returns c =
+    let i = c.args.image.now in
+    let top = top_in i in
+    sym (finish (cell_in i) top top c.loop-start.start (omega arith))
+    ∙ c.loop-start.invariant
 
-pub returns-then-not-part : goal.returns-then-not-part
-returns-then-not-part c =
-    let part = c.part_held-part in
-    let args = c.args in
-    let k = at (store_in args.first args.n args.body.now) in
-    let e = sym part.ensures.held ∙ not-true _ c.if-not-part.true in
-    sym (stop k (args.first + args.n) (args.first + args.n) c.loop-w.w part.result.cells
-    part.ensures.within e)
-    ∙ c.loop-w.invariant.1
-
-pub overflow_add-top : goal.overflow_add-top
-overflow_add-top c = omega (arith, c.requires.few, limit_fits)
-
-pub loop-w-init : goal.loop-w-init
-loop-w-init c = (omega arith, simp add-sub_cancel_left refl)
-
-pub part_held-part-requires : goal.part_held-part-requires
-part_held-part-requires c = (c.requires, omega arith)
-
-pub loop-w-smaller : goal.loop-w-smaller
-loop-w-smaller c = let e = c.part_held-part.ensures in omega (arith, e.some, e.within)
+pub returns-else-not-window_held : goal.returns-else-not-window_held
+returns-else-not-window_held c =
+    let i = c.args.image.now in
+    let top = top_in i in
+    let e : min WINDOW (top - c.loop-start.start) ≡ top - c.loop-start.start = omega arith in
+    rw e at (sym c.if-not-window_held.false ∙ c.window_held.ensures)
+    ∙ c.loop-start.invariant

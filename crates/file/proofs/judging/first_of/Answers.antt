@@ -1,19 +1,12 @@
 -- `file::judging::first_of` meets its contract. Assumes nothing.
-use mathlib.Core.Path.{refl, sym}
-use Prim.Native.Nat.{◌≤◌}
-use native.Mathlib.Omega.{arith}
-use lib.ListN.{length, get_or-eq_default}
-use Rattle.meaning.specs.Limits.{kinds}
+use Rattle.std.proofs.Common.{sym, arith}
 use Rattle.meaning.specs.File.{first_of}
-use Rattle.file.proofs.Editions.{kinds_low}
+use Rattle.file.proofs.Editions.{first_is}
 use Rattle.file.proofs.judging.first_of.Goals as goal
 
-pub returns-then-e-lt2 : goal.returns-then-e-lt2
+pub returns-in_err-first : goal.returns-in_err-first
 unfolding first_of
-returns-then-e-lt2 c = (refl, kinds_low c.args.edition)
+returns-in_err-first c = rw c.from_residual.ensures (sym (c.in_err-first.ensures.lookup.4 (omega arith) 0))
 
 pub returns : goal.returns
-unfolding first_of
-returns c =
-    let h : length kinds ≤ c.args.edition = omega arith in
-    (sym (get_or-eq_default kinds 0 h), omega arith)
+returns c = rw c.then_some.ensures (first_is c.args.edition _ (c.in_ok-first.ensures.lookup.3.1 0))

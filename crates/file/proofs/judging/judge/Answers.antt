@@ -1,47 +1,23 @@
--- `file::judging::judge` meets its contract: a law for each test. Assumes nothing.
-use Rattle.file.proofs.Judges.{judge_edition, judge_distance, judge_capacity, judge_slice, framed, start_fits}
-use Rattle.file.proofs.Judges.{part_whole, judge_stored}
+-- `file::judging::judge` meets its contract. Assumes nothing.
+use Rattle.std.proofs.Common.{sym, ◌∙◌}
+use Rattle.std.proofs.lemmas.Result.{err_from_is_err_and}
+use Rattle.file.proofs.Judges.{judged, found_ready, found_uncollected}
 use Rattle.file.proofs.judging.judge.Goals as goal
 
-pub returns-then-first-eq0 : goal.returns-then-first-eq0
-returns-then-first-eq0 c = judge_edition _ _ _ c.requires.0 c.if-first-eq0.true
+pub returns-in_err-check_cells : goal.returns-in_err-check_cells
+returns-in_err-check_cells c =
+    let exit = c.from_residual-in_err-check_cells in
+    let p = err_from_is_err_and exit.result exit.ensures.1 in
+    rw (p.1, p.2) (judged _ _ _ c.in_ok-image.ensures ∙ c.in_err-check_cells.ensures)
 
-pub returns-then-not-distance_ok : goal.returns-then-not-distance_ok
-returns-then-not-distance_ok c =
-    judge_distance _ _ _ c.requires.0 c.if-first-eq0.false _ c.distance_ok.ensures
-    c.if-not-distance_ok.true
-
-pub returns-then-not-capacity_ok : goal.returns-then-not-capacity_ok
-returns-then-not-capacity_ok c =
-    judge_capacity _ _ _ c.requires.0 c.if-first-eq0.false _ c.distance_ok.ensures
-    c.if-not-distance_ok.false _ c.capacity_ok.ensures c.if-not-capacity_ok.true
-
-pub returns-then-len-t : goal.returns-then-len-t
-returns-then-len-t c =
-    judge_slice _ _ _ c.requires.0 c.if-first-eq0.false _ c.distance_ok.ensures
-    c.if-not-distance_ok.false _ c.capacity_ok.ensures
-    c.if-not-capacity_ok.false c.if-len-t.true
-
-pub overflow_sub-start : goal.overflow_sub-start
-overflow_sub-start c =
-    let pre = c.requires in
-    start_fits _ _ pre.0
-    (framed _ 0 _ pre.0 c.if-first-eq0.false _ c.distance_ok.ensures
-    c.if-not-distance_ok.false _ c.capacity_ok.ensures
-    c.if-not-capacity_ok.false pre.1)
-
-pub judge_store-requires : goal.judge_store-requires
-judge_store-requires c =
-    let pre = c.requires in
-    part_whole _ _ pre.0
-    (framed _ 0 _ pre.0 c.if-first-eq0.false _ c.distance_ok.ensures
-    c.if-not-distance_ok.false _ c.capacity_ok.ensures
-    c.if-not-capacity_ok.false pre.1)
+pub returns-then-not-all_held : goal.returns-then-not-all_held
+returns-then-not-all_held c =
+    judged _ _ _ c.in_ok-image.ensures
+    ∙ found_uncollected _ _ _ c.in_ok-check_cells.ensures (sym c.if-not-all_held.ensures)
 
 pub returns : goal.returns
-returns c =
-    let pre = c.requires in
-    judge_stored _ _ _ pre.0 c.if-first-eq0.false _ c.distance_ok.ensures
-    c.if-not-distance_ok.false _ c.capacity_ok.ensures
-    c.if-not-capacity_ok.false pre.1 c.if-len-t.false
-    c.judge_store.result c.judge_store.ensures
+returns c = (
+  c.in_ok-image.ensures,
+  judged _ _ _ c.in_ok-image.ensures
+      ∙ found_ready _ _ _ c.in_ok-check_cells.ensures (sym c.if-not-all_held.ensures),
+)

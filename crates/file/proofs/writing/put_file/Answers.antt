@@ -1,33 +1,22 @@
 -- `file::writing::put_file` meets its contract: the parts of a file, one after the other. Assumes nothing.
-use mathlib.Core.Path.{sym}
-use Prim.Native.Nat.{◌*◌}
-use native.Mathlib.Omega.{arith}
-use lib.Seq.{length-take-le}
+use Rattle.std.proofs.Common.{refl, ◌∙◌}
+use Rattle.octets.proofs.Spaces.{passed}
 use Rattle.meaning.specs.Limits.{first_heap_cell, edition}
-use Rattle.meaning.proofs.sound.Cells.{limit_fits}
-use Rattle.file.proofs.Saves.{write_file}
+use Rattle.file.proofs.Saves.{heap_cut, regs_cut, write_file}
 use Rattle.file.proofs.writing.put_file.Goals as goal
 
-pub slice_bounds-put_words-end-2 : goal.slice_bounds-put_words-end-2
-slice_bounds-put_words-end-2 c = sym (length-take-le (2 * first_heap_cell) c.args.ws.now c.requires.allowed.large)
+pub returns-in_err-place : goal.returns-in_err-place
+returns-in_err-place c =
+    passed _ _ c.from_residual.ensures.1
+    ∙ heap_cut edition first_heap_cell _ c.args.top c.requires _ _ refl c.in_err-place.ensures
 
-pub overflow_cast-trailer : goal.overflow_cast-trailer
-overflow_cast-trailer c =
-    let pre = c.requires in
-    omega (arith, pre.high, pre.allowed.small, limit_fits)
-
-pub overflow_cast-trailer-2 : goal.overflow_cast-trailer-2
-overflow_cast-trailer-2 c =
-    let pre = c.requires in
-    omega (arith, pre.high, pre.allowed.small, limit_fits)
-
-pub overflow_cast-trailer-3 : goal.overflow_cast-trailer-3
-overflow_cast-trailer-3 c =
-    let pre = c.requires in
-    omega (arith, pre.high, pre.allowed.small, limit_fits)
+pub returns-in_err-place-2 : goal.returns-in_err-place-2
+returns-in_err-place-2 c =
+    passed _ _ c.from_residual-in_err-place-2.ensures.1
+    ∙ regs_cut edition first_heap_cell _ c.args.top c.requires _ _ c.in_ok-place.ensures _ refl
+    c.in_err-place-2.ensures
 
 pub returns : goal.returns
 returns c =
-    write_file edition first_heap_cell c.args.ws.now c.args.top c.requires _ _ _ _ _
-    (c.start.ensures _) c.put_words-heap.ensures c.put_words-registers.ensures
-    c.put_words.ensures
+    write_file edition first_heap_cell _ c.args.top c.requires _ _ c.in_ok-place.ensures _ _
+    c.in_ok-place-2.ensures c.put_words-3.ensures

@@ -1,17 +1,11 @@
--- `octets::reading::word` meets its contract. Assumes nothing.
-use mathlib.Core.Path.{sym}
-use Rattle.octets.proofs.Endian.{word_at_lem, word_none}
+-- `octets::reading::word` meets its contract: a word is that of its chunk. Assumes nothing.
+use Rattle.std.proofs.Common.{◌≡◌, rules}
+use Rattle.std.specs.Prelude.{MatchOption}
+use Rattle.octets.proofs.Endian.{worth, word_of}
 use Rattle.octets.proofs.reading.word.Goals as goal
-
-pub returns-then-bytes-i : goal.returns-then-bytes-i
-returns-then-bytes-i c = let args = c.args in sym (word_none args.bytes.now args.i c.if-bytes-i.true)
 
 pub returns : goal.returns
 returns c =
-    let args = c.args in
-    let if1 = c.if-bytes-i in
-    let wide = c.wide-a in
-    let wide2 = c.wide-b in
-    let wide3 = c.wide-c in
-    rw (c.wide-d.ensures.0, wide3.ensures.0, wide2.ensures.0, wide.ensures.0)
-    (sym (word_at_lem args.bytes.now args.i if1.false))
+    let made : MatchOption c.get.result (c.map_or.result ≡ 0) (λ x. c.map_or.result ≡ worth x.now) = search rules in
+    word_of c.args.bytes.now c.args.i c.map_or.result _ c.get.result c.as_chunks.ensures.front made
+    c.get.ensures.lookup.3 c.as_chunks.ensures.front_len

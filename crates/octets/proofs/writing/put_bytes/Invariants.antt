@@ -1,14 +1,7 @@
--- `octets::writing::put_bytes` meets its contract: the bytes from i on are left to write. Assumes nothing.
-use mathlib.Core.Path.{◌≡◌}
-use Prim.Native.Nat.{◌-◌, ◌≤◌}
-use lib.ListN.{length, drop}
-use Rattle.octets.specs.Space.{write}
-use Rattle.octets.specs.Pens.{space}
+-- `octets::writing::put_bytes` meets its contract: the bytes from the index on are left to write. Assumes nothing.
+use Rattle.std.proofs.Common.{◌≡◌, drop}
+use Rattle.octets.specs.Space.{up_to, write}
 use Rattle.octets.proofs.writing.put_bytes.Given as goal
 
-abbrev pub invariant-loop-i : goal.invariant-loop-i
-invariant-loop-i l =
-    (l.i ≤ length l.s) × (write (drop l.i l.s) (space l.out l.next) ≡ write l.s (space l.initial.out l.initial.next))
-
-abbrev pub decreases-loop-i : goal.decreases-loop-i
-decreases-loop-i l = length l.s - l.i
+abbrev pub invariant-loop-b : goal.invariant-loop-b
+invariant-loop-b l = write (drop l.b-index l.s) (up_to l.out l.next) ≡ write l.s (up_to l.initial.out l.initial.next)

@@ -1,25 +1,16 @@
-use mathlib.Core.Path.{sym, ◌∙◌}
-use Rattle.pieces.proofs.Bytes.{begin, onward, halted, finish}
+use Rattle.pieces.proofs.Bytes.{can_read, can_count, onward, halted}
 use Rattle.pieces.proofs.feeding.feed_bytes.Goals as goal
 
-pub loop-i-init : goal.loop-i-init
-loop-i-init c = begin _ _ _ c.requires
+pub after-state-requires-clause-goes : goal.after-state-requires-clause-goes
+after-state-requires-clause-goes c = (can_read _ _ c.loop-b.invariant.can, c.in-Ok.ensures.1)
 
-pub feed_byte-t-requires : goal.feed_byte-t-requires
-feed_byte-t-requires c = c.loop-i.invariant.can
+pub after-state-requires-clause-counts : goal.after-state-requires-clause-counts
+after-state-requires-clause-counts c = can_count _ _ c.loop-b.invariant.can _ _ c.in-Ok.ensures.0
 
--- a byte stops it
-pub returns-then-is_stopped : goal.returns-then-is_stopped
-returns-then-is_stopped c =
-    halted _ _ _ _ _ c.loop-i.invariant c.feed_byte-t.result _ c.loop-i-test.true
-    c.feed_byte-t.ensures
-    (sym (c.is_stopped.ensures c.feed_byte-t.result.place.code) ∙ c.if-is_stopped.true)
+pub loop-b-preserved : goal.loop-b-preserved
+loop-b-preserved c =
+    onward _ _ _ _ _ c.loop-b.invariant _ _ _ c.loop-b-test.true c.in-Ok.ensures c.after-state.ensures
 
-pub loop-i-preserved : goal.loop-i-preserved
-loop-i-preserved c =
-    onward _ _ _ _ _ c.loop-i.invariant _ _ c.loop-i-test.true c.feed_byte-t.ensures
-    (sym (c.is_stopped.ensures _) ∙ c.if-is_stopped.false)
-
--- the piece ends
-pub returns : goal.returns
-returns c = finish _ _ _ _ _ c.loop-i.invariant c.loop-i-test.false
+-- a byte is refused
+pub returns-in-Err : goal.returns-in-Err
+returns-in-Err c = halted _ _ _ _ _ c.loop-b.invariant _ c.loop-b-test.true c.in-Err.ensures

@@ -9,9 +9,3 @@ report-requires c =
     let ran = c.run_fresh-top in
     report_fits ran.new.answers ran.result _ (search rules)
     (omega arith) (omega arith)
-
-pub returns : goal.returns
-returns c =
-    let ran = c.run_fresh-top in
-    let report = c.report in
-    rw ran.ensures at report.ensures

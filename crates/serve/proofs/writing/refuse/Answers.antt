@@ -1,25 +1,23 @@
 -- `serve::writing::refuse` meets its contract. Assumes nothing.
-use mathlib.Core.Path.{ap, ◌∙◌}
-use mathlib.Core.List.{List, [], ◌∷◌}
-use Prim.Native.Nat.{ℕ}
-use Rattle.octets.specs.Space.{write}
-use Rattle.octets.proofs.Spaces.{write_then}
+use Rattle.std.proofs.Common.{ℕ, List, [], ◌∷◌}
 use Rattle.meaning.specs.Program.{lines_of, refusal}
-use Rattle.serve.proofs.Spacing.{front}
+use Rattle.serve.proofs.Spacing.{first_ok, both_front}
 use Rattle.serve.proofs.writing.refuse.Goals as goal
 
--- `refused `
+-- `refused `, and the line of the number s
 abbrev name : List ℕ
 name = 114 ∷ 101 ∷ 102 ∷ 117 ∷ 115 ∷ 101 ∷ 100 ∷ 32 ∷ []
+
+abbrev rest : ℕ → List ℕ
+rest s = lines_of (s ∷ 0 ∷ [])
+
+pub unwrap-name-requires : goal.unwrap-name-requires
+unfolding refusal
+unwrap-name-requires c = first_ok name (rest c.args.s) c.args.out.now c.requires _ _ c.put_bytes.ensures
 
 pub returns : goal.returns
 unfolding refusal
 returns c =
-    let args = c.args in
-    let pre = c.requires in
-    let start = c.start in
-    let name_put = c.put_bytes-name in
-    let line = c.line-pen in
-    front (refusal args.s 0) args.out.now line.new.out line.result pre
-    (write_then name (lines_of (args.s ∷ 0 ∷ [])) _ _ _ (name_put.ensures ∙ ap (write name) (start.ensures _))
-    line.ensures)
+    rw c.unwrap_or.ensures
+    (both_front name (rest c.args.s) c.args.out.now c.requires _ _ c.put_bytes.ensures _ c.unwrap-name.ensures _ _
+    c.line.ensures)

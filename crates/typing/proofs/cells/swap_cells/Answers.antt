@@ -1,14 +1,8 @@
 -- `typing::cells::swap_cells` meets its contract. Assumes nothing.
-use Rattle.meaning.specs.Actions.{copy}
-use Rattle.typing.specs.Cells.{swapped}
+use Rattle.typing.proofs.Twos.{swapped_words}
 use Rattle.typing.proofs.cells.swap_cells.Goals as goal
 
 pub returns : goal.returns
-unfolding swapped copy
 returns c =
-    simp (
-      c.put_cell.ensures,
-      c.copy_cell.ensures,
-      c.second_word-second.ensures,
-      c.first_word-first.ensures,
-    )
+    let s = c.swap.ensures in
+    let t = c.swap-2.ensures in swapped_words _ _ _ _ _ s.by_index t.by_index s.len t.len
