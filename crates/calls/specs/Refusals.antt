@@ -1,4 +1,4 @@
--- The status of each refusal of a call (SCOPE 4.6). Assumes nothing.
+-- The status of each refusal of a call (SCOPE 4.5). Assumes nothing.
 use Rattle.std.specs.Prelude.{ℕ}
 use Rattle.calls.specs.declared.answer.Refusal.{Refusal}
 use Rattle.calls.specs.declared.answer.Refusal.TheVariants.{BadOperation, BadRegister, StrayWord, BadCode, Empty}
