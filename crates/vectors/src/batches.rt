@@ -1,8 +1,7 @@
 // Batches: call lists, operand words, terms and room.
 use crate::show::Words;
 use crate::{CAPACITY, FIRST, answers, tables};
-use meaning::{CALL_WORDS as LIST, CODE_LIMIT, LEAST_CODE};
-use std::io;
+use meaning::{CALL_WORDS as LIST, CODE_LIMIT, LEAST_CODE, LIMIT};
 
 // The answers to the longest call list.
 const ANSWERS: usize = LIST / 2;
@@ -20,40 +19,34 @@ pub fn batch(
     top: usize,
     calls: &[u32],
     space: &mut [u32],
-) -> io::Result<usize> {
+) -> usize {
     let ran = answers::ran(calls::run(ws, top, calls, space), top);
     let shown = Words(few(space));
-    println!(rt; "{name}: batch {ran} answers{shown}")?;
-    Ok(ran.top)
+    let _ = println!(rt; "{name}: batch {ran} answers{shown}");
+    ran.top
 }
 
 // A batch on a fresh store of so many cells, with so many answer words, each 7 before.
-pub fn fresh_batch(
-    rt: &HostRuntime,
-    name: &str,
-    capacity: u32,
-    calls: &[u32],
-    space: usize,
-) -> io::Result<()> {
-    let mut ws = vec![in rt.alloc(); 0u32; 2 * capacity as usize]?;
-    let mut space = vec![in rt.alloc(); 7u32; space]?;
-    let made = answers::made(store::fresh(ws.as_mut_slice()));
-    batch(
-        rt,
-        name,
-        ws.as_mut_slice(),
-        made.top,
-        calls,
-        space.as_mut_slice(),
-    )?;
-    Ok(())
+pub fn fresh_batch(rt: &HostRuntime, name: &str, capacity: u32, calls: &[u32], space: usize) {
+    let mut words = [0u32; 2 * LIMIT];
+    let mut answers = [7u32; ANSWERS + 2];
+    let ws = &mut words[..2 * (capacity as usize).min(LIMIT)];
+    let made = answers::made(store::fresh(ws));
+    let space = space.min(ANSWERS + 2);
+    batch(rt, name, ws, made.top, calls, &mut answers[..space]);
 }
 
 // So many words of calls, all 0, which is CLEAR 0 over and over.
-fn zeros(rt: &HostRuntime, capacity: u32, words: usize, space: usize) -> io::Result<()> {
-    let name = format!(in rt.alloc(); "cells {capacity}, list of {words} with {space} answers")?;
-    let calls = vec![in rt.alloc(); 0u32; words]?;
-    fresh_batch(rt, name.as_str(), capacity, calls.as_slice(), space)
+fn zeros(rt: &HostRuntime, capacity: u32, words: usize, space: usize) {
+    let calls = [0u32; LIST + 4];
+    let _ = print!(rt; "cells {capacity}, list of {words} with {space} ");
+    fresh_batch(
+        rt,
+        "answers",
+        capacity,
+        &calls[..words.min(LIST + 4)],
+        space,
+    );
 }
 
 // A capacity, words of calls and answer words.
@@ -74,31 +67,29 @@ const LISTS: [(u32, usize, usize); 12] = [
     (CAPACITY, 3, 0),
 ];
 
-fn lists(rt: &HostRuntime) -> io::Result<()> {
+fn lists(rt: &HostRuntime) {
     for (capacity, words, space) in LISTS {
-        zeros(rt, capacity, words, space)?;
+        zeros(rt, capacity, words, space);
     }
-    Ok(())
 }
 
 // A register word as d, a and b of JOIN, then before an unused word that is not 0.
-fn register(rt: &HostRuntime, r: u32) -> io::Result<()> {
-    let name = format!(in rt.alloc(); "register {r} in JOIN")?;
+fn register(rt: &HostRuntime, r: u32) {
     let joins = [4, r, 0, 0, 4, 0, r, 0, 4, 0, 0, r];
-    fresh_batch(rt, name.as_str(), CAPACITY, &joins, 6)?;
-    let name = format!(in rt.alloc(); "register {r} before unused words")?;
-    fresh_batch(rt, name.as_str(), CAPACITY, &[0, r, 1, 1], 2)
+    let _ = print!(rt; "register {r} ");
+    fresh_batch(rt, "in JOIN", CAPACITY, &joins, 6);
+    let _ = print!(rt; "register {r} ");
+    fresh_batch(rt, "before unused words", CAPACITY, &[0, r, 1, 1], 2);
 }
 
-fn registers(rt: &HostRuntime) -> io::Result<()> {
+fn registers(rt: &HostRuntime) {
     for r in [FIRST - 1, FIRST, u32::MAX] {
-        register(rt, r)?;
+        register(rt, r);
     }
-    Ok(())
 }
 
 // The largest code, one more, the least, one less, and one that is wrong in two ways; then FIRST of the largest.
-fn codes(rt: &HostRuntime) -> io::Result<()> {
+fn codes(rt: &HostRuntime) {
     let symbols = [
         [2, 0, CODE_LIMIT, 0],
         [2, 0, CODE_LIMIT + 1, 0],
@@ -106,15 +97,15 @@ fn codes(rt: &HostRuntime) -> io::Result<()> {
         [2, 0, LEAST_CODE - 1, 0],
         [2, 0, u32::MAX, 1],
     ];
-    fresh_batch(rt, "codes", CAPACITY, symbols.as_flattened(), 10)?;
+    fresh_batch(rt, "codes", CAPACITY, symbols.as_flattened(), 10);
     let first = [2, 0, CODE_LIMIT, 0, 9, 0, 0, 0];
-    fresh_batch(rt, "FIRST of the largest code", CAPACITY, &first, 4)
+    fresh_batch(rt, "FIRST of the largest code", CAPACITY, &first, 4);
 }
 
-pub fn rows(rt: &HostRuntime) -> io::Result<()> {
-    lists(rt)?;
-    registers(rt)?;
-    tables::rows(rt, &tables::OPERANDS)?;
-    codes(rt)?;
-    tables::rows(rt, &tables::TERMS)
+pub fn rows(rt: &HostRuntime) {
+    lists(rt);
+    registers(rt);
+    tables::rows(rt, &tables::OPERANDS);
+    codes(rt);
+    tables::rows(rt, &tables::TERMS);
 }

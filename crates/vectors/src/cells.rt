@@ -70,9 +70,8 @@ const ROWS: [(usize, u32, u32); 26] = [
     (REGISTER, FIRST, EMPTY),
 ];
 
-pub fn rows(rt: &HostRuntime) -> io::Result<()> {
+pub fn rows(rt: &HostRuntime) {
     for (cell, a, b) in ROWS {
-        row(rt, cell, a, b)?;
+        let _ = row(rt, cell, a, b);
     }
-    Ok(())
 }

@@ -2,7 +2,6 @@
 use crate::{CAPACITY, FIRST};
 use meaning::{PROGRAM_BYTES as BYTES, PROGRAM_CELLS as CELLS};
 use serve::OUTPUT;
-use std::io;
 
 // So many bytes, and a capacity.
 const ROWS: [(usize, u32); 18] = [
@@ -23,29 +22,31 @@ const ROWS: [(usize, u32); 18] = [
     (21, CAPACITY),
     (BYTES, CAPACITY),
     (BYTES + 1, CAPACITY),
-    (BYTES + 16, CAPACITY),
+    (LONGEST, CAPACITY),
     (BYTES + 1, FIRST - 1),
     (5, FIRST - 1),
 ];
 
+// The bytes of the longest input.
+const LONGEST: usize = BYTES + 16;
+
 // An input of so many bytes: a capacity, and CLEAR 0 as often as it goes.
-fn row(rt: &HostRuntime, length: usize, capacity: u32) -> io::Result<()> {
-    let mut input = Vec::from_array(rt.alloc(), capacity.to_le_bytes())?;
-    input.resize(length, 0)?;
+fn row(rt: &HostRuntime, length: usize, capacity: u32) {
+    let mut input = [0u8; LONGEST];
+    input[..4].copy_from_slice(&capacity.to_le_bytes());
     let mut out = [0u8; OUTPUT];
-    let written = serve::serve(input.as_slice(), &mut out);
-    print!(rt; "input {length} {capacity}: bytes {written}")?;
+    let written = serve::serve(&input[..length.min(LONGEST)], &mut out);
+    let _ = print!(rt; "input {length} {capacity}: bytes {written}");
     if written < 32 {
-        print!(rt; " ")?;
-        rt.write_all(&out[..written])
+        let _ = print!(rt; " ");
+        let _ = rt.write_all(&out[..written]);
     } else {
-        println!(rt)
+        let _ = println!(rt);
     }
 }
 
-pub fn rows(rt: &HostRuntime) -> io::Result<()> {
+pub fn rows(rt: &HostRuntime) {
     for (length, capacity) in ROWS {
-        row(rt, length, capacity)?;
+        row(rt, length, capacity);
     }
-    Ok(())
 }

@@ -3,11 +3,15 @@ use crate::{SMALL, answers, cells};
 use meaning::{FIRST_HEAP_CELL, LIMIT};
 use std::io;
 
+// The words of the longest slice.
+const WORDS: usize = 2 * LIMIT + 2;
+
 // A fresh store in so many words, and the check of what it leaves.
 fn length_row(rt: &HostRuntime, length: usize) -> io::Result<()> {
-    let mut ws = vec![in rt.alloc(); 0u32; length]?;
-    let made = answers::made(store::fresh(ws.as_mut_slice()));
-    let found = answers::checked(store::check(ws.as_slice(), FIRST_HEAP_CELL));
+    let mut words = [0u32; WORDS];
+    let ws = &mut words[..length.min(WORDS)];
+    let made = answers::made(store::fresh(ws));
+    let found = answers::checked(store::check(ws, FIRST_HEAP_CELL));
     let status = made.verdict.status;
     let top = made.top;
     println!(rt; "length {length}: fresh {status} top {top}, check {found}")
@@ -22,7 +26,7 @@ fn top_row(rt: &HostRuntime, top: usize) -> io::Result<()> {
     println!(rt; "top {top} of {SMALL}: check {found}")
 }
 
-fn lengths(rt: &HostRuntime) -> io::Result<()> {
+fn lengths(rt: &HostRuntime) {
     for length in [
         0,
         2 * FIRST_HEAP_CELL - 2,
@@ -32,12 +36,11 @@ fn lengths(rt: &HostRuntime) -> io::Result<()> {
         2 * LIMIT + 1,
         2 * LIMIT + 2,
     ] {
-        length_row(rt, length)?;
+        let _ = length_row(rt, length);
     }
-    Ok(())
 }
 
-fn tops(rt: &HostRuntime) -> io::Result<()> {
+fn tops(rt: &HostRuntime) {
     for top in [
         0,
         FIRST_HEAP_CELL - 1,
@@ -46,12 +49,11 @@ fn tops(rt: &HostRuntime) -> io::Result<()> {
         SMALL + 1,
         usize::MAX,
     ] {
-        top_row(rt, top)?;
+        let _ = top_row(rt, top);
     }
-    Ok(())
 }
 
-pub fn rows(rt: &HostRuntime) -> io::Result<()> {
-    lengths(rt)?;
-    tops(rt)
+pub fn rows(rt: &HostRuntime) {
+    lengths(rt);
+    tops(rt);
 }

@@ -3,7 +3,6 @@ use crate::batches::batch;
 use crate::show::Words;
 use crate::{FIRST, cells};
 use meaning::FIRST_HEAP_CELL;
-use std::io;
 use words::EMPTY;
 
 // P2's heap has seven cells; one is free.
@@ -29,62 +28,55 @@ fn lay(ws: &mut [u32]) {
     }
 }
 
-fn look(rt: &HostRuntime, ws: &[u32], top: usize, register: usize) -> io::Result<()> {
+fn look(rt: &HostRuntime, ws: &[u32], top: usize, register: usize) {
     let found = Words(store::look(ws, top, register));
-    println!(rt; "look at {register}:{found}")
+    let _ = println!(rt; "look at {register}:{found}");
 }
 
 // One call on the store as it stands, with an answer word more than it takes, each 7 before.
-fn call(
-    rt: &HostRuntime,
-    name: &str,
-    ws: &mut [u32],
-    top: usize,
-    words: &[u32; 4],
-) -> io::Result<usize> {
+fn call(rt: &HostRuntime, name: &str, ws: &mut [u32], top: usize, words: &[u32; 4]) -> usize {
     batch(rt, name, ws, top, words, &mut [7; 3])
 }
 
 // COLLECT, and a look at register 0.
-fn collect(rt: &HostRuntime, name: &str, ws: &mut [u32], top: usize) -> io::Result<usize> {
-    let last = call(rt, name, ws, top, &[11, 0, 0, 0])?;
-    look(rt, ws, last, 0)?;
-    Ok(last)
+fn collect(rt: &HostRuntime, name: &str, ws: &mut [u32], top: usize) -> usize {
+    let last = call(rt, name, ws, top, &[11, 0, 0, 0]);
+    look(rt, ws, last, 0);
+    last
 }
 
 // P2, collected and collected again.
-fn collects(rt: &HostRuntime, ws: &mut [u32]) -> io::Result<usize> {
-    look(rt, ws, TOP, 0)?;
-    let top = collect(rt, "P2", ws, TOP)?;
-    look(rt, ws, top, 1)?;
+fn collects(rt: &HostRuntime, ws: &mut [u32]) -> usize {
+    look(rt, ws, TOP, 0);
+    let top = collect(rt, "P2", ws, TOP);
+    look(rt, ws, top, 1);
     collect(rt, "P3", ws, top)
 }
 
 // The last register, none, and the words.
-fn looks(rt: &HostRuntime, ws: &[u32], top: usize) -> io::Result<()> {
+fn looks(rt: &HostRuntime, ws: &[u32], top: usize) {
     for register in [FIRST_HEAP_CELL - 1, FIRST_HEAP_CELL, usize::MAX] {
-        look(rt, ws, top, register)?;
+        look(rt, ws, top, register);
     }
     let all = Words(ws);
-    println!(rt; "words:{all}")
+    let _ = println!(rt; "words:{all}");
 }
 
 // A free cell in use, which the look and the batch refuse; then a `top` that is too small, too large, and the largest.
-fn refused(rt: &HostRuntime, ws: &mut [u32], last: usize) -> io::Result<()> {
+fn refused(rt: &HostRuntime, ws: &mut [u32], last: usize) {
     cells::put(ws, TOP, 1, 0);
-    look(rt, ws, last, 0)?;
+    look(rt, ws, last, 0);
     for top in [last, FIRST_HEAP_CELL - 1, CELLS + 1, usize::MAX] {
-        call(rt, "CLEAR 0", ws, top, &[0; 4])?;
+        call(rt, "CLEAR 0", ws, top, &[0; 4]);
     }
-    Ok(())
 }
 
-pub fn rows(rt: &HostRuntime) -> io::Result<()> {
+pub fn rows(rt: &HostRuntime) {
     let mut ws = [0u32; 2 * CELLS];
     let _ = store::fresh(&mut ws);
     lay(&mut ws);
-    let top = collects(rt, &mut ws)?;
-    call(rt, "the last register", &mut ws, top, &[1, FIRST - 1, 0, 0])?;
-    looks(rt, &ws, top)?;
-    refused(rt, &mut ws, top)
+    let top = collects(rt, &mut ws);
+    call(rt, "the last register", &mut ws, top, &[1, FIRST - 1, 0, 0]);
+    looks(rt, &ws, top);
+    refused(rt, &mut ws, top);
 }
