@@ -44,7 +44,9 @@ fn turn(ws: &mut [u32], c: usize, w: u32, to: usize, low: usize) -> usize
 }
 
 // The turns of c, whose second word is w, and of the cells below it that become known; each goes d cells up. Gives the
-// last.
+// last. The compiler is to lay it out in the loop of `sweep`: as a function beside it LIVE took a quarter longer where
+// all cells are live.
+#[inline(always)]
 fn sweep_known(ws: &mut [u32], mut c: usize, w: u32, d: usize) -> usize
     requires { AtHead ws.old c w d }
     ensures { Passes ws.old ws.new c w d result }

@@ -64,16 +64,18 @@ fn longer(code: Code, b: u8) -> Result<Code, Fault>
 }
 
 // A byte where a term may begin. At one byte a bracket that is one too many goes before a term that is, and this before
-// a digit that is no code.
+// a digit that is no code. Digits are asked for first, and each kind of term asks by itself whether the text is full:
+// the compiler makes fewer jumps of that.
 #[tactic(auto, unfolding(meaning::specs::Judge::first_move, meaning::specs::Judge::is_digit))]
 fn first_move(depth: usize, full: bool, b: u8) -> Result<Move, Fault>
     ensures { judgement_of result ≡ first_move depth full b }
 {
     match b {
-        b'(' if meaning::DEPTH_LIMIT <= depth => Err(Fault::TooDeep),
-        b'(' | b'0'..=b'9' if full => Err(Fault::TooMany),
-        b'(' => Ok(Move::Opens),
+        b'0'..=b'9' if full => Err(Fault::TooMany),
         b'0'..=b'9' => Ok(Move::Begins(longer(Code { value: 0 }, b)?)),
+        b'(' if meaning::DEPTH_LIMIT <= depth => Err(Fault::TooDeep),
+        b'(' if full => Err(Fault::TooMany),
+        b'(' => Ok(Move::Opens),
         _ => Err(Fault::NotText),
     }
 }
