@@ -1,0 +1,2 @@
+-- Laws on plain lists that the proofs of this crate cite. Assumes nothing.
+pub mod Parts
